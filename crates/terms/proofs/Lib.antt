@@ -1,0 +1,4 @@
+pub mod ListLaws
+pub mod PathLaws
+pub mod RankingLaws
+pub mod PrefixLaws
