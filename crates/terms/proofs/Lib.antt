@@ -2,3 +2,5 @@ pub mod ListLaws
 pub mod PathLaws
 pub mod RankingLaws
 pub mod PrefixLaws
+pub mod RegretLaws
+pub mod RobustLaws

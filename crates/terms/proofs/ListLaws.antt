@@ -1,7 +1,7 @@
 -- Laws of the functions on lists, and of tests. Assumes nothing.
 use Prim.Native.Nat.{ℕ, zero, suc, _+_, _≤_, _<_, min, max}
 use native.Mathlib.Omega.{arith}
-use native.Mathlib.Nat.{min-eq-left, min-eq-right, le-of-lt, eq-or-lt-of-le}
+use native.Mathlib.Nat.{min-eq-left, min-eq-right, max-eq-left, max-eq-right, le-of-lt, eq-or-lt-of-le}
 use mathlib.Core.Path.{_≡_, refl, sym, _∙_, ap, subst}
 use mathlib.Core.Bool.{Bool, true, false, not, _&&_, _||_, cond}
 use mathlib.Core.Logic.{_≢_, _⊎_, inl, inr, ⊎-elim}
@@ -129,16 +129,25 @@ module _ {A B : Type 0} (f : A → List B) where
       later : (a : A) × (a ∈ l) × (b ∈ f a) → (a : A) × (a ∈ x ∷ l) × (b ∈ f a)
       later h = (h .0, List·Memᴰ·tail (h .1), h .2)
 
--- ---- members and places: the element at a place is a member, and a member of the first n is a member
-pub getD-mem : {A : Type 0} (l : List A) (d : A) (i : ℕ) → i < length l → getD l i d ∈ l
-getD-mem [] d i h = absurd (omega arith)
-getD-mem (x ∷ l) d zero h = List·Memᴰ·head refl
-getD-mem (x ∷ l) d (suc i) h = List·Memᴰ·tail (getD-mem l d i (omega arith))
+-- ---- members and places: the first n are the elements at places below n
+pub place-mem : {A : Type 0} (n : ℕ) (l : List A) (d : A) (i : ℕ) → i < n → i < length l → getD l i d ∈ take n l
+place-mem zero l d i h k = absurd (omega arith)
+place-mem (suc n) [] d i h k = absurd (omega arith)
+place-mem (suc n) (x ∷ l) d zero h k = List·Memᴰ·head refl
+place-mem (suc n) (x ∷ l) d (suc i) h k = List·Memᴰ·tail (place-mem n l d i (omega arith) (omega arith))
+
+pub mem-place : {A : Type 0} (n : ℕ) (l : List A) (d : A) {x : A} → x ∈ take n l → (i : ℕ) × (i < n) × (i < length l) × (x ≡ getD l i d)
+mem-place zero l d m = elim m [ ]
+mem-place (suc n) [] d m = elim m [ ]
+mem-place (suc n) (y ∷ l) d m = ⊎-elim (λ e. (0, omega arith, omega arith, e)) (λ k. let h = mem-place n l d k in (suc (h .0), omega arith, omega arith, h .3)) (List·Memᴰ·cases-cons m)
 
 pub take-mem : {A : Type 0} (n : ℕ) (l : List A) {x : A} → x ∈ take n l → x ∈ l
 take-mem zero l m = elim m [ ]
 take-mem (suc n) [] m = m
 take-mem (suc n) (y ∷ l) m = ⊎-elim (λ e. List·Memᴰ·head e) (λ k. List·Memᴰ·tail (take-mem n l k)) (List·Memᴰ·cases-cons m)
+
+pub getD-mem : {A : Type 0} (l : List A) (d : A) (i : ℕ) → i < length l → getD l i d ∈ l
+getD-mem l d i h = take-mem (suc i) l (place-mem (suc i) l d i (omega arith) h)
 
 pub mem-length : {A : Type 0} {x : A} {l : List A} → x ∈ l → 1 ≤ length l
 mem-length (List·Memᴰ·head e) = omega arith
@@ -194,17 +203,24 @@ unfolding largest
 largest-le x [] h = omega arith
 largest-le x (y ∷ l) h = omega (arith, h y (List·Memᴰ·head refl), largest-le x l (λ z m. h z (List·Memᴰ·tail m)))
 
+pub largest-mem : (l : List ℕ) → 1 ≤ length l → largest l ∈ l
+unfolding largest
+largest-mem [] h = absurd (omega arith)
+largest-mem (x ∷ []) h = List·Memᴰ·head {x = x} (omega arith)
+largest-mem (x ∷ y ∷ l) h =
+    ⊎-elim (λ e. List·Memᴰ·head (max-eq-left (leb-true (largest (y ∷ l)) x e))) (λ e. rw (max-eq-right (le-of-lt (leb-false (largest (y ∷ l)) x e))) (List·Memᴰ·tail (largest-mem (y ∷ l) (omega arith)))) (split (leb (largest (y ∷ l)) x))
+
 -- ---- numbers i k: i, i + 1, .. i + k - 1
 pub length-numbers : (i k : ℕ) → length (numbers i k) ≡ k
 unfolding numbers
 length-numbers i zero = refl
 length-numbers i (suc k) = ap suc (length-numbers (suc i) k)
 
-pub getD-numbers : (i k j d : ℕ) → j < k → getD (numbers i k) j d ≡ i + j
+pub getD-map-numbers : (f : ℕ → ℕ) (i k j d : ℕ) → j < k → getD (map f (numbers i k)) j d ≡ f (i + j)
 unfolding numbers
-getD-numbers i zero j d h = absurd (omega arith)
-getD-numbers i (suc k) zero d h = omega arith
-getD-numbers i (suc k) (suc j) d h = getD-numbers (suc i) k j d (omega arith) ∙ omega arith
+getD-map-numbers f i zero j d h = absurd (omega arith)
+getD-map-numbers f i (suc k) zero d h = ap f (omega arith)
+getD-map-numbers f i (suc k) (suc j) d h = getD-map-numbers f (suc i) k j d (omega arith) ∙ ap f (omega arith)
 
 pub mem-numbers : (i k x : ℕ) → i ≤ x → x < i + k → x ∈ numbers i k
 unfolding numbers
@@ -248,24 +264,24 @@ smallest-unique {test} {i} {f} {j} {k} a b = ⊎-elim (λ h. ⊎-elim (λ e. e) 
 -- ---- index: the place of the first that passes
 module _ {A : Type 0} (f : A → Bool) (d : A) where
   -- none before it passes
-  pub index-before : (l : List A) {x : A} → x ∈ take (index f l) l → f x ≡ false
+  pub index-before : (l : List A) (j : ℕ) → j < index f l → f (getD l j d) ≡ false
   unfolding index
-  index-before [] m = elim m [ ]
-  index-before (y ∷ l) {x} m = ⊎-elim (λ c. elim (c .1) [ ]) (λ c. ⊎-elim (λ e. ap f e ∙ c .0) (index-before l) (List·Memᴰ·cases-cons (c .1))) (of-cond (λ i. x ∈ take i (y ∷ l)) (f y) m)
-
-  -- if one of the first n passes, the index is one of the first n places, and the element there passes
-  pub index-at : (n : ℕ) (l : List A) {x : A} → x ∈ take n l → f x ≡ true → (index f l < n) × (index f l < length l) × (f (getD l (index f l) d) ≡ true)
-  unfolding index
-  index-at zero l m t = elim m [ ]
-  index-at (suc n) [] m t = elim m [ ]
-  index-at (suc n) (y ∷ l) {x} m t = by-cond (λ i. (i < suc n) × (i < suc (length l)) × (f (getD (y ∷ l) i d) ≡ true)) (f y) (λ e. (omega arith, omega arith, e)) (λ e. later e (λ k. index-at n l k t))
+  index-before [] j h = absurd (omega arith)
+  index-before (x ∷ l) j h = ⊎-elim (λ c. absurd (omega arith)) (λ c. later j (c .0) (c .1) (index-before l)) (of-cond (λ i. j < i) (f x) h)
     where
-      later : f y ≡ false → (x ∈ take n l → (index f l < n) × (index f l < length l) × (f (getD l (index f l) d) ≡ true)) → (suc (index f l) < suc n) × (suc (index f l) < suc (length l)) × (f (getD l (index f l) d) ≡ true)
-      later e ih = ⊎-elim (λ c. clash (sym (ap f c) ∙ t) e) (λ k. let h = ih k in (omega arith, omega arith, h .2)) (List·Memᴰ·cases-cons m)
+      later : (j : ℕ) → f x ≡ false → j < suc (index f l) → ((j : ℕ) → j < index f l → f (getD l j d) ≡ false) → f (getD (x ∷ l) j d) ≡ false
+      later zero e k ih = e
+      later (suc j) e k ih = ih j (omega arith)
 
-  -- a place whose element passes, with none before that does
-  pub index-is : (l : List A) (i : ℕ) → i < length l → f (getD l i d) ≡ true → ((j : ℕ) → j < i → f (getD l j d) ≡ false) → index f l ≡ i
+  -- if it is a place of the list, the element there passes
+  pub index-passes : (l : List A) → index f l < length l → f (getD l (index f l) d) ≡ true
   unfolding index
-  index-is [] i h t b = absurd (omega arith)
-  index-is (x ∷ l) zero h t b = rw t
-  index-is (x ∷ l) (suc i) h t b = rw (b 0 (omega arith)) (ap suc (index-is l i (omega arith) t (λ j k. b (suc j) (omega arith))))
+  index-passes [] h = absurd (omega arith)
+  index-passes (x ∷ l) h = by-cond (λ i. i < suc (length l) → f (getD (x ∷ l) i d) ≡ true) (f x) {x = 0} {y = suc (index f l)} (λ e _. e) (λ _ k. index-passes l (omega arith)) h
+
+  -- so it is at most each place that passes, and is the one with none before
+  pub index-le : (l : List A) (i : ℕ) → f (getD l i d) ≡ true → index f l ≤ i
+  index-le l i t = ⊎-elim (leb-true (index f l) i) (λ h. clash t (index-before l i (leb-false (index f l) i h))) (split (leb (index f l) i))
+
+  pub index-is : (l : List A) (i : ℕ) → i < length l → f (getD l i d) ≡ true → ((j : ℕ) → j < i → f (getD l j d) ≡ false) → index f l ≡ i
+  index-is l i h t b = ⊎-elim (λ e. e) (λ k. clash (index-passes l (omega arith)) (b (index f l) k)) (eq-or-lt-of-le (index-le l i t))

@@ -13,7 +13,7 @@ use Rattle.terms.specs.Lists.{_∈_, elem, keep, last, numbers}
 use Rattle.terms.specs.Network.{Arc, Graph, Net, Admitted, heads, linked, weigh, column}
 use Rattle.terms.specs.Paths.{Route, ByArcs, single, along, Loopless, empty, fresh, Path, exits, walks, paths}
 use Rattle.terms.specs.Regret.{fault, fault-after}
-use Rattle.terms.proofs.ListLaws.{split, clash, of-cond, or-right, and-both, nor-right, elem-mem, mem-elem, outside-cons, cons-outside, outside-apart, mem-keep, keep-mem, keep-length, keep-lt, mem-flatMap, flatMap-mem, last-mem, length-numbers, mem-numbers}
+use Rattle.terms.proofs.ListLaws.{split, clash, of-cond, or-right, and-both, nor-right, elem-mem, mem-elem, outside-cons, cons-outside, outside-apart, mem-keep, keep-mem, keep-length, keep-lt, mem-flatMap, flatMap-mem, getD-mem, last-mem, length-numbers, mem-numbers}
 
 -- ---- paths, node by node
 -- p goes from v to t along arcs of g, repeats no node, and meets no node of seen after v
@@ -21,15 +21,6 @@ pub data PathFrom (g : Graph) (t : ℕ) : List ℕ → ℕ → Route → Type 0 
   arrive : {seen : List ℕ} {v : ℕ} → v ≡ t → PathFrom g t seen v (v ∷ [])
   onward : {seen : List ℕ} {v h : ℕ} {q : List ℕ} → v ≢ t → linked g v h ≡ true → elem h (v ∷ seen) ≡ false
       → PathFrom g t (v ∷ seen) h (h ∷ q) → PathFrom g t seen v (v ∷ h ∷ q)
-
--- it begins with its first node
-pub starts : {g : Graph} {t : ℕ} {seen : List ℕ} {v : ℕ} {p : Route} → PathFrom g t seen v p → p ≡ v ∷ tail p
-starts (arrive e) = refl
-starts (onward n a u r) = refl
-
--- a node may be put before it
-pub extend : {g : Graph} {t : ℕ} {seen : List ℕ} {v h : ℕ} {p : Route} → v ≢ t → linked g v h ≡ true → elem h (v ∷ seen) ≡ false → PathFrom g t (v ∷ seen) h p → PathFrom g t seen v (v ∷ p)
-extend n a u r = rw (starts r) (onward n a u (rw (starts r) at r))
 
 -- what one of two nodes or more says of its first step
 pub record Step (g : Graph) (t : ℕ) (seen : List ℕ) (v x h : ℕ) (q : List ℕ) : Type 0 where
@@ -39,45 +30,56 @@ pub record Step (g : Graph) (t : ℕ) (seen : List ℕ) (v x h : ℕ) (q : List 
   pub unmet : elem h (v ∷ seen) ≡ false
   pub rest : PathFrom g t (v ∷ seen) h (h ∷ q)
 
-pub step : {g : Graph} {t : ℕ} {seen : List ℕ} {v x h : ℕ} {q : List ℕ} → PathFrom g t seen v (x ∷ h ∷ q) → Step g t seen v x h q
-step (onward n a u r) = record { here = refl; apart = n; arc = a; unmet = u; rest = r }
+module _ {g : Graph} {t : ℕ} where
+  -- it begins with its first node
+  pub starts : {seen : List ℕ} {v : ℕ} {p : Route} → PathFrom g t seen v p → p ≡ v ∷ tail p
+  starts (arrive e) = refl
+  starts (onward n a u r) = refl
 
--- ---- these are the paths of document 01
--- it ends at t, and goes by arcs; no node after v is v or one of seen, so no node repeats
-ends-at : {g : Graph} {t : ℕ} {seen : List ℕ} {v : ℕ} {p : Route} (d : ℕ) → PathFrom g t seen v p → last d p ≡ t
-unfolding last
-ends-at d (arrive e) = e
-ends-at d (onward {v} n a u r) = ends-at v r
+  -- a node may be put before it
+  pub extend : {seen : List ℕ} {v h : ℕ} {p : Route} → v ≢ t → linked g v h ≡ true → elem h (v ∷ seen) ≡ false → PathFrom g t (v ∷ seen) h p → PathFrom g t seen v (v ∷ p)
+  extend n a u r = rw (starts r) (onward n a u (rw (starts r) at r))
 
-goes-by-arcs : {g : Graph} {t : ℕ} {seen : List ℕ} {v : ℕ} {p : Route} → PathFrom g t seen v p → ByArcs g p
-goes-by-arcs (arrive e) = single
-goes-by-arcs (onward n a u r) = along a (goes-by-arcs r)
+  -- the first step of one of two nodes or more
+  pub step : {seen : List ℕ} {v x h : ℕ} {q : List ℕ} → PathFrom g t seen v (x ∷ h ∷ q) → Step g t seen v x h q
+  step (onward n a u r) = record { here = refl; apart = n; arc = a; unmet = u; rest = r }
 
-pub later-unmet : {g : Graph} {t : ℕ} {seen : List ℕ} {v : ℕ} {p : Route} → PathFrom g t seen v p → {x : ℕ} → x ∈ tail p → elem x (v ∷ seen) ≡ false
-later-unmet (arrive e) m = elim m [ ]
-later-unmet {seen} {v} (onward {h} n a u r) {x} m = ⊎-elim (λ e. rw e u) (λ k. outside-cons x h (v ∷ seen) (later-unmet r k) .1) (List·Memᴰ·cases-cons m)
+  -- ---- these are the paths of document 01
+  -- it ends at t, and goes by arcs; no node after v is v or one of seen, so no node repeats
+  ends-at : {seen : List ℕ} {v : ℕ} {p : Route} (d : ℕ) → PathFrom g t seen v p → last d p ≡ t
+  unfolding last
+  ends-at d (arrive e) = e
+  ends-at d (onward {v} n a u r) = ends-at v r
 
-no-repeat : {g : Graph} {t : ℕ} {seen : List ℕ} {v : ℕ} {p : Route} → PathFrom g t seen v p → Loopless p
-unfolding elem
-no-repeat (arrive e) = fresh refl empty
-no-repeat {seen} {v} (onward {h} {q} n a u r) = fresh (⊎-elim (λ k. absurd (outside-cons v v seen (later-unmet (onward n a u r) (elem-mem v (h ∷ q) k)) .0 refl)) (λ k. k) (split (elem v (h ∷ q)))) (no-repeat r)
+  goes-by-arcs : {seen : List ℕ} {v : ℕ} {p : Route} → PathFrom g t seen v p → ByArcs g p
+  goes-by-arcs (arrive e) = single
+  goes-by-arcs (onward n a u r) = along a (goes-by-arcs r)
 
-pub from-path : {g : Graph} {s t : ℕ} {p : Route} → PathFrom g t [] s p → Path g s t p
-from-path {s} r = record { from-start = starts r; to-goal = ends-at s r; by-arcs = goes-by-arcs r; loopless = no-repeat r }
+  pub later-unmet : {seen : List ℕ} {v : ℕ} {p : Route} → PathFrom g t seen v p → {x : ℕ} → x ∈ tail p → elem x (v ∷ seen) ≡ false
+  later-unmet (arrive e) m = elim m [ ]
+  later-unmet {seen} {v} (onward {h} n a u r) {x} m = ⊎-elim (λ e. rw e u) (λ k. outside-cons x h (v ∷ seen) (later-unmet r k) .1) (List·Memᴰ·cases-cons m)
 
--- and the other way: arcs, no repeats and the right end, with no node of seen met, make a PathFrom
-path-onward : {g : Graph} {t : ℕ} (seen : List ℕ) (v : ℕ) (p : List ℕ) → last v p ≡ t → ByArcs g (v ∷ p) → Loopless (v ∷ p) → ((x : ℕ) → x ∈ p → elem x seen ≡ false) → PathFrom g t seen v (v ∷ p)
-unfolding last
-path-onward seen v [] e b l u = arrive e
-path-onward seen v (h ∷ q) e (along a b) (fresh f l) u =
-    onward (λ d. outside-apart f (last-mem h q) (e ∙ sym d)) a (new h (List·Memᴰ·head refl)) (path-onward (v ∷ seen) h q e b l (λ x m. new x (List·Memᴰ·tail m)))
-  where
-    new : (x : ℕ) → x ∈ h ∷ q → elem x (v ∷ seen) ≡ false
-    new x m = cons-outside x v seen (outside-apart f m) (u x m)
+  no-repeat : {seen : List ℕ} {v : ℕ} {p : Route} → PathFrom g t seen v p → Loopless p
+  unfolding elem
+  no-repeat (arrive e) = fresh refl empty
+  no-repeat {seen} {v} (onward {h} {q} n a u r) = fresh (⊎-elim (λ k. absurd (outside-cons v v seen (later-unmet (onward n a u r) (elem-mem v (h ∷ q) k)) .0 refl)) (λ k. k) (split (elem v (h ∷ q)))) (no-repeat r)
 
-pub path-from : {g : Graph} {s t : ℕ} {p : Route} → Path g s t p → PathFrom g t [] s p
-unfolding elem last
-path-from {g} {s} {t} {p} r = rw (r .from-start) (path-onward [] s (tail p) (rw (r .from-start) at (r .to-goal)) (subst (ByArcs g) (r .from-start) (r .by-arcs)) (subst Loopless (r .from-start) (r .loopless)) (λ x m. refl))
+  pub to-path : {s : ℕ} {p : Route} → PathFrom g t [] s p → Path g s t p
+  to-path {s} r = record { from-start = starts r; to-goal = ends-at s r; by-arcs = goes-by-arcs r; loopless = no-repeat r }
+
+  -- and the other way: arcs, no repeats and the right end, with no node of seen met, make a PathFrom
+  path-onward : (seen : List ℕ) (v : ℕ) (p : List ℕ) → last v p ≡ t → ByArcs g (v ∷ p) → Loopless (v ∷ p) → ((x : ℕ) → x ∈ p → elem x seen ≡ false) → PathFrom g t seen v (v ∷ p)
+  unfolding last
+  path-onward seen v [] e b l u = arrive e
+  path-onward seen v (h ∷ q) e (along a b) (fresh f l) u =
+      onward (λ d. outside-apart f (last-mem h q) (e ∙ sym d)) a (new h (List·Memᴰ·head refl)) (path-onward (v ∷ seen) h q e b l (λ x m. new x (List·Memᴰ·tail m)))
+    where
+      new : (x : ℕ) → x ∈ h ∷ q → elem x (v ∷ seen) ≡ false
+      new x m = cons-outside x v seen (outside-apart f m) (u x m)
+
+  pub of-path : {s : ℕ} {p : Route} → Path g s t p → PathFrom g t [] s p
+  unfolding elem last
+  of-path {s} {p} r = rw (r .from-start) (path-onward [] s (tail p) (rw (r .from-start) at (r .to-goal)) (subst (ByArcs g) (r .from-start) (r .by-arcs)) (subst Loopless (r .from-start) (r .loopless)) (λ x m. refl))
 
 -- ---- the enumeration: exits are the unmet heads of arcs
 exits-mem : (g : Graph) (seen : List ℕ) (v : ℕ) {h : ℕ} → h ∈ exits g seen v → (linked g v h ≡ true) × (elem h seen ≡ false)
@@ -150,10 +152,10 @@ unfolding paths
 paths-complete n w lo hi r = walks-complete n r (at-most-nodes w lo hi r)
 
 pub listed-path : (n : ℕ) {g : Graph} {s t : ℕ} {p : Route} → p ∈ paths n g s t → Path g s t p
-listed-path n m = from-path (paths-sound n m)
+listed-path n m = to-path (paths-sound n m)
 
 pub path-listed : (n : ℕ) {g : Graph} {s t : ℕ} {p : Route} → Within n g → 1 ≤ s → s ≤ n → Path g s t p → p ∈ paths n g s t
-path-listed n w lo hi r = paths-complete n w lo hi (path-from r)
+path-listed n w lo hi r = paths-complete n w lo hi (of-path r)
 
 -- ---- every arc of an admitted network's column ends at a node
 weigh-mem : (l : List (ℕ × ℕ)) (ws : List ℕ) {x : Arc} → x ∈ weigh l ws → (x .tail, x .head) ∈ l
@@ -173,6 +175,30 @@ column-within {net} ok u v h a = found (Memᴰ·of-map (λ (x : Arc). x .head) a
     found (x, m, e) =
         let arc = ok .arcs-of (x .tail, x .head) (weigh-mem (net .arcs) (getD (net .columns) (u - 1) []) (keep-mem (λ (y : Arc). eqb (y .tail) v) (weigh (net .arcs) (getD (net .columns) (u - 1) [])) m .0)) in
         rw (← e) (arc .head-from, arc .head-to)
+
+-- ---- every arc is open in every column, so the columns of an admitted network have the same paths
+weigh-heads : (l : List (ℕ × ℕ)) (ws ws′ : List ℕ) (v : ℕ) → length ws ≡ length l → length ws′ ≡ length l → heads (weigh l ws) v ≡ heads (weigh l ws′) v
+unfolding heads weigh keep
+weigh-heads [] ws ws′ v e e′ = refl
+weigh-heads (a ∷ l) [] ws′ v e e′ = absurd (omega arith)
+weigh-heads (a ∷ l) (w ∷ ws) [] v e e′ = absurd (omega arith)
+weigh-heads (a ∷ l) (w ∷ ws) (w′ ∷ ws′) v e e′ = same (weigh-heads l ws ws′ v (omega arith) (omega arith)) (split (eqb (a .0) v))
+  where
+    same : heads (weigh l ws) v ≡ heads (weigh l ws′) v → (eqb (a .0) v ≡ true) ⊎ (eqb (a .0) v ≡ false) → heads (weigh (a ∷ l) (w ∷ ws)) v ≡ heads (weigh (a ∷ l) (w′ ∷ ws′)) v
+    same ih (inl h) = rw h (ap (λ k. a .1 ∷ k) ih)
+    same ih (inr h) = rw h ih
+
+module _ {net : Net} (u v : ℕ) (ok : Admitted net) (u-lo : 1 ≤ u) (u-hi : u ≤ length (net .columns)) (v-lo : 1 ≤ v) (v-hi : v ≤ length (net .columns)) where
+  pub linked-in-column : (a b : ℕ) → linked (column net u) a b ≡ linked (column net v) a b
+  unfolding linked column
+  linked-in-column a b = ap (elem b) (weigh-heads (net .arcs) (getD (net .columns) (u - 1) []) (getD (net .columns) (v - 1) []) a (ok .full _ (getD-mem (net .columns) [] (u - 1) (omega arith))) (ok .full _ (getD-mem (net .columns) [] (v - 1) (omega arith))))
+
+  arcs-in-column : {p : Route} → ByArcs (column net u) p → ByArcs (column net v) p
+  arcs-in-column single = single
+  arcs-in-column (along {v = a} {h} l b) = along (rw linked-in-column at l) (arcs-in-column b)
+
+  pub path-in-column : {s t : ℕ} {p : Route} → Path (column net u) s t p → Path (column net v) s t p
+  path-in-column r = record { from-start = r .from-start; to-goal = r .to-goal; by-arcs = arcs-in-column (r .by-arcs); loopless = r .loopless }
 
 -- ---- the check of a node list, row 14, passes exactly the paths
 some≢none : {A : Type 0} {i : ℕ} → _≡_ {A = Option ℕ} (some i) none → A
@@ -215,8 +241,8 @@ unfolding fault
 no-fault-path g s t [] e = some≢none e
 no-fault-path g s t (x ∷ p) e =
     let h = passed (eqb x s) _ _ e in
-    rw (eqb-true x s (h .0)) (from-path (fault-after-sound g [] s t p 1 (h .1)))
+    rw (eqb-true x s (h .0)) (to-path (fault-after-sound g [] s t p 1 (h .1)))
 
 pub path-no-fault : {g : Graph} {s t : ℕ} {p : Route} → Path g s t p → fault g s t p ≡ none
 unfolding fault
-path-no-fault {s} r = rw (r .from-start) (rw (eq-eqb s s refl) (fault-after-complete (path-from r) 1))
+path-no-fault {s} r = rw (r .from-start) (rw (eq-eqb s s refl) (fault-after-complete (of-path r) 1))
