@@ -4,3 +4,4 @@ pub mod RankingLaws
 pub mod PrefixLaws
 pub mod RegretLaws
 pub mod RobustLaws
+pub mod Demand3Laws
