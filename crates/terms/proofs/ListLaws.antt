@@ -249,10 +249,10 @@ pub record Smallest (test : ℕ → Bool) (i f j : ℕ) : Type 0 where
   pub passes : j < i + f → test j ≡ true
   pub none-before : (k : ℕ) → i ≤ k → k < j → test k ≡ false
 
-pub smallest-smallest : (test : ℕ → Bool) (i f : ℕ) → Smallest test i f (smallest test i f)
+pub smallest-is-smallest : (test : ℕ → Bool) (i f : ℕ) → Smallest test i f (smallest test i f)
 unfolding smallest
-smallest-smallest test i zero = record { from = omega arith; upto = omega arith; passes = λ h. absurd (omega arith); none-before = λ k a b. absurd (omega arith) }
-smallest-smallest test i (suc f) = by-cond (Smallest test i (suc f)) (test i) here (λ e. later e (smallest-smallest test (suc i) f))
+smallest-is-smallest test i zero = record { from = omega arith; upto = omega arith; passes = λ h. absurd (omega arith); none-before = λ k a b. absurd (omega arith) }
+smallest-is-smallest test i (suc f) = by-cond (Smallest test i (suc f)) (test i) here (λ e. later e (smallest-is-smallest test (suc i) f))
   where
     here : test i ≡ true → Smallest test i (suc f) i
     here e = record { from = omega arith; upto = omega arith; passes = λ _. e; none-before = λ k a b. absurd (omega arith) }

@@ -167,12 +167,15 @@ pub column-within : {net : Net} → Admitted net → (u : ℕ) → Within (net .
 unfolding linked heads column
 column-within {net} ok u v h a = found (Memᴰ·of-map (λ (x : Arc). x .head) arcs-from (elem-mem h (map (λ x. x .head) arcs-from) a))
   where
+    costs : List ℕ
+    costs = getD (net .columns) (u - 1) []
+
     arcs-from : List Arc
-    arcs-from = keep (λ x. eqb (x .tail) v) (weigh (net .arcs) (getD (net .columns) (u - 1) []))
+    arcs-from = keep (λ x. eqb (x .tail) v) (weigh (net .arcs) costs)
 
     found : (x : Arc) × (x ∈ arcs-from) × (x .head ≡ h) → (1 ≤ h) × (h ≤ net .nodes)
     found (x, m, e) =
-        let arc = ok .arcs-of (x .tail, x .head) (weigh-mem (net .arcs) (getD (net .columns) (u - 1) []) (keep-mem (λ (y : Arc). eqb (y .tail) v) (weigh (net .arcs) (getD (net .columns) (u - 1) [])) m .0)) in
+        let arc = ok .arcs-of (x .tail, x .head) (weigh-mem (net .arcs) costs (keep-mem (λ (y : Arc). eqb (y .tail) v) (weigh (net .arcs) costs) m .0)) in
         rw (← e) (arc .head-from, arc .head-to)
 
 -- ---- every arc is open in every column, so the columns of an admitted network have the same paths

@@ -17,7 +17,7 @@ use Rattle.terms.specs.Ranking.{before}
 use Rattle.terms.specs.Regret.{deviation, figure}
 use Rattle.terms.specs.Robust.{settled, left-open, no-path, least-figure, enough, needed, choice, answer}
 use Rattle.terms.specs.Demand3.{ranked-in, Needs}
-use Rattle.terms.proofs.ListLaws.{le-or-lt, or-cases, or-right, or-false, place-mem, mem-place, least-le, least-attained, least-snoc, Smallest, smallest-smallest, smallest-unique, index-before, index-passes, index-le, index-is}
+use Rattle.terms.proofs.ListLaws.{le-or-lt, or-cases, or-right, or-false, place-mem, mem-place, least-le, least-attained, least-snoc, Smallest, smallest-is-smallest, smallest-unique, index-before, index-passes, index-le, index-is}
 use Rattle.terms.proofs.RankingLaws.{Rising, NoLater, rising-earlier, rising-split}
 
 -- ---- Bj, the least figure among the first j: no figure of these is less, and one of them has it
@@ -126,11 +126,11 @@ module _ (dev fig : Route → ℕ) (ps : List Route) where
 
   pub needed-stops : 1 ≤ length ps → Stops dev fig ps (needed dev fig ps)
   unfolding needed
-  needed-stops some = stops some (smallest-smallest (enough dev fig ps) 1 (length ps - 1))
+  needed-stops some = stops some (smallest-is-smallest (enough dev fig ps) 1 (length ps - 1))
 
   pub needed-is : {j : ℕ} → Stops dev fig ps j → needed dev fig ps ≡ j
   unfolding needed
-  needed-is r = smallest-unique (smallest-smallest (enough dev fig ps) 1 (length ps - 1)) (of-stops r)
+  needed-is r = smallest-unique (smallest-is-smallest (enough dev fig ps) 1 (length ps - 1)) (of-stops r)
 
 -- "the number of paths that the stopping rule needs": J of call 6 is one, if any path is ranked, and no other number is
 pub needed-needs : (net : Net) (r s t : ℕ) → 1 ≤ length (ranked-in net r s t)
