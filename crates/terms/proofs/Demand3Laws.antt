@@ -20,7 +20,7 @@ use Rattle.terms.proofs.RankingLaws.{Rising, before-cost, ranked-rising
 use Rattle.terms.proofs.RegretLaws.{deviation-le-figure}
 use Rattle.terms.proofs.RobustLaws.{Chosen, choice-chosen, Stops, needed-stops, needed-needs, needs-needed, least-figure-le, figure-ahead, least-of-all, chosen-earliest, answer-none, answer-settled, answer-open}
 
--- an admitted network, one of its columns, and a start among its nodes
+-- an admitted network, any column number r, and a start among its nodes
 module _ (net : Net) (r s t : ℕ) (ok : Admitted net) (s-lo : 1 ≤ s) (s-hi : s ≤ net .nodes) where
   abbrev ps : List Route
   ps = ranked-in net r s t
