@@ -1,3 +1,4 @@
+use Rattle.image.proofs.RoundTripLaws.{reads-back}
 use Prim.Native.Nat.{ℕ, _+_, _*_, _≤_}
 use native.Mathlib.Omega.{arith}
 use mathlib.Core.Path.{_≡_, sym, _∙_, ap, subst}
@@ -36,7 +37,7 @@ returns : tie.Need-returns
 unfolding build-outcome
 returns c = let k = c .before .before .before in
     let f = sym (k .check-lists .ensures) ∙ ap verdict (c .before .lists .given .1) in
-    (sym (outcome-fault _ f), sym (after-fault _ _ f))
+    (sym (outcome-fault _ f), (sym (after-fault _ _ f), λ e. reads-back _ _ _ _ _ (build-sound _ _ _ _ _ e)))
 
 enum-told : tie.Need-enum-told
 enum-told c = search needs
@@ -108,7 +109,7 @@ returns-2 c = let w = c .before .before .before in
     let p = passes e in
     let f = sym (e .before .before .check-lists .ensures) ∙ ap verdict (e .enum-told .given .1) in
     let costs-at = subst (λ (i : ℕ). w .write-costs .last .0 ≡ take i (q .write-nodes .last .0) ++ (encode 4 (a .costs .now) ++ drop (i + 4 * length (a .costs .now)) (q .write-nodes .last .0))) (s .costs-start .ensures) (w .write-costs .ensures) in
-    (ap (λ (x : ℕ). gives (x ∷ [])) (c .image-length .ensures) ∙ sym (outcome-sound _ f), image-written (a .n) (a .k) (a .nodes .now) (a .costs .now) (p .even) (p .counted) (a .image .now) (h .write-header .last .0) (q .write-nodes .last .0) (w .write-costs .last .0) (h .write-header .ensures) (q .write-nodes .ensures) costs-at ∙ sym (after-sound _ _ f))
+    (ap (λ (x : ℕ). gives (x ∷ [])) (c .image-length .ensures) ∙ sym (outcome-sound _ f), (image-written (a .n) (a .k) (a .nodes .now) (a .costs .now) (p .even) (p .counted) (a .image .now) (h .write-header .last .0) (q .write-nodes .last .0) (w .write-costs .last .0) (h .write-header .ensures) (q .write-nodes .ensures) costs-at ∙ sym (after-sound _ _ f), λ e. reads-back _ _ _ _ _ (build-sound _ _ _ _ _ e)))
 
 pub build-spec : {M : Type 1} → statement M
 build-spec =

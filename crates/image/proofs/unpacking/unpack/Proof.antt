@@ -1,3 +1,6 @@
+use Rattle.image.specs.RoundTrip.{WritesAgain}
+use Rattle.image.proofs.ByteLaws.{all-bytes}
+use Rattle.image.proofs.RoundTripLaws.{writes-again}
 use mathlib.Core.Path.{ap₂}
 use Rattle.image.specs.Outcome.{gives}
 use Rattle.image.proofs.CheckLaws.{same-sizes}
@@ -11,7 +14,7 @@ use Rattle.image.specs.Answers.{checked, refused}
 use Rattle.image.specs.Outcome.{sound}
 use Rattle.image.specs.Layout.{total}
 use Rattle.image.specs.Calls.{image-fault, unpack-fault, unpack-outcome}
-use Rattle.image.proofs.OutcomeLaws.{then-fault, outcome-fault, outcome-sound, after-fault}
+use Rattle.image.proofs.OutcomeLaws.{then-fault, then-sound, outcome-fault, outcome-sound, after-fault}
 use Rattle.image.proofs.SliceLaws.{to-end}
 use Rattle.image.proofs.CheckLaws.{Sized, accepted, rejected, accepted-header, bounds, total-is, costs-start-is}
 use Rattle.image.proofs.UnpackLaws.{short-nodes, short-costs, room, nodes-after, costs-after}
@@ -43,6 +46,11 @@ enum-told c = search needs
 refusal-requires : tie.Need-refusal-requires
 refusal-requires c κs = search needs
 
+-- an accepted image's lists write it again, since its elements are bytes
+again : (c : tie.After-slice-known) (x y : ℕ) → unpack-fault (c .before .before .args .image .now) x y ≡ sound → WritesAgain (c .before .before .args .image .now)
+unfolding unpack-fault
+again c x y e = writes-again _ (then-sound _ _ e .0) (all-bytes _ (λ i. c .before .shared-slice-known .given i .fits))
+
 -- src/unpacking.rt:55:9
 returns : tie.Need-returns
 unfolding unpack-outcome unpack-fault
@@ -50,7 +58,10 @@ returns c = let k = c .before .before .before in
     let b = k .before .before .before .before .args .image .now in
     let told = ap checked (c .before .enum-told .given .1) in
     let e = rejected b (sym told ∙ k .check .ensures) in
-    (ap refused (c .refusal .ensures _ (c .before .enum-told .given .1)) ∙ sym (outcome-fault _ (then-fault _ e)), (sym (after-fault _ _ (then-fault _ e)), sym (after-fault _ _ (then-fault _ e))))
+    (ap refused (c .refusal .ensures _ (c .before .enum-told .given .1)) ∙ sym (outcome-fault _ (then-fault _ e)), (sym (after-fault _ _ (then-fault _ e)), (sym (after-fault _ _ (then-fault _ e)), again (k .before .before) _ _)))
+
+abbrev entered : tie.After-answer → tie.After-slice-known
+entered c = c .before .before .before .before
 
 -- where Check gives sizes, the image is accepted and they are its own
 abbrev image : tie.After-answer → List ℕ
@@ -87,17 +98,18 @@ cast-costs-needed c = search needs
 -- src/unpacking.rt:62:9
 returns-2 : tie.Need-returns-2
 unfolding unpack-outcome
-returns-2 c = let k = known (c .before .before .before) in
-    let e = short-nodes _ _ _ _ _ _ (k .0) (k .1) (c .if1 .taken) in
-    (sym (outcome-fault _ e), (sym (after-fault _ _ e), sym (after-fault _ _ e)))
+returns-2 c = let a = c .before .before .before in
+    let e = short-nodes _ _ _ _ _ _ (known a .0) (known a .1) (c .if1 .taken) in
+    (sym (outcome-fault _ e), (sym (after-fault _ _ e), (sym (after-fault _ _ e), again (entered a) _ _)))
 
 -- src/unpacking.rt:65:9
 returns-3 : tie.Need-returns-3
 unfolding unpack-outcome
-returns-3 c = let n = c .before .before in
-    let k = known (n .before .before) in
-    let e = short-costs _ _ _ _ _ _ (k .0) (k .1) (rw (n .cost-count .ensures .0) at (c .if2 .taken)) in
-    (sym (outcome-fault _ e), (sym (after-fault _ _ e), sym (after-fault _ _ e)))
+returns-3 c =
+    let n = c .before .before in
+    let a = n .before .before in
+    let e = short-costs _ _ _ _ _ _ (known a .0) (known a .1) (rw (n .cost-count .ensures .0) at (c .if2 .taken)) in
+    (sym (outcome-fault _ e), (sym (after-fault _ _ e), (sym (after-fault _ _ e), again (entered a) _ _)))
 
 -- src/unpacking.rt:67:16
 sub-read-nodes : tie.Need-sub-read-nodes
@@ -167,7 +179,7 @@ returns-4 c = let r = c .before .before in
     let nodes-part = ap (λ (l : List ℕ). decode 2 (2 * m) l ++ drop (2 * m) (args .nodes .now)) (to-end (image a) 24) in
     let costs-part = ap (λ (l : List ℕ). decode 4 (n .cost-count .result) l ++ drop (n .cost-count .result) (args .costs .now)) (to-end (image a) (s .costs-start .result)) in
     let counted = ap₂ (λ (x i : ℕ). decode 4 x (drop i (image a)) ++ drop x (args .costs .now)) (n .cost-count .ensures .0) (s .costs-start .ensures) in
-    (ap gives (same-sizes (image a) (k .1)) ∙ sym (outcome-sound _ e), (q .read-nodes .ensures ∙ nodes-part ∙ nodes-after _ _ _ _ _ _ (k .0) (k .1) (args .nodes .now) e, r .read-costs .ensures ∙ costs-part ∙ counted ∙ costs-after _ _ _ _ _ _ (k .0) (k .1) (args .costs .now) e))
+    (ap gives (same-sizes (image a) (k .1)) ∙ sym (outcome-sound _ e), (q .read-nodes .ensures ∙ nodes-part ∙ nodes-after _ _ _ _ _ _ (k .0) (k .1) (args .nodes .now) e, (r .read-costs .ensures ∙ costs-part ∙ counted ∙ costs-after _ _ _ _ _ _ (k .0) (k .1) (args .costs .now) e, again (entered a) _ _)))
 
 pub unpack-spec : {M : Type 1} → statement M
 unpack-spec =
