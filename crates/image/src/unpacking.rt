@@ -37,7 +37,7 @@ fn read_nodes(source: &[u8], count: usize, nodes: &mut [u16])
 }
 
 // The first `count` numbers of four bytes each.
-fn read_costs(source: &[u8], count: usize, costs: &mut [u32])
+pub fn read_costs(source: &[u8], count: usize, costs: &mut [u32])
     requires { ⌜ (4 * count ≤ length (now source)) × (count ≤ length (now costs)) ⌝ }
     ensures { λ _. ⌜ now (costs .exit) ≡ decode 4 count (now (source .entry)) ++ drop count (now (costs .entry)) ⌝ }
 {
