@@ -3,6 +3,8 @@ use Rattle.labels.proofs.queue.mark.Statement.{statement}
 use Rattle.labels.proofs.queue.mark.Tie as tie
 use Rattle.labels.proofs.queue.mark.Reads as reads
 use Rattle.labels.proofs.queue.mark.Lts as lts
+use native.Mathlib.Omega.{arith}
+use Rattle.labels.proofs.QueueLaws.{room-left, mark-new, mark-again}
 
 -- src/queue.rt:13:8
 slice-read-if1 : tie.Need-slice-read-if1
@@ -10,7 +12,7 @@ slice-read-if1 c = search needs
 
 -- src/queue.rt:14:9
 returns : tie.Need-returns
-returns c = ?
+returns c = mark-again (c .before .before .pre .0) _ (c .if1 .taken)
 
 -- src/queue.rt:16:5
 slice-write-dirty : tie.Need-slice-write-dirty
@@ -22,15 +24,15 @@ cast-queue c = search needs
 
 -- src/queue.rt:17:5
 mul-queue : tie.Need-mul-queue
-mul-queue c = ?
+mul-queue c = let s = c .before .before in omega (arith, room-left (s .pre .0) (s .pre .1 .0) (c .if1 .left))
 
 -- src/queue.rt:17:5
 slice-write-queue : tie.Need-slice-write-queue
-slice-write-queue c = ?
+slice-write-queue c = let s = c .before .before in room-left (s .pre .0) (s .pre .1 .0) (c .if1 .left)
 
 -- src/queue.rt:18:5
 add-result : tie.Need-add-result
-add-result c = ?
+add-result c = let s = c .before .before in omega (arith, room-left (s .pre .0) (s .pre .1 .0) (c .if1 .left))
 
 -- src/queue.rt:8:1
 same-length : tie.Need-same-length
@@ -42,7 +44,7 @@ same-length-2 c = search needs
 
 -- src/queue.rt:8:1
 returns-2 : tie.Need-returns-2
-returns-2 c = ?
+returns-2 c = let s = c .before .before in mark-new (s .pre .0) (s .pre .1 .0) (c .if1 .left)
 
 pub mark-spec : {M : Type 1} → statement M
 mark-spec =
