@@ -7,7 +7,7 @@ use mathlib.Core.Bool.{Bool, true, false}
 use mathlib.Core.List.{List}
 use lib.ListN.{length, getD, set, replicate, length-set, length-replicate, getD-replicate}
 use lib.Seq.{getD-set-same, getD-set-other}
-use Rattle.labels.specs.Chains.{LastInto}
+use Rattle.labels.specs.Chains.{LastInto, Chains}
 use Rattle.labels.specs.Labels.{far}
 use Rattle.labels.specs.Queue.{Listed, sum}
 use Rattle.labels.specs.Search.{Relaxed, Visited, Input, Walked, Agrees, State, left}
@@ -102,3 +102,20 @@ module _ {I : Input} {goal : ℕ} {ls d : List ℕ} {h : ℕ} where
   pub state-take : {g : ℕ} → h < length d → State I goal ls d g 0 → State I goal ls (set d h 0) h (length (I .tails))
   state-take b s =
       record { at-goal = s .at-goal; at-most = s .at-most; attained = s .attained; settled = λ j b′ clean later. s .settled j b′ (rw (getD-set-other d h (getD (I .heads) j 0) 0 0 (λ q. let p = later q in omega arith)) at clean) (λ _. omega arith) }
+
+-- ---- along a chain: the next arc has the head h, and those after it are done
+abbrev pub Along : Input → ℕ → List ℕ → List ℕ → ℕ → ℕ → Type 0
+Along I goal ls d h link = ((i : ℕ) → link ≡ i + 1 → getD (I .heads) i 0 ≡ h) × State I goal ls d h link
+
+module _ {I : Input} {goal h : ℕ} {ls d first next : List ℕ} (chains : Chains (I .heads) first next) (long : length next ≡ length (I .tails)) where
+  pub chain-start : h < length first → State I goal ls d h (length (I .tails)) → Along I goal ls d h (getD first h 0)
+  chain-start b s =
+      let last = rw (sym (chains .next-long) ∙ long) at (chains .starts h b) in
+      (last .into, state-skip last s)
+
+  pub chain-next : {link i rest : ℕ} {ls′ d′ : List ℕ} → link ≡ i + 1 → i < length (I .tails) → h < length ls → getD (I .tails) i 0 < length ls → length d ≡ length ls → getD ls h 0 ≡ rest
+      → Visited (getD (I .tails) i 0) (getD (I .weights) i 0) rest (I .barred) ls d ls′ d′ → Along I goal ls d h link → Along I goal ls′ d′ h (getD next i 0)
+  chain-next {i} e in-i in-h in-t same at-h v a =
+      let into = a .0 i e in
+      let last = rw into at (chains .goes-on i (rw (sym (chains .next-long) ∙ long) in-i)) in
+      (last .into, state-skip last (state-visited (rw e at (a .1)) in-i into in-h in-t same at-h v))
