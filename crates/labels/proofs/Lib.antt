@@ -1,3 +1,4 @@
 pub mod Stores
+pub mod ChainLaws
 pub mod QueueLaws
 pub mod SearchLaws
