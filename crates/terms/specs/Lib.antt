@@ -5,3 +5,4 @@ pub mod Ranking
 pub mod Regret
 pub mod Robust
 pub mod Demand3
+pub mod Starred

@@ -1,0 +1,124 @@
+-- best(u), labels, deviations, figures and worst columns are what document 01 says. Assumes nothing.
+use Prim.Native.Nat.{ℕ, zero, suc, _+_, _-_, _≤_, _<_}
+use native.Mathlib.Omega.{arith}
+use native.Mathlib.Nat.{le-antisymm, eq-or-lt-of-le}
+use mathlib.Core.Path.{_≡_, refl, sym, _∙_, ap}
+use mathlib.Core.Bool.{Bool}
+use mathlib.Core.Logic.{_⊎_, inl, inr, ⊎-elim}
+use mathlib.Core.List.{List, [], _∷_, map, List·Memᴰ·head, Memᴰ·map, Memᴰ·of-map}
+use lib.Dec.{eqb}
+use lib.ListN.{length, getD, length-map}
+use borrow.Author.Tests.{eqb-true, eqb-false, eq-eqb, ne-eqb, le-leb}
+use Rattle.terms.specs.Lists.{_∈_, index, numbers}
+use Rattle.terms.specs.Network.{Graph, Net, Admitted, column}
+use Rattle.terms.specs.Paths.{Route, Path, cost, paths}
+use Rattle.terms.specs.Ranking.{ranked}
+use Rattle.terms.specs.Regret.{best, mark, label, deviation, deviations, figure, worst}
+use Rattle.terms.proofs.ListLaws.{mem-length, least-le, least-attained, largest-ge, largest-le, largest-mem, length-numbers, getD-map-numbers, mem-numbers, numbers-mem, getD-mem, index-before, index-passes, index-le, index-is}
+use Rattle.terms.proofs.PathLaws.{path-listed, column-within, path-in-column}
+use Rattle.terms.proofs.RankingLaws.{head-first, before-cost, ranked-rising, mem-ranked, ranked-mem}
+
+module _ (n : ℕ) (g : Graph) (s t : ℕ) where
+  -- ---- best: no path costs less, and some path costs as much
+  pub best-le : {p : Route} → p ∈ paths n g s t → best n g s t ≤ cost g p
+  unfolding best
+  best-le m = least-le (Memᴰ·map (cost g) m)
+
+  pub best-attained : {p : Route} → p ∈ paths n g s t → (q : Route) × (q ∈ paths n g s t) × (cost g q ≡ best n g s t)
+  unfolding best
+  best-attained m = least-attained (cost g) m
+
+  -- so it is the cost of a path that no path undercuts, as the first ranked one
+  pub best-is : {p : Route} → p ∈ paths n g s t → ((q : Route) → q ∈ paths n g s t → cost g p ≤ cost g q) → best n g s t ≡ cost g p
+  best-is m low = let a = best-attained m in le-antisymm (best-le m) (rw (← a .2) (low (a .0) (a .1)))
+
+  pub best-first : {p : Route} {l : List Route} → ranked n g s t ≡ p ∷ l → best n g s t ≡ cost g p
+  best-first {p} {l} e =
+      best-is (ranked-mem n g s t (rw e (List·Memᴰ·head refl)))
+      (λ q m. ⊎-elim (λ d. rw d (omega arith)) (λ b. before-cost g p q b) (head-first g (rw e at (ranked-rising n g s t)) (rw e at (mem-ranked n g s t m))))
+
+  -- ---- the label of s: best if there is a path to the goal, else the mark
+  pub label-reached : {p : Route} → p ∈ paths n g s t → label n g t s ≡ best n g s t
+  unfolding label
+  label-reached m = rw (le-leb 1 (length (paths n g s t)) (mem-length m))
+
+  pub label-unreached : paths n g s t ≡ [] → label n g t s ≡ mark
+  unfolding label
+  label-unreached e = rw e
+
+-- ---- a path of one column costs in each column its best and the deviation: the difference is never cut at 0
+pub deviation-adds : {net : Net} {s t : ℕ} {p : Route} (r u : ℕ) → Admitted net → 1 ≤ s → s ≤ net .nodes → 1 ≤ r → r ≤ length (net .columns) → 1 ≤ u → u ≤ length (net .columns)
+    → Path (column net r) s t p → cost (column net u) p ≡ best (net .nodes) (column net u) s t + deviation net s t p u
+unfolding deviation
+deviation-adds {net} {s} {t} r u ok lo hi r-lo r-hi u-lo u-hi p =
+    omega (arith, best-le (net .nodes) (column net u) s t (path-listed (net .nodes) (column-within ok u) lo hi (path-in-column r u ok r-lo r-hi u-lo u-hi p)))
+
+-- u is the worst column of p: it has p's figure, and each lower-numbered one has less
+pub record Worst (net : Net) (s t : ℕ) (p : Route) (u : ℕ) : Type 0 where
+  pub from : 1 ≤ u
+  pub upto : u ≤ length (net .columns)
+  pub has-figure : deviation net s t p u ≡ figure net s t p
+  pub lower-less : (v : ℕ) → 1 ≤ v → v < u → deviation net s t p v < figure net s t p
+
+module _ (net : Net) (s t : ℕ) (p : Route) where
+  -- ---- the figure: at least each deviation, and equal to one that no other exceeds
+  pub deviation-le-figure : (u : ℕ) → 1 ≤ u → u ≤ length (net .columns) → deviation net s t p u ≤ figure net s t p
+  unfolding figure deviations
+  deviation-le-figure u lo hi = largest-ge (Memᴰ·map (deviation net s t p) (mem-numbers 1 (length (net .columns)) u lo (omega arith)))
+
+  -- each number of the list of deviations is the deviation in a column
+  deviations-mem : {y : ℕ} → y ∈ deviations net s t p → (u : ℕ) × (1 ≤ u) × (u ≤ length (net .columns)) × (deviation net s t p u ≡ y)
+  unfolding deviations
+  deviations-mem m =
+      let o = Memᴰ·of-map (deviation net s t p) (numbers 1 (length (net .columns))) m in
+      let b = numbers-mem 1 (length (net .columns)) (o .1) in
+      (o .0, b .0, omega arith, o .2)
+
+  pub figure-is : (u : ℕ) → 1 ≤ u → u ≤ length (net .columns) → ((v : ℕ) → 1 ≤ v → v ≤ length (net .columns) → deviation net s t p v ≤ deviation net s t p u) → figure net s t p ≡ deviation net s t p u
+  unfolding figure
+  figure-is u lo hi top =
+      le-antisymm (largest-le (deviation net s t p u) (deviations net s t p) (λ y m. let o = deviations-mem m in rw (← o .3) (top (o .0) (o .1) (o .2)))) (deviation-le-figure u lo hi)
+
+  -- ---- the worst column is the lowest-numbered one that has the figure
+  deviations-at : (j : ℕ) → j < length (net .columns) → getD (deviations net s t p) j 0 ≡ deviation net s t p (suc j)
+  unfolding deviations
+  deviations-at j h = getD-map-numbers (deviation net s t p) 1 (length (net .columns)) j 0 h ∙ ap (deviation net s t p) (omega arith)
+
+  deviations-length : length (deviations net s t p) ≡ length (net .columns)
+  unfolding deviations
+  deviations-length = rw (length-map, length-numbers)
+
+  pub worst-is : (u : ℕ) → Worst net s t p u → worst net s t p ≡ u
+  unfolding worst
+  worst-is zero w = absurd (omega (arith, w .from))
+  worst-is (suc j) w =
+      ap suc (index-is (eqb (figure net s t p)) 0 (deviations net s t p) j (rw deviations-length (w .upto)) (eq-eqb _ _ (sym (w .has-figure) ∙ sym (deviations-at j (w .upto)))) (λ i h. ne-eqb _ _ (lower i h)))
+    where
+      lower : (i : ℕ) → i < j → figure net s t p ≡ getD (deviations net s t p) i 0 → ⊥
+      lower i h e = omega (arith, w .lower-less (suc i) (omega arith) (omega arith), deviations-at i (omega (arith, w .upto)))
+
+  figure-mem : 1 ≤ length (net .columns) → figure net s t p ∈ deviations net s t p
+  unfolding figure
+  figure-mem some = largest-mem (deviations net s t p) (rw deviations-length some)
+
+  pub worst-worst : 1 ≤ length (net .columns) → Worst net s t p (worst net s t p)
+  unfolding worst
+  worst-worst some = record { from = omega arith; upto = in-range; has-figure = sym (deviations-at place in-range) ∙ sym (eqb-true _ _ (index-passes test 0 (deviations net s t p) (rw deviations-length in-range))); lower-less = less }
+    where
+      test : ℕ → Bool
+      test = eqb (figure net s t p)
+
+      place : ℕ
+      place = index test (deviations net s t p)
+
+      found : (u : ℕ) → 1 ≤ u → u ≤ length (net .columns) → deviation net s t p u ≡ figure net s t p → place < length (net .columns)
+      found zero lo hi e = absurd (omega arith)
+      found (suc j) lo hi e = omega (arith, index-le test 0 (deviations net s t p) j (eq-eqb _ _ (sym e ∙ sym (deviations-at j hi))))
+
+      in-range : place < length (net .columns)
+      in-range = let o = deviations-mem (figure-mem some) in found (o .0) (o .1) (o .2) (o .3)
+
+      less : (v : ℕ) → 1 ≤ v → v < suc place → deviation net s t p v < figure net s t p
+      less zero lo hi = absurd (omega arith)
+      less (suc j) lo hi =
+          ⊎-elim (λ e. absurd (eqb-false _ _ (index-before test 0 (deviations net s t p) j (omega arith)) (sym e ∙ sym (deviations-at j (omega (arith, in-range)))))) (λ l. l) (eq-or-lt-of-le (deviation-le-figure (suc j) lo (omega (arith, in-range))))
