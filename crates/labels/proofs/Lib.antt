@@ -2,3 +2,4 @@ pub mod Stores
 pub mod ChainLaws
 pub mod QueueLaws
 pub mod SearchLaws
+pub mod ArcLaws

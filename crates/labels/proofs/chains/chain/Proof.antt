@@ -33,7 +33,7 @@ clear-requires c κs = tt
 
 -- src/chains.rt:26:5
 loop-holds : tie.Need-loop-holds Inv-loop μ-loop
-loop-holds c = (omega arith, refl, refl, rw (c .before .before .clear .ensures) (chained-none _ _ _))
+loop-holds c = (omega arith, refl, refl, rw (c .before .before .clear .ensures) (chained-none _ _ (length (c .before .before .before .before .before .before .before .args .first-in .now))))
 
 -- src/chains.rt:27:17
 mul-h : tie.Need-mul-h Inv-loop μ-loop
