@@ -36,6 +36,9 @@ pub record At (ts hs : List ℕ) (a b i : ℕ) : Type 0 where
   pub tail-is : getD ts i 0 ≡ a
   pub head-is : getD hs i 0 ≡ b
 
+pub at-index : (ts hs : List ℕ) (i : ℕ) → i < length ts → At ts hs (getD ts i 0) (getD hs i 0) i
+at-index ts hs i b = record { below = b; tail-is = refl; head-is = refl }
+
 at-suc : {t h a b i : ℕ} {ts hs : List ℕ} → At ts hs a b i → At (t ∷ ts) (h ∷ hs) a b (suc i)
 at-suc p = record { below = omega (arith, p .below); tail-is = p .tail-is; head-is = p .head-is }
 

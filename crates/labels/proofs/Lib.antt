@@ -3,3 +3,4 @@ pub mod ChainLaws
 pub mod QueueLaws
 pub mod SearchLaws
 pub mod ArcLaws
+pub mod LabelLaws
