@@ -7,7 +7,7 @@ use mathlib.Core.List.{List}
 use lib.ListN.{length, getD, set, replicate, length-set, length-replicate, List·getD-eq-default}
 use lib.Seq.{getD-set-same, getD-set-other, set-getD}
 use Rattle.labels.specs.Queue.{Listed, Marked, Taken, sum}
-use Rattle.labels.proofs.Stores.{set-each, set-once, sum-set, sum-le}
+use Rattle.labels.proofs.Stores.{set-each, set-once, sum-set, sum-le, sum-replicate, replicate-le}
 
 -- a dirty node has a place
 dirty-in : (d : List ℕ) (v : ℕ) → getD d v 0 ≡ 1 → v < length d
@@ -16,6 +16,19 @@ dirty-in d v e = by-case (decLt v (length d))
     by-case : Dec (v < length d) → v < length d
     by-case (yes h) = h
     by-case (no h) = absurd (omega (arith, List·getD-eq-default d 0 {n = v} (omega arith)))
+
+pub taken-in : {v count : ℕ} {d d′ q′ : List ℕ} → Taken v d d′ q′ count → v < length d
+taken-in {v} {d = d} t = dirty-in d v (t .was-dirty)
+
+-- no node is dirty
+pub none-listed : (n : ℕ) (q : List ℕ) → length q ≡ n → Listed (replicate n 0) q 0
+none-listed n q e = record {
+  room = simp length-replicate e;
+  flags = λ v. omega (arith, replicate-le n v 0);
+  counted = sym (sum-replicate n);
+  all-dirty = λ k h. absurd (omega arith);
+  once = λ j k h. absurd (omega arith);
+}
 
 module _ {d q : List ℕ} {count : ℕ} (l : Listed d q count) where
   pub fits-in : count ≤ length q

@@ -7,11 +7,12 @@ use mathlib.Core.Bool.{Bool, true, false}
 use mathlib.Core.List.{List}
 use lib.ListN.{length, getD, set, replicate, length-set, length-replicate, getD-replicate}
 use lib.Seq.{getD-set-same, getD-set-other}
+use Rattle.labels.specs.Arcs.{Arcs}
 use Rattle.labels.specs.Chains.{LastInto, Chains}
 use Rattle.labels.specs.Labels.{far}
-use Rattle.labels.specs.Queue.{Listed, sum}
-use Rattle.labels.specs.Search.{Relaxed, Visited, Input, Walked, Agrees, State, left}
-use Rattle.labels.proofs.Stores.{set-each, lower-le, sum-set}
+use Rattle.labels.specs.Queue.{Listed, Taken, sum}
+use Rattle.labels.specs.Search.{Relaxed, Visited, Fits, Input, Walked, Agrees, State, left}
+use Rattle.labels.proofs.Stores.{set-each, lower-le, sum-set, replicate-le}
 
 -- ---- an arc was visited
 module _ {t w rest : ℕ} {bars ls d ls′ d′ : List ℕ} (b : t < length ls) where
@@ -98,10 +99,18 @@ module _ {I : Input} {goal : ℕ} {ls d : List ℕ} {h : ℕ} where
     state-visited in-i into in-h in-t long e (Visited.marked (Relaxed.fell f less p) m) = rw (p, m, ← e) (state-fell in-i into in-h in-t long f (rw e less))
     state-visited in-i into in-h in-t long e (Visited.same (Relaxed.kept a p) m) = rw (p, m) (state-kept (λ f. let k = a f in omega (arith, e, ap (λ (v : ℕ). getD ls v 0) into)))
 
+  -- all arcs into h are done: then it is no matter which node it was
+  pub state-any : {k : ℕ} → State I goal ls d h 0 → State I goal ls d k 0
+  state-any s = record { at-goal = s .at-goal; at-most = s .at-most; attained = s .attained; settled = λ j b clean _. s .settled j b clean (λ _. omega arith) }
+
   -- h is taken: the arcs into it are to be relaxed
-  pub state-take : {g : ℕ} → h < length d → State I goal ls d g 0 → State I goal ls (set d h 0) h (length (I .tails))
-  state-take b s =
-      record { at-goal = s .at-goal; at-most = s .at-most; attained = s .attained; settled = λ j b′ clean later. s .settled j b′ (rw (getD-set-other d h (getD (I .heads) j 0) 0 0 (λ q. let p = later q in omega arith)) at clean) (λ _. omega arith) }
+  pub state-taken : {k count : ℕ} {d′ q′ : List ℕ} → Taken h d d′ q′ count → State I goal ls d k 0 → State I goal ls d′ h (length (I .tails))
+  state-taken t s = rw (t .flag) (record {
+    at-goal = s .at-goal;
+    at-most = s .at-most;
+    attained = s .attained;
+    settled = λ j b clean later. s .settled j b (rw (getD-set-other d h (getD (I .heads) j 0) 0 0 (λ q. let p = later q in omega arith)) at clean) (λ _. omega arith);
+  })
 
 -- ---- along a chain: the next arc has the head h, and those after it are done
 abbrev pub Along : Input → ℕ → List ℕ → List ℕ → ℕ → ℕ → Type 0
@@ -119,3 +128,33 @@ module _ {I : Input} {goal h : ℕ} {ls d first next : List ℕ} (chains : Chain
       let into = a .0 i e in
       let last = rw into at (chains .goes-on i (rw (sym (chains .next-long) ∙ long) in-i)) in
       (last .into, state-skip last (state-visited (rw e at (a .1)) in-i into in-h in-t same at-h v))
+
+-- ---- the first labels: all are the mark but the goal's, and only the goal is dirty
+pub state-start : (I : Input) (goal n : ℕ) → goal < n → ((i : ℕ) → i < length (I .tails) → getD (I .heads) i 0 < n) → State I goal (set (replicate n far) goal 0) (set (replicate n 0) goal 1) 0 0
+state-start I goal n b head-in = record {
+  at-goal = getD-set-same (replicate n far) goal 0 0 long;
+  at-most = top;
+  attained = λ v h. set-each (λ v x. v < n → x < far → Walked I goal v x) (replicate n far) goal 0 long (λ _ _. Walked.here) (λ v _ h k. absurd (omega (arith, getD-replicate n v far 0 h))) v (simp (length-set, length-replicate) at h);
+  settled = λ i h clean _ _.
+      let ne = not-marked (replicate n 0) goal (getD (I .heads) i 0) (simp length-replicate b) clean in
+      omega (arith, top (tail I i), getD-set-other (replicate n far) goal (getD (I .heads) i 0) 0 0 ne, getD-replicate n (getD (I .heads) i 0) far 0 (head-in i h));
+}
+  where
+    long : goal < length (replicate n far)
+    long = simp length-replicate b
+
+    top : (v : ℕ) → getD (set (replicate n far) goal 0) v 0 ≤ far
+    top = set-each (λ v x. x ≤ far) (replicate n far) goal 0 long (omega arith) (λ v _. replicate-le n v far)
+
+-- ---- chained arcs fit their nodes
+pub fits : {n : ℕ} {ts hs ws first next bars : List ℕ} → Arcs n ts hs ws → Chains hs first next → length first ≡ n + 1 → length bars ≡ n + 1 → Fits (n + 1) ts ws first next bars
+fits {n} {ts} {hs} a c e e′ = record {
+  weights-long = a .weights-long;
+  next-long = c .next-long ∙ a .heads-long;
+  first-long = e;
+  barred-long = e′;
+  few = omega (arith, a .few-nodes);
+  tail-in = λ i b. omega (arith, a .tail-to i b);
+  first-in = λ h b. omega (arith, c .starts h (omega arith) .within, a .heads-long);
+  next-in = λ i b. c .goes-on i (omega (arith, a .heads-long)) .within;
+}

@@ -57,7 +57,13 @@ unfolding sum
 sum-replicate zero = refl
 sum-replicate (suc n) = omega (arith, sum-replicate n)
 
--- ---- a list filled to its end
+-- ---- a list of one number
+pub replicate-le : (n i a : ℕ) → getD (replicate n a) i 0 ≤ a
+replicate-le zero i a = omega arith
+replicate-le (suc n) zero a = omega arith
+replicate-le (suc n) (suc i) a = replicate-le n i a
+
+-- a list filled to its end
 pub filled : (l m : List ℕ) (i v : ℕ) → i ≡ length m → l ≡ replicate i v ++ drop i m → l ≡ replicate (length m) v
 filled l m i v p e =
     e ∙ ap (λ (x : List ℕ). replicate i v ++ x) (drop-of-length-le m {i = i} (omega arith)) ∙ append-nil (replicate i v) ∙ ap (λ (n : ℕ). replicate n v) p

@@ -4,7 +4,6 @@ ghost use Prim.Native.Nat.{_≤_, _<_};
 ghost use lib.ListN.{length};
 ghost use Rattle.labels.specs.Queue.{Listed};
 ghost use Rattle.labels.specs.Search.{Relaxed, Visited, Fits, Spread};
-
 use crate::queue::mark;
 
 // Lowers the label of t where an arc of weight w to a node with the label rest gives a smaller one

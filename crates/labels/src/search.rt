@@ -7,8 +7,8 @@ ghost use Rattle.labels.specs.Arcs.{graph, Arcs};
 ghost use Rattle.labels.specs.Chains.{Chains};
 ghost use Rattle.labels.specs.Labels.{far, Least};
 ghost use Rattle.labels.specs.Search.{Fits, Room};
-
-use crate::queue::{mark, take};
+use crate::queue::mark;
+use crate::queue::take;
 use crate::relax::spread;
 
 // The label of a node from which no way leads to the goal.
@@ -49,6 +49,17 @@ pub fn least(
     let mut count = mark(goal, dirty, queue, 0);
     while count != 0 {
         let h = take(dirty, queue, count, labels);
-        count = spread(tails, weights, first_in, next_in, barred, h, dirty, queue, count - 1, labels);
+        count = spread(
+            tails,
+            weights,
+            first_in,
+            next_in,
+            barred,
+            h,
+            dirty,
+            queue,
+            count - 1,
+            labels,
+        );
     }
 }
