@@ -1,17 +1,17 @@
 -- The graph of three arrays: its arcs are the indices, its weights those of the third array, and its paths do not cost much. Assumes nothing.
-use Prim.Native.Nat.{ℕ, zero, suc, _+_, _*_, _≤_, _<_}
+use Prim.Native.Nat.{ℕ, zero, suc, _*_, _≤_, _<_}
 use native.Mathlib.Omega.{arith}
-use native.Mathlib.Nat.{mul-zero, mul-suc, mul-le-mul-left}
-use mathlib.Core.Path.{_≡_, refl, sym, ap, _∙_}
-use mathlib.Core.Bool.{Bool, true, false, _&&_, cond}
+use native.Mathlib.Nat.{mul-suc, mul-le-mul-left}
+use mathlib.Core.Path.{_≡_, refl, sym}
+use mathlib.Core.Bool.{true, false, _&&_, cond}
 use mathlib.Core.Logic.{_⊎_, inl, inr, ⊎-elim}
 use mathlib.Core.List.{List, [], _∷_, map, tail, List·Memᴰ·cases-cons}
 use lib.Dec.{eqb}
 use lib.ListN.{length, getD}
-use borrow.Author.Tests.{eqb-true, eq-eqb, ne-eqb}
-use Rattle.terms.specs.Lists.{_∈_, elem, keep, last}
+use borrow.Author.Tests.{eqb-true, eq-eqb}
+use Rattle.terms.specs.Lists.{_∈_, elem, keep}
 use Rattle.terms.specs.Network.{Arc, Graph, heads, linked, weight}
-use Rattle.terms.specs.Paths.{Route, Path, ByArcs, single, along, cost, cost-from}
+use Rattle.terms.specs.Paths.{Route, Path, ByArcs, along, cost, cost-from}
 use Rattle.terms.proofs.ListLaws.{split, clash, or-cases, or-right, and-both, by-cond, of-cond}
 use Rattle.terms.proofs.PathLaws.{Within, of-path, at-most-nodes}
 use Rattle.labels.specs.Arcs.{graph, Arcs}

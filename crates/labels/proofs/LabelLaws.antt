@@ -3,16 +3,16 @@ use Prim.Native.Nat.{ℕ, _+_, _*_, _≤_, _<_}
 use native.Mathlib.Omega.{arith}
 use native.Mathlib.Nat.{le-antisymm}
 use native.Mathlib.Decide.{decLt}
-use mathlib.Core.Path.{_≡_, refl, sym, ap, _∙_, subst}
-use mathlib.Core.Bool.{Bool, true, false, not}
+use mathlib.Core.Path.{_≡_, refl, ap, _∙_}
+use mathlib.Core.Bool.{true, false, not}
 use mathlib.Core.Logic.{⊎-elim}
 use mathlib.Core.List.{List, [], _∷_, tail, List·Memᴰ·head, List·Memᴰ·tail, List·Memᴰ·cases-cons, List·Memᴰ·not-nil}
 use lib.Dec.{eqb}
 use lib.ListN.{length, getD, List·getD-eq-default}
-use borrow.Author.Tests.{eq-eqb, eqb-true, ne-eqb}
+use borrow.Author.Tests.{eq-eqb, eqb-true}
 use Rattle.terms.specs.Lists.{_∈_, elem, keep, last, numbers}
 use Rattle.terms.specs.Network.{Graph, linked, weight}
-use Rattle.terms.specs.Paths.{Route, Path, ByArcs, single, along, cost, cost-from, paths}
+use Rattle.terms.specs.Paths.{Route, Path, ByArcs, along, cost, cost-from, paths}
 use Rattle.terms.specs.Regret.{best, label, mark}
 use Rattle.terms.proofs.ListLaws.{split, clash, elem-mem, mem-elem, outside-cons, mem-keep, keep-mem, mem-numbers}
 use Rattle.terms.proofs.PathLaws.{starts, later-unmet, to-path, listed-path, path-listed}
@@ -20,7 +20,7 @@ use Rattle.terms.proofs.PrefixLaws.{rebar, Walk, stop, go, shorten}
 use Rattle.terms.proofs.RegretLaws.{best-is, label-reached, label-unreached}
 use Rattle.labels.specs.Arcs.{graph, heaviest, Arcs}
 use Rattle.labels.specs.Labels.{far, FreePath, Least}
-use Rattle.labels.specs.Search.{Input, input, Walked, State}
+use Rattle.labels.specs.Search.{input, Walked, State}
 use Rattle.labels.proofs.ArcLaws.{at-index, linked-at, at-linked, at-weight, graph-within, later-within, path-cost-le}
 
 -- ---- flags as a list of nodes
@@ -40,6 +40,28 @@ module _ (bars : List ℕ) (x : ℕ) where
       by-place : eqb (getD bars x 0) 0 ≡ false → Dec (x < length bars) → getD bars x 0 ≡ 0
       by-place h (yes b) = clash (mem-elem (mem-keep (λ (y : ℕ). not (eqb (getD bars y 0) 0)) (mem-numbers 0 (length bars) x (omega arith) (omega arith)) (rw h))) e
       by-place h (no b) = List·getD-eq-default bars 0 {n = x} (omega arith)
+
+-- ---- walks that meet no barred node
+module _ {g : Graph} {t : ℕ} (bars : List ℕ) where
+  -- a path is one
+  path-walk : (v : ℕ) (p : List ℕ) → last v p ≡ t → ByArcs g (v ∷ p) → ((x : ℕ) → x ∈ v ∷ p → getD bars x 0 ≡ 0) → Walk g t (barred-nodes bars) v (cost-from g v p)
+  unfolding last cost-from
+  path-walk v [] e b f = stop e
+  path-walk v (h ∷ p) e (along a b) f = go a (free-outside bars h (f h (List·Memᴰ·tail (List·Memᴰ·head refl)))) (path-walk h p e b (λ x m. f x (List·Memᴰ·tail m)))
+
+  free-walk : {v : ℕ} {p : Route} → FreePath g bars v t p → Walk g t (barred-nodes bars) v (cost g p)
+  unfolding last cost
+  free-walk {v} {p} r =
+      let e = r .path .from-start in
+      rw e (path-walk v (tail p) (rw e at (r .path .to-goal)) (rw e at (r .path .by-arcs)) (rw e at (r .free)))
+
+  -- and each can be cut to a path that costs no more
+  cut : {v c : ℕ} → getD bars v 0 ≡ 0 → Walk g t (barred-nodes bars) v c → (p : Route) × FreePath g bars v t p × (cost g p ≤ c)
+  unfolding elem
+  cut {v} f w =
+      let r = shorten w in
+      let node : (x : ℕ) → x ∈ r .0 → getD bars x 0 ≡ 0 = λ x m. ⊎-elim (λ e. rw e f) (λ k. outside-free bars x (outside-cons x v (barred-nodes bars) (later-unmet (r .1) k) .1)) (List·Memᴰ·cases-cons (rw (starts (r .1)) at m)) in
+      (r .0, record { path = to-path (rebar [] (λ x m u. refl) (r .1)); free = node }, r .2)
 
 -- ---- the labels when no node is dirty
 module _ {n goal : ℕ} {ts hs ws bars ls d : List ℕ} (arcs : Arcs n ts hs ws) (free : getD bars goal 0 ≡ 0) (s : State (input ts hs ws bars) goal ls d 0 0) (clean : (v : ℕ) → getD d v 0 ≡ 0) where
@@ -62,24 +84,20 @@ module _ {n goal : ℕ} {ts hs ws bars ls d : List ℕ} (arcs : Arcs n ts hs ws)
       let e = r .path .from-start in
       rw e (below-cost v (tail p) (rw e at (r .path .to-goal)) (rw e at (r .path .by-arcs)) (rw e at (r .free)))
 
-  -- a walk is one of terms, from a node that is not barred
-  free-walk : {v c : ℕ} → Walked (input ts hs ws bars) goal v c → (getD bars v 0 ≡ 0) × Walk (graph ts hs ws) goal (barred-nodes bars) v c
-  free-walk Walked.here = (free, stop refl)
-  free-walk (Walked.along i {c} b f w) =
-      let r = free-walk w in
+  -- a label is the cost of a walk
+  walk-of : {v c : ℕ} → Walked (input ts hs ws bars) goal v c → (getD bars v 0 ≡ 0) × Walk (graph ts hs ws) goal (barred-nodes bars) v c
+  walk-of Walked.here = (free, stop refl)
+  walk-of (Walked.along i {c} b f w) =
+      let r = walk-of w in
       let at = at-index ts hs i b in
       (f, rw (← at-weight arcs at) (go (at-linked arcs at) (free-outside bars (getD hs i 0) (r .0)) (r .1)))
 
-  -- and can be cut to a path that costs no more, hence just as much
+  -- and the path that it is cut to costs as much
   attained : (v : ℕ) → v < length ls → getD ls v 0 < far → (p : Route) × FreePath (graph ts hs ws) bars v goal p × (cost (graph ts hs ws) p ≡ getD ls v 0)
   attained v b k =
-      let w = free-walk (s .attained v b k) in
-      let r = shorten (w .1) in
-      let path : FreePath (graph ts hs ws) bars v goal (r .0) = record {
-        path = to-path (rebar [] (λ x m u. unfold elem in refl) (r .1));
-        free = λ x m. ⊎-elim (λ e. rw e (w .0)) (λ m′. outside-free bars x (outside-cons x v (barred-nodes bars) (later-unmet (r .1) m′) .1)) (List·Memᴰ·cases-cons (rw (starts (r .1)) at m));
-      } in
-      (r .0, path, le-antisymm (r .2) (below-path path))
+      let w = walk-of (s .attained v b k) in
+      let r = cut bars (w .0) (w .1) in
+      (r .0, r .1, le-antisymm (r .2) (below-path (r .1)))
 
   pub exact : Least (graph ts hs ws) bars goal ls
   exact = record {
@@ -89,6 +107,19 @@ module _ {n goal : ℕ} {ts hs ws bars ls d : List ℕ} (arcs : Arcs n ts hs ws)
   }
 
 -- ---- what exact labels say
+module _ {g : Graph} {bars ls : List ℕ} {t : ℕ} (l : Least g bars t ls) where
+  pub least-goal : getD bars t 0 ≡ 0 → getD ls t 0 ≡ 0
+  unfolding cost cost-from
+  least-goal f = let r = cut {g = g} {t = t} bars {v = t} f (stop refl) in omega (arith, l .least t (r .0) (r .1) .0, r .2)
+
+  -- no arc can lower a label
+  pub least-along : (a b : ℕ) → linked g a b ≡ true → getD bars a 0 ≡ 0 → b < length ls → getD ls b 0 < far → (getD ls a 0 ≤ weight g a b + getD ls b 0) × (getD ls a 0 < far)
+  least-along a b e f long k =
+      let p = l .attained b long k in
+      let r = cut bars f (go e (free-outside bars b (p .1 .free b (rw (p .1 .path .from-start) (List·Memᴰ·head refl)))) (free-walk bars (p .1))) in
+      let q = l .least a (r .0) (r .1) in
+      (omega (arith, q .0, r .2, p .2), q .1)
+
 module _ {n t : ℕ} {ts hs ws bars ls : List ℕ} (arcs : Arcs n ts hs ws) (l : Least (graph ts hs ws) bars t ls) where
   -- a label is small, or the mark
   pub label-le : (w : ℕ) → ((i : ℕ) → i < length ts → getD ws i 0 ≤ w) → (v : ℕ) → v < length ls → getD ls v 0 < far → getD ls v 0 ≤ 199 * w

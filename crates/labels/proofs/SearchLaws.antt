@@ -1,9 +1,8 @@
 -- How the labels change while arcs are relaxed: what holds of them is kept, and what is left to do falls. Assumes nothing.
-use Prim.Native.Nat.{ℕ, _+_, _*_, _≤_, _<_}
+use Prim.Native.Nat.{ℕ, _+_, _≤_, _<_}
 use native.Mathlib.Omega.{arith}
 use native.Mathlib.Decide.{ℕ-discrete, decLe}
 use mathlib.Core.Path.{_≡_, refl, sym, ap, _∙_}
-use mathlib.Core.Bool.{Bool, true, false}
 use mathlib.Core.List.{List}
 use lib.ListN.{length, getD, set, replicate, length-set, length-replicate, getD-replicate}
 use lib.Seq.{getD-set-same, getD-set-other}
@@ -11,7 +10,7 @@ use Rattle.labels.specs.Arcs.{Arcs}
 use Rattle.labels.specs.Chains.{LastInto, Chains}
 use Rattle.labels.specs.Labels.{far}
 use Rattle.labels.specs.Queue.{Listed, Taken, sum}
-use Rattle.labels.specs.Search.{Relaxed, Visited, Fits, Input, Walked, Agrees, State, left}
+use Rattle.labels.specs.Search.{Relaxed, Visited, Arrays, Input, Walked, Agrees, State, left}
 use Rattle.labels.proofs.Stores.{set-each, lower-le, sum-set, replicate-le}
 
 -- ---- an arc was visited
@@ -99,12 +98,12 @@ module _ {I : Input} {goal : ℕ} {ls d : List ℕ} {h : ℕ} where
     state-visited in-i into in-h in-t long e (Visited.marked (Relaxed.fell f less p) m) = rw (p, m, ← e) (state-fell in-i into in-h in-t long f (rw e less))
     state-visited in-i into in-h in-t long e (Visited.same (Relaxed.kept a p) m) = rw (p, m) (state-kept (λ f. let k = a f in omega (arith, e, ap (λ (v : ℕ). getD ls v 0) into)))
 
-  -- all arcs into h are done: then it is no matter which node it was
-  pub state-any : {k : ℕ} → State I goal ls d h 0 → State I goal ls d k 0
-  state-any s = record { at-goal = s .at-goal; at-most = s .at-most; attained = s .attained; settled = λ j b clean _. s .settled j b clean (λ _. omega arith) }
+  -- all arcs into h are done: then it does not matter which node it was
+  pub state-done : {k : ℕ} → k ≡ 0 → State I goal ls d h k → State I goal ls d 0 0
+  state-done e s = record { at-goal = s .at-goal; at-most = s .at-most; attained = s .attained; settled = λ j b clean _. s .settled j b clean (λ _. omega arith) }
 
   -- h is taken: the arcs into it are to be relaxed
-  pub state-taken : {k count : ℕ} {d′ q′ : List ℕ} → Taken h d d′ q′ count → State I goal ls d k 0 → State I goal ls d′ h (length (I .tails))
+  pub state-taken : {count : ℕ} {d′ q′ : List ℕ} → Taken h d d′ q′ count → State I goal ls d 0 0 → State I goal ls d′ h (length (I .tails))
   state-taken t s = rw (t .flag) (record {
     at-goal = s .at-goal;
     at-most = s .at-most;
@@ -146,9 +145,9 @@ state-start I goal n b head-in = record {
     top : (v : ℕ) → getD (set (replicate n far) goal 0) v 0 ≤ far
     top = set-each (λ v x. x ≤ far) (replicate n far) goal 0 long (omega arith) (λ v _. replicate-le n v far)
 
--- ---- chained arcs fit their nodes
-pub fits : {n : ℕ} {ts hs ws first next bars : List ℕ} → Arcs n ts hs ws → Chains hs first next → length first ≡ n + 1 → length bars ≡ n + 1 → Fits (n + 1) ts ws first next bars
-fits {n} {ts} {hs} a c e e′ = record {
+-- ---- the arrays of chained arcs between nodes 1 to n
+pub arrays-of : {n : ℕ} {ts hs ws first next bars : List ℕ} → Arcs n ts hs ws → Chains hs first next → length first ≡ n + 1 → length bars ≡ n + 1 → Arrays (n + 1) ts ws first next bars
+arrays-of {n} {ts} {hs} a c e e′ = record {
   weights-long = a .weights-long;
   next-long = c .next-long ∙ a .heads-long;
   first-long = e;

@@ -1,5 +1,5 @@
 -- A graph kept in three arrays: arc i goes from tails[i] to heads[i] at the cost weights[i]. Assumes nothing.
-use Prim.Native.Nat.{ℕ, _+_, _≤_, _<_}
+use Prim.Native.Nat.{ℕ, _≤_, _<_}
 use mathlib.Core.Path.{_≡_}
 use mathlib.Core.List.{List, [], _∷_}
 use lib.ListN.{length, getD}

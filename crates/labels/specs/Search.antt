@@ -20,8 +20,8 @@ pub data Visited (t w rest : ℕ) (bars ls dirty ls′ dirty′ : List ℕ) : Ty
   same : Relaxed t w rest bars ls ls′ false → dirty′ ≡ dirty → Visited t w rest bars ls dirty ls′ dirty′
 
 -- ---- the arrays
--- chained arcs among nodes that have places below k
-pub record Fits (k : ℕ) (ts ws first next bars : List ℕ) : Type 0 where
+-- chained arcs, and a flag for each node, where nodes have the places below k
+pub record Arrays (k : ℕ) (ts ws first next bars : List ℕ) : Type 0 where
   pub weights-long : length ws ≡ length ts
   pub next-long : length next ≡ length ts
   pub first-long : length first ≡ k
@@ -31,12 +31,15 @@ pub record Fits (k : ℕ) (ts ws first next bars : List ℕ) : Type 0 where
   pub first-in : (h : ℕ) → h < k → getD first h 0 ≤ length ts
   pub next-in : (i : ℕ) → i < length ts → getD next i 0 ≤ i
 
--- room for the dirty nodes, and a goal that is not barred
-pub record Room (k goal : ℕ) (bars dirty queue : List ℕ) : Type 0 where
-  pub goal-in : goal < k
-  pub goal-free : getD bars goal 0 ≡ 0
+-- room for the dirty nodes
+pub record Room (k : ℕ) (dirty queue : List ℕ) : Type 0 where
   pub dirty-long : length dirty ≡ k
   pub queue-long : length queue ≡ k
+
+-- a goal that is not barred
+pub record Goal (k goal : ℕ) (bars : List ℕ) : Type 0 where
+  pub place : goal < k
+  pub free : getD bars goal 0 ≡ 0
 
 -- ---- the loop
 -- what the loop reads: arcs, and a flag for each node, 0 if the node may be used
@@ -75,4 +78,4 @@ left ls count = 2 * sum ls + count
 pub record Spread (h : ℕ) (ts ws first next bars ls dirty : List ℕ) (count : ℕ) (ls′ dirty′ queue′ : List ℕ) (count′ : ℕ) : Type 0 where
   pub listed : Listed dirty′ queue′ count′
   pub falls : left ls′ count′ ≤ left ls count
-  pub keeps : (hs : List ℕ) (t : ℕ) → Chains hs first next → State (input ts hs ws bars) t ls dirty h (length ts) → State (input ts hs ws bars) t ls′ dirty′ h 0
+  pub keeps : (hs : List ℕ) (t : ℕ) → Chains hs first next → State (input ts hs ws bars) t ls dirty h (length ts) → State (input ts hs ws bars) t ls′ dirty′ 0 0

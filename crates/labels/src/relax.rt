@@ -3,7 +3,7 @@ ghost use mathlib.Core.Path.{_≡_};
 ghost use Prim.Native.Nat.{_≤_, _<_};
 ghost use lib.ListN.{length};
 ghost use Rattle.labels.specs.Queue.{Listed};
-ghost use Rattle.labels.specs.Search.{Relaxed, Visited, Fits, Spread};
+ghost use Rattle.labels.specs.Search.{Relaxed, Visited, Arrays, Spread};
 use crate::queue::mark;
 
 // Lowers the label of t where an arc of weight w to a node with the label rest gives a smaller one
@@ -63,7 +63,7 @@ pub fn spread(
     count: usize,
     labels: &mut [u64],
 ) -> usize
-    requires { ⌜ Fits (length (now labels)) (now tails) (now weights) (now «first_in») (now «next_in») (now barred) ⌝ }
+    requires { ⌜ Arrays (length (now labels)) (now tails) (now weights) (now «first_in») (now «next_in») (now barred) ⌝ }
     requires { ⌜ (h < length (now labels)) × (length (now dirty) ≡ length (now labels)) ⌝ }
     requires { ⌜ Listed (now dirty) (now queue) count ⌝ }
     ensures { λ r. ⌜ Spread h (now (tails .entry)) (now (weights .entry)) (now («first_in» .entry)) (now («next_in» .entry)) (now (barred .entry)) (now (labels .entry)) (now (dirty .entry)) count (now (labels .exit)) (now (dirty .exit)) (now (queue .exit)) r ⌝ }

@@ -1,12 +1,12 @@
 // The labels: nodes whose label fell are dirty, and while there is one, the arcs into it are relaxed.
 ghost use mathlib.Core.Path.{_≡_};
 ghost use mathlib.Core.List.{List};
-ghost use Prim.Native.Nat.{ℕ, _≤_, _<_};
-ghost use lib.ListN.{length, getD, replicate};
+ghost use Prim.Native.Nat.{ℕ, _<_};
+ghost use lib.ListN.{length, replicate};
 ghost use Rattle.labels.specs.Arcs.{graph, Arcs};
 ghost use Rattle.labels.specs.Chains.{Chains};
 ghost use Rattle.labels.specs.Labels.{far, Least};
-ghost use Rattle.labels.specs.Search.{Fits, Room};
+ghost use Rattle.labels.specs.Search.{Arrays, Goal, Room};
 use crate::queue::mark;
 use crate::queue::take;
 use crate::relax::spread;
@@ -40,8 +40,9 @@ pub fn least(
     queue: &mut [u16],
     labels: &mut [u64],
 )
-    requires { ⌜ Fits (length (now labels)) (now tails) (now weights) (now «first_in») (now «next_in») (now barred) ⌝ }
-    requires { ⌜ Room (length (now labels)) goal (now barred) (now dirty) (now queue) ⌝ }
+    requires { ⌜ Arrays (length (now labels)) (now tails) (now weights) (now «first_in») (now «next_in») (now barred) ⌝ }
+    requires { ⌜ Goal (length (now labels)) goal (now barred) ⌝ }
+    requires { ⌜ Room (length (now labels)) (now dirty) (now queue) ⌝ }
     ensures { λ _. ⌜ ((n : ℕ) (hs : List ℕ) → Arcs n (now (tails .entry)) hs (now (weights .entry)) → Chains hs (now («first_in» .entry)) (now («next_in» .entry)) → Least (graph (now (tails .entry)) hs (now (weights .entry))) (now (barred .entry)) goal (now (labels .exit))) ⌝ }
 {
     reset(dirty, labels);

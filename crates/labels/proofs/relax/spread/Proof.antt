@@ -1,18 +1,17 @@
+-- `relax::spread` follows the chain of h, and the link falls. The loop: the arcs into h from the link on are done, and the label of h is kept.
+-- Assumes nothing.
 use Rattle.labels.proofs.relax.spread.Statement.{statement}
 use Rattle.labels.proofs.relax.spread.Tie as tie
-use Rattle.labels.proofs.relax.spread.Reads as reads
-use Rattle.labels.proofs.relax.spread.Lts as lts
-use mathlib.Core.Path.{_≡_, refl, sym, _∙_}
+use mathlib.Core.Path.{_≡_, refl}
 use mathlib.Core.List.{List}
-use Prim.Native.Nat.{ℕ, _+_, _-_, _≤_, _<_}
+use Prim.Native.Nat.{ℕ, _-_, _≤_, _<_}
 use native.Mathlib.Omega.{arith}
 use native.Mathlib.Nat.{le-refl}
 use lib.ListN.{length, getD}
 use Rattle.labels.specs.Chains.{Chains}
 use Rattle.labels.specs.Queue.{Listed}
 use Rattle.labels.specs.Search.{input, State, left}
-use Rattle.labels.proofs.SearchLaws.{Along, chain-start, chain-next, visited-falls, visited-rest}
-use Rattle.labels.proofs.relax.visit.Reads as visit-reads
+use Rattle.labels.proofs.SearchLaws.{Along, state-done, chain-start, chain-next, visited-falls, visited-rest}
 
 abbrev Inv-loop : tie.InvT-loop
 Inv-loop tails weights first-in next-in barred h dirty₀ queue₀ count labels₀ rest filled₀ link₀ dirty queue labels filled link =
@@ -44,83 +43,65 @@ arc c = c .loop .link - 1
 tail-in : (c : tie.In-loop Inv-loop μ-loop) → getD (entry (c .before) .args .tails .now) (arc (c .before)) 0 < length (c .before .loop .labels)
 tail-in c = omega (arith, entry (c .before) .pre .0 .tail-in (arc (c .before)) (omega arith), c .before .loop .inv .3)
 
--- src/relax.rt:72:16
 mul-rest : tie.Need-mul-rest Inv-loop μ-loop
 mul-rest c = omega arith
 
--- src/relax.rt:72:16
 slice-read-rest : tie.Need-slice-read-rest Inv-loop μ-loop
 slice-read-rest c = omega arith
 
--- src/relax.rt:74:20
 mul-link : tie.Need-mul-link Inv-loop μ-loop
 mul-link c = omega (arith, c .before .before .before .before .before .before .before .before .before .pre .0 .first-long)
 
--- src/relax.rt:74:20
 shared-slice-read-link : tie.Need-shared-slice-read-link Inv-loop μ-loop
 shared-slice-read-link c = omega (arith, first c .pre .0 .first-long)
 
--- src/relax.rt:74:20
 cast-link : tie.Need-cast-link Inv-loop μ-loop
 cast-link c = omega (arith, c .shared-slice-known6 .given (first c .args .h))
 
--- src/relax.rt:75:5
 loop-holds : tie.Need-loop-holds Inv-loop μ-loop
 loop-holds c =
     let p = first c .pre in
     (p .0 .first-in _ (p .1 .0 .0), p .1 .0 .1, refl, refl, p .1 .1, le-refl _, refl, λ hs t ch s. chain-start ch (p .0 .next-long) (rw (p .0 .first-long) (p .1 .0 .0)) s)
 
--- src/relax.rt:76:17
 sub-i : tie.Need-sub-i Inv-loop μ-loop
 sub-i c = omega arith
 
--- src/relax.rt:77:17
 mul-t : tie.Need-mul-t Inv-loop μ-loop
 mul-t c = omega arith
 
--- src/relax.rt:77:17
 shared-slice-read-t : tie.Need-shared-slice-read-t Inv-loop μ-loop
 shared-slice-read-t c = omega arith
 
--- src/relax.rt:77:17
 cast-t : tie.Need-cast-t Inv-loop μ-loop
 cast-t c = omega (arith, c .shared-slice-known7 .given (arc (c .before .before)))
 
--- src/relax.rt:78:27
 mul-visit : tie.Need-mul-visit Inv-loop μ-loop
 mul-visit c = omega arith
 
--- src/relax.rt:78:27
 shared-slice-read-visit : tie.Need-shared-slice-read-visit Inv-loop μ-loop
 shared-slice-read-visit c = omega arith
 
--- src/relax.rt:78:9
 visit-requires : tie.Need-visit-requires Inv-loop μ-loop
 visit-requires c κs =
     let l = head c in
     let f = entry l .pre .0 in
     ((tail-in (c .before .before .before .before .before), omega (arith, f .barred-long)), ((omega arith, omega (arith, f .few)), l .loop .inv .4))
 
--- src/relax.rt:79:16
 mul-link-2 : tie.Need-mul-link-2 Inv-loop μ-loop
 mul-link-2 c = omega arith
 
--- src/relax.rt:79:16
 shared-slice-read-link-2 : tie.Need-shared-slice-read-link-2 Inv-loop μ-loop
 shared-slice-read-link-2 c = omega arith
 
--- src/relax.rt:79:16
 cast-link-2 : tie.Need-cast-link-2 Inv-loop μ-loop
 cast-link-2 c = omega (arith, c .shared-slice-known9 .given (arc (head (visited c .before))))
 
--- src/relax.rt:75:5
 loop-less : tie.Need-loop-less Inv-loop μ-loop
 loop-less c =
     let v = visited c in
     let l = head (v .before) in
     omega (arith, entry l .pre .0 .next-in (arc l) (omega arith), l .loop .inv .0)
 
--- src/relax.rt:75:5
 loop-again : tie.Need-loop-again Inv-loop μ-loop
 loop-again c =
     let v = visited c in
@@ -139,23 +120,19 @@ loop-again c =
       λ hs g ch s. chain-next ch (p .0 .next-long) (omega arith) (omega arith) (omega arith) t same (i .6) (v .visit .ensures .0) (i .7 hs g ch s),
     )
 
--- src/relax.rt:55:1
 same-length : tie.Need-same-length Inv-loop μ-loop
 same-length c = omega arith
 
--- src/relax.rt:55:1
 same-length-2 : tie.Need-same-length-2 Inv-loop μ-loop
 same-length-2 c = omega arith
 
--- src/relax.rt:55:1
 same-length-3 : tie.Need-same-length-3 Inv-loop μ-loop
 same-length-3 c = omega arith
 
--- src/relax.rt:55:1
 returns : tie.Need-returns Inv-loop μ-loop
 returns c =
     let i = c .before .loop .inv in
-    record { listed = i .4; falls = i .5; keeps = λ hs t ch s. rw (c .loop-test .left) at (i .7 hs t ch s .1) }
+    record { listed = i .4; falls = i .5; keeps = λ hs t ch s. state-done (c .loop-test .left) (i .7 hs t ch s .1) }
 
 pub spread-spec : {M : Type 1} → statement M
 spread-spec =

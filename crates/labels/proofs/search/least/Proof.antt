@@ -1,10 +1,10 @@
+-- `search::least` ends with no dirty node, and then the labels are exact. The loop: the dirty nodes are listed, and the labels are right but for the
+-- arcs into them; with each node taken twice the sum of the labels and the number of dirty nodes fall. Assumes nothing.
 use Rattle.labels.proofs.search.least.Statement.{statement}
 use Rattle.labels.proofs.search.least.Tie as tie
-use Rattle.labels.proofs.search.least.Reads as reads
-use Rattle.labels.proofs.search.least.Lts as lts
-use mathlib.Core.Path.{_≡_, refl, sym, _∙_}
+use mathlib.Core.Path.{_≡_, refl, _∙_}
 use mathlib.Core.List.{List}
-use Prim.Native.Nat.{ℕ, _≤_, _<_}
+use Prim.Native.Nat.{ℕ}
 use native.Mathlib.Omega.{arith}
 use lib.ListN.{length, length-set}
 use Rattle.labels.specs.Chains.{Chains}
@@ -12,12 +12,8 @@ use Rattle.labels.specs.Queue.{Listed}
 use Rattle.labels.specs.Search.{input, State, left}
 use Rattle.labels.proofs.Stores.{sum-zero}
 use Rattle.labels.proofs.QueueLaws.{none-listed, taken-in}
-use Rattle.labels.proofs.SearchLaws.{state-start, state-any, state-taken}
+use Rattle.labels.proofs.SearchLaws.{state-start, state-taken}
 use Rattle.labels.proofs.LabelLaws.{exact}
-use Rattle.labels.proofs.queue.mark.Reads as mark-reads
-use Rattle.labels.proofs.queue.take.Reads as take-reads
-use Rattle.labels.proofs.relax.spread.Reads as spread-reads
-use Rattle.labels.proofs.search.reset.Reads as reset-reads
 
 abbrev Inv-loop : tie.InvT-loop
 Inv-loop tails weights first-in next-in barred goal dirty₀ queue₀ labels₀ count₀ dirty queue labels count =
@@ -54,26 +50,21 @@ taken c = c .before .before .before .before .before .before .before
 abbrev done : tie.After-slice-known12 Inv-loop μ-loop → tie.After-spread Inv-loop μ-loop
 done c = c .before .before .before .before .before .before
 
--- src/search.rt:47:5
 reset-requires : tie.Need-reset-requires Inv-loop μ-loop
-reset-requires c κs = c .before .before .before .before .before .before .before .before .before .before .pre .1 .dirty-long
+reset-requires c κs = c .before .before .before .before .before .before .before .before .before .before .pre .1 .1 .dirty-long
 
--- src/search.rt:48:5
 mul-labels : tie.Need-mul-labels Inv-loop μ-loop
 mul-labels c = let r = c .before .before .before .before in omega (arith, r .reset .kept, entry r .pre .1)
 
--- src/search.rt:48:5
 slice-write-labels : tie.Need-slice-write-labels Inv-loop μ-loop
 slice-write-labels c = let r = c .before .before .before .before in omega (arith, r .reset .kept, entry r .pre .1)
 
--- src/search.rt:49:9
 mark-requires : tie.Need-mark-requires Inv-loop μ-loop
 mark-requires c κs =
     let r = cleared c in
     let p = entry r .pre in
     (rw (r .reset .ensures .0) (none-listed (length (entry r .args .dirty .now)) _ (omega (arith, p .1))), (omega (arith, r .reset .kept, p .1), omega (arith, r .reset .kept, p .1, p .0 .few)))
 
--- src/search.rt:50:5
 loop-holds : tie.Need-loop-holds Inv-loop μ-loop
 loop-holds c =
     let m = c .before .before .before .before in
@@ -83,33 +74,28 @@ loop-holds c =
       refl,
       refl,
       m .mark .ensures .listed,
-      λ hs ch. rw (m .mark .ensures .flag, r .reset .ensures .0, r .reset .ensures .1, p .1 .dirty-long)
-          (state-start (input (entry r .args .tails .now) hs (entry r .args .weights .now) (entry r .args .barred .now)) (entry r .args .goal) (length (entry r .args .labels .now)) (p .1 .goal-in) (λ i b. omega (arith, ch .head-in i (omega (arith, ch .next-long, p .0 .next-long)), p .0 .first-long))),
+      λ hs ch. rw (m .mark .ensures .flag, r .reset .ensures .0, r .reset .ensures .1, p .1 .1 .dirty-long)
+          (state-start (input (entry r .args .tails .now) hs (entry r .args .weights .now) (entry r .args .barred .now)) (entry r .args .goal) (length (entry r .args .labels .now)) (p .1 .0 .place) (λ i b. omega (arith, ch .head-in i (omega (arith, ch .next-long, p .0 .next-long)), p .0 .first-long))),
     )
 
--- src/search.rt:51:13
 take-requires : tie.Need-take-requires Inv-loop μ-loop
 take-requires c κs = let l = c .before .before .before .before in (l .loop .inv .3, (omega arith, omega arith))
 
--- src/search.rt:52:84
 sub-spread : tie.Need-sub-spread Inv-loop μ-loop
 sub-spread c = omega arith
 
--- src/search.rt:52:9
 spread-requires : tie.Need-spread-requires Inv-loop μ-loop
 spread-requires c κs =
     let t = taken c in
     let l = head t in
     (rw (long l) (start l .pre .0), ((omega (arith, taken-in (t .take .ensures)), omega (arith, t .take .kept)), t .take .ensures .listed))
 
--- src/search.rt:50:5
 loop-less : tie.Need-loop-less Inv-loop μ-loop
 loop-less c =
     let d = done c in
     let t = taken (d .before) in
     omega (arith, d .spread .ensures .falls)
 
--- src/search.rt:50:5
 loop-again : tie.Need-loop-again Inv-loop μ-loop
 loop-again c =
     let d = done c in
@@ -120,26 +106,22 @@ loop-again c =
       omega (arith, d .spread .kept, t .take .kept, i),
       omega (arith, d .spread .kept, i),
       d .spread .ensures .listed,
-      λ hs ch. state-any (d .spread .ensures .keeps hs _ ch (state-taken (t .take .ensures) (i .4 hs ch))),
+      λ hs ch. d .spread .ensures .keeps hs _ ch (state-taken (t .take .ensures) (i .4 hs ch)),
     )
 
--- src/search.rt:32:1
 same-length : tie.Need-same-length Inv-loop μ-loop
 same-length c = let l = c .before in omega (arith, l .loop .inv, long l, start l .pre .1)
 
--- src/search.rt:32:1
 same-length-2 : tie.Need-same-length-2 Inv-loop μ-loop
 same-length-2 c = let l = c .before in omega (arith, l .loop .inv, marked l .mark .kept)
 
--- src/search.rt:32:1
 same-length-3 : tie.Need-same-length-3 Inv-loop μ-loop
 same-length-3 c = long (c .before)
 
--- src/search.rt:32:1
 returns : tie.Need-returns Inv-loop μ-loop
 returns c =
     let l = c .before in
-    λ n hs a ch. exact a (start l .pre .1 .goal-free) (l .loop .inv .4 hs ch) (sum-zero (l .loop .dirty) (omega (arith, l .loop .inv .3 .counted)))
+    λ n hs a ch. exact a (start l .pre .1 .0 .free) (l .loop .inv .4 hs ch) (sum-zero (l .loop .dirty) (omega (arith, l .loop .inv .3 .counted)))
 
 pub least-spec : {M : Type 1} → statement M
 least-spec =
