@@ -84,8 +84,8 @@ shared-slice-read-visit c = omega arith
 visit-requires : tie.Need-visit-requires Inv-loop μ-loop
 visit-requires c κs =
     let l = head c in
-    let f = entry l .pre .0 in
-    ((tail-in (c .before .before .before .before .before), omega (arith, f .barred-long)), ((omega arith, omega (arith, f .few)), l .loop .inv .4))
+    let p = entry l .pre in
+    ((omega (arith, tail-in (c .before .before .before .before .before), p .1 .0), omega (arith, p .0 .barred-long)), ((omega arith, omega (arith, p .0 .few)), l .loop .inv .4))
 
 mul-link-2 : tie.Need-mul-link-2 Inv-loop μ-loop
 mul-link-2 c = omega arith
