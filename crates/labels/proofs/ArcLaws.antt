@@ -1,8 +1,8 @@
 -- The graph of three arrays: its arcs are the indices, its weights those of the third array, and its paths do not cost much. Assumes nothing.
-use Prim.Native.Nat.{ℕ, zero, suc, _*_, _≤_, _<_}
+use Prim.Native.Nat.{ℕ, zero, suc, _+_, _*_, _≤_, _<_}
 use native.Mathlib.Omega.{arith}
 use native.Mathlib.Nat.{mul-suc, mul-le-mul-left}
-use mathlib.Core.Path.{_≡_, refl, sym}
+use mathlib.Core.Path.{_≡_, refl, sym, _∙_}
 use mathlib.Core.Bool.{true, false, _&&_, cond}
 use mathlib.Core.Logic.{_⊎_, inl, inr, ⊎-elim}
 use mathlib.Core.List.{List, [], _∷_, map, tail, List·Memᴰ·cases-cons}
@@ -15,6 +15,8 @@ use Rattle.terms.specs.Paths.{Route, Path, ByArcs, along, cost, cost-from}
 use Rattle.terms.proofs.ListLaws.{split, clash, or-cases, or-right, and-both, by-cond, of-cond}
 use Rattle.terms.proofs.PathLaws.{Within, of-path, at-most-nodes}
 use Rattle.labels.specs.Arcs.{graph, Arcs}
+use Rattle.labels.specs.Arrays.{Arrays}
+use Rattle.labels.specs.Chains.{Chainable, Chains}
 
 -- ---- one arc more
 module _ (x : Arc) (g : Graph) (a b : ℕ) where
@@ -106,6 +108,23 @@ module _ {n : ℕ} {ts hs ws : List ℕ} (arcs : Arcs n ts hs ws) where
   pub later-within : (v : ℕ) (p : List ℕ) → ByArcs (graph ts hs ws) (v ∷ p) → {x : ℕ} → x ∈ p → (1 ≤ x) × (x ≤ n)
   later-within v [] b m = elim m [ ]
   later-within v (h ∷ p) (along a b) m = ⊎-elim (λ e. rw e (graph-within v h a)) (later-within h p b) (List·Memᴰ·cases-cons m)
+
+  -- they can be chained in arrays of the right lengths
+  pub chainable-of : {first next : List ℕ} → length first ≡ n + 1 → length next ≡ length ts → Chainable hs first next
+  chainable-of e e′ = record { next-long = e′ ∙ sym (arcs .heads-long); head-in = λ i b. omega (arith, arcs .head-to i (omega (arith, arcs .heads-long))); few = omega (arith, arcs .heads-long, arcs .few) }
+
+  -- with their chains they fit arrays that have a place for each node, and one more
+  pub arrays-of : {first next bars : List ℕ} → Chains hs first next → length first ≡ n + 1 → length bars ≡ n + 1 → Arrays (n + 1) ts ws first next bars
+  arrays-of c e e′ = record {
+    weights-long = arcs .weights-long;
+    next-long = c .next-long ∙ arcs .heads-long;
+    first-long = e;
+    barred-long = e′;
+    few = omega (arith, arcs .few-nodes);
+    tail-in = λ i b. omega (arith, arcs .tail-to i b);
+    first-in = λ h b. omega (arith, c .starts h (omega arith) .within, arcs .heads-long);
+    next-in = λ i b. c .goes-on i (omega (arith, arcs .heads-long)) .within;
+  }
 
   -- ---- a path costs at most 199 times the heaviest arc
   module _ (w : ℕ) (light : (i : ℕ) → i < length ts → getD ws i 0 ≤ w) where

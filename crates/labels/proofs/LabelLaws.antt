@@ -42,6 +42,9 @@ module _ (bars : List ℕ) (x : ℕ) where
       by-place h (no b) = List·getD-eq-default bars 0 {n = x} (omega arith)
 
 -- ---- walks that meet no barred node
+free-start : {g : Graph} {bars : List ℕ} {v t : ℕ} {p : Route} → FreePath g bars v t p → getD bars v 0 ≡ 0
+free-start {v} r = r .free v (rw (r .path .from-start) (List·Memᴰ·head refl))
+
 module _ {g : Graph} {t : ℕ} (bars : List ℕ) where
   -- a path is one
   path-walk : (v : ℕ) (p : List ℕ) → last v p ≡ t → ByArcs g (v ∷ p) → ((x : ℕ) → x ∈ v ∷ p → getD bars x 0 ≡ 0) → Walk g t (barred-nodes bars) v (cost-from g v p)
@@ -72,17 +75,13 @@ module _ {n goal : ℕ} {ts hs ws bars ls d : List ℕ} (arcs : Arcs n ts hs ws)
       let k = rw (p .tail-is, p .head-is) at (s .settled (r .0) (p .below) (clean _) (λ _. omega arith)) in
       rw (at-weight arcs p) (k f)
 
-  -- no path costs less
-  below-cost : (v : ℕ) (p : List ℕ) → last v p ≡ goal → ByArcs (graph ts hs ws) (v ∷ p) → ((x : ℕ) → x ∈ v ∷ p → getD bars x 0 ≡ 0) → getD ls v 0 ≤ cost-from (graph ts hs ws) v p
-  unfolding last cost-from
-  below-cost v [] e b f = omega (arith, s .at-goal, ap (λ (x : ℕ). getD ls x 0) e)
-  below-cost v (h ∷ p) e (along a b) f = omega (arith, agrees v h a (f v (List·Memᴰ·head refl)), below-cost h p e b (λ x m. f x (List·Memᴰ·tail m)))
+  -- no walk costs less
+  below-walk : {v c : ℕ} → getD bars v 0 ≡ 0 → Walk (graph ts hs ws) goal (barred-nodes bars) v c → getD ls v 0 ≤ c
+  below-walk f (stop e) = omega (arith, s .at-goal, ap (λ (x : ℕ). getD ls x 0) e)
+  below-walk {v} f (go {h} a u w) = omega (arith, agrees v h a f, below-walk (outside-free bars h u) w)
 
   below-path : {v : ℕ} {p : Route} → FreePath (graph ts hs ws) bars v goal p → getD ls v 0 ≤ cost (graph ts hs ws) p
-  unfolding last cost
-  below-path {v} {p} r =
-      let e = r .path .from-start in
-      rw e (below-cost v (tail p) (rw e at (r .path .to-goal)) (rw e at (r .path .by-arcs)) (rw e at (r .free)))
+  below-path r = below-walk (free-start r) (free-walk bars r)
 
   -- a label is the cost of a walk
   walk-of : {v c : ℕ} → Walked (input ts hs ws bars) goal v c → (getD bars v 0 ≡ 0) × Walk (graph ts hs ws) goal (barred-nodes bars) v c
@@ -112,11 +111,15 @@ module _ {g : Graph} {bars ls : List ℕ} {t : ℕ} (l : Least g bars t ls) wher
   unfolding cost cost-from
   least-goal f = let r = cut {g = g} {t = t} bars {v = t} f (stop refl) in omega (arith, l .least t (r .0) (r .1) .0, r .2)
 
+  -- a barred node has the mark
+  pub reached-free : (v : ℕ) → v < length ls → getD ls v 0 < far → getD bars v 0 ≡ 0
+  reached-free v long k = free-start (l .attained v long k .1)
+
   -- no arc can lower a label
   pub least-along : (a b : ℕ) → linked g a b ≡ true → getD bars a 0 ≡ 0 → b < length ls → getD ls b 0 < far → (getD ls a 0 ≤ weight g a b + getD ls b 0) × (getD ls a 0 < far)
   least-along a b e f long k =
       let p = l .attained b long k in
-      let r = cut bars f (go e (free-outside bars b (p .1 .free b (rw (p .1 .path .from-start) (List·Memᴰ·head refl)))) (free-walk bars (p .1))) in
+      let r = cut bars f (go e (free-outside bars b (free-start (p .1))) (free-walk bars (p .1))) in
       let q = l .least a (r .0) (r .1) in
       (omega (arith, q .0, r .2, p .2), q .1)
 
