@@ -1,11 +1,11 @@
 -- Laws of the functions on lists, and of tests. Assumes nothing.
-use Prim.Native.Nat.{ℕ, zero, suc, _+_, _≤_, _<_, min, max}
+use Prim.Native.Nat.{ℕ, zero, suc, _+_, _≤_, _<_, min}
 use native.Mathlib.Omega.{arith}
 use native.Mathlib.Nat.{min-eq-left, min-eq-right, max-eq-left, max-eq-right, le-of-lt, eq-or-lt-of-le}
 use mathlib.Core.Path.{_≡_, refl, sym, _∙_, ap, subst}
 use mathlib.Core.Bool.{Bool, true, false, not, _&&_, _||_, cond}
 use mathlib.Core.Logic.{_≢_, _⊎_, inl, inr, ⊎-elim}
-use mathlib.Core.List.{List, [], _∷_, _++_, foldr, map, flatMap, List·Memᴰ·head, List·Memᴰ·tail, List·Memᴰ·append-cases, List·Memᴰ·cases-cons, Memᴰ·append-left, Memᴰ·append-right, Memᴰ·of-map}
+use mathlib.Core.List.{List, [], _∷_, _++_, foldr, map, flatMap, List·Memᴰ·head, List·Memᴰ·tail, List·Memᴰ·append-cases, List·Memᴰ·cases-cons, Memᴰ·append-left, Memᴰ·append-right, Memᴰ·cast, Memᴰ·of-map}
 use lib.ListN.{length, getD, take}
 use lib.Dec.{leb, eqb}
 use borrow.Author.Tests.{eqb-true, eqb-false, eq-eqb, ne-eqb, leb-true, leb-false}
@@ -38,6 +38,10 @@ and-both false b e = clash e refl
 pub nor-right : (a b : Bool) → not (a || b) ≡ true → not b ≡ true
 nor-right true b e = clash e refl
 nor-right false b e = e
+
+-- of two numbers one is at most the other, or larger
+pub le-or-lt : (a b : ℕ) → (a ≤ b) ⊎ (b < a)
+le-or-lt a b = ⊎-elim (λ h. inl (leb-true a b h)) (λ h. inr (leb-false a b h)) (split (leb a b))
 
 -- ---- choices: to prove P of one, prove it of each branch; and what P of one says
 pub by-cond : {A : Type 0} (P : A → Type 0) (b : Bool) {x y : A} → (b ≡ true → P x) → (b ≡ false → P y) → P (cond b x y)
@@ -176,7 +180,8 @@ least-le (List·Memᴰ·tail {x = y} m) = foldr-min-mem-le y m
 least-mem : (x : ℕ) (l : List ℕ) → least (x ∷ l) ∈ x ∷ l
 unfolding least
 least-mem x [] = List·Memᴰ·head refl
-least-mem x (y ∷ l) = ⊎-elim (λ h. List·Memᴰ·tail (List·Memᴰ·head (min-eq-left (leb-true y (foldr min x l) h)))) (λ h. rw (min-eq-right (le-of-lt (leb-false y (foldr min x l) h))) (skip (List·Memᴰ·cases-cons (least-mem x l)))) (split (leb y (foldr min x l)))
+least-mem x (y ∷ l) =
+    ⊎-elim (λ h. List·Memᴰ·tail (List·Memᴰ·head (min-eq-left h))) (λ h. Memᴰ·cast (min-eq-right (le-of-lt h)) (skip (List·Memᴰ·cases-cons (least-mem x l)))) (le-or-lt y (foldr min x l))
   where
     skip : {a : ℕ} → (a ≡ x) ⊎ (a ∈ l) → a ∈ x ∷ y ∷ l
     skip (inl e) = List·Memᴰ·head e
@@ -208,7 +213,7 @@ unfolding largest
 largest-mem [] h = absurd (omega arith)
 largest-mem (x ∷ []) h = List·Memᴰ·head {x = x} (omega arith)
 largest-mem (x ∷ y ∷ l) h =
-    ⊎-elim (λ e. List·Memᴰ·head (max-eq-left (leb-true (largest (y ∷ l)) x e))) (λ e. rw (max-eq-right (le-of-lt (leb-false (largest (y ∷ l)) x e))) (List·Memᴰ·tail (largest-mem (y ∷ l) (omega arith)))) (split (leb (largest (y ∷ l)) x))
+    ⊎-elim (λ h. List·Memᴰ·head (max-eq-left h)) (λ h. Memᴰ·cast (max-eq-right (le-of-lt h)) (List·Memᴰ·tail (largest-mem (y ∷ l) (omega arith)))) (le-or-lt (largest (y ∷ l)) x)
 
 -- ---- numbers i k: i, i + 1, .. i + k - 1
 pub length-numbers : (i k : ℕ) → length (numbers i k) ≡ k
@@ -244,10 +249,10 @@ pub record Smallest (test : ℕ → Bool) (i f j : ℕ) : Type 0 where
   pub passes : j < i + f → test j ≡ true
   pub none-before : (k : ℕ) → i ≤ k → k < j → test k ≡ false
 
-pub smallest-smallest : (test : ℕ → Bool) (i f : ℕ) → Smallest test i f (smallest test i f)
+pub smallest-is-smallest : (test : ℕ → Bool) (i f : ℕ) → Smallest test i f (smallest test i f)
 unfolding smallest
-smallest-smallest test i zero = record { from = omega arith; upto = omega arith; passes = λ h. absurd (omega arith); none-before = λ k a b. absurd (omega arith) }
-smallest-smallest test i (suc f) = by-cond (Smallest test i (suc f)) (test i) here (λ e. later e (smallest-smallest test (suc i) f))
+smallest-is-smallest test i zero = record { from = omega arith; upto = omega arith; passes = λ h. absurd (omega arith); none-before = λ k a b. absurd (omega arith) }
+smallest-is-smallest test i (suc f) = by-cond (Smallest test i (suc f)) (test i) here (λ e. later e (smallest-is-smallest test (suc i) f))
   where
     here : test i ≡ true → Smallest test i (suc f) i
     here e = record { from = omega arith; upto = omega arith; passes = λ _. e; none-before = λ k a b. absurd (omega arith) }
@@ -256,7 +261,7 @@ smallest-smallest test i (suc f) = by-cond (Smallest test i (suc f)) (test i) he
     later e r = record { from = omega arith; upto = omega arith; passes = λ h. r .passes (omega arith); none-before = λ k a b. ⊎-elim (λ d. rw (← d) e) (λ l. r .none-before k l b) (eq-or-lt-of-le a) }
 
 pub smallest-unique : {test : ℕ → Bool} {i f j k : ℕ} → Smallest test i f j → Smallest test i f k → j ≡ k
-smallest-unique {test} {i} {f} {j} {k} a b = ⊎-elim (λ h. ⊎-elim (λ e. e) (λ l. lower a b l) (eq-or-lt-of-le (leb-true j k h))) (λ h. lower b a (leb-false j k h)) (split (leb j k))
+smallest-unique {test} {i} {f} {j} {k} a b = ⊎-elim (λ h. ⊎-elim (λ e. e) (lower a b) (eq-or-lt-of-le h)) (lower b a) (le-or-lt j k)
   where
     lower : {x y : ℕ} {A : Type 0} → Smallest test i f x → Smallest test i f y → x < y → A
     lower {x} a b l = clash (a .passes (omega arith)) (b .none-before x (omega arith) l)
@@ -281,7 +286,7 @@ module _ {A : Type 0} (f : A → Bool) (d : A) where
 
   -- so it is at most each place that passes, and is the one with none before
   pub index-le : (l : List A) (i : ℕ) → f (getD l i d) ≡ true → index f l ≤ i
-  index-le l i t = ⊎-elim (leb-true (index f l) i) (λ h. clash t (index-before l i (leb-false (index f l) i h))) (split (leb (index f l) i))
+  index-le l i t = ⊎-elim (λ h. h) (λ h. clash t (index-before l i h)) (le-or-lt (index f l) i)
 
   pub index-is : (l : List A) (i : ℕ) → i < length l → f (getD l i d) ≡ true → ((j : ℕ) → j < i → f (getD l j d) ≡ false) → index f l ≡ i
   index-is l i h t b = ⊎-elim (λ e. e) (λ k. clash (index-passes l (omega arith)) (b (index f l) k)) (eq-or-lt-of-le (index-le l i t))

@@ -1,10 +1,10 @@
 -- `paths n g s t` has the loopless paths from s to t and nothing else; row 14's check passes exactly these. Assumes nothing.
-use Prim.Native.Nat.{ℕ, zero, suc, _+_, _-_, _≤_, _<_}
+use Prim.Native.Nat.{ℕ, zero, suc, _-_, _≤_, _<_}
 use native.Mathlib.Omega.{arith}
 use mathlib.Core.Path.{_≡_, refl, sym, _∙_, ap, subst}
 use mathlib.Core.Bool.{Bool, true, false, not, _&&_, _||_, cond}
 use mathlib.Core.Logic.{_≢_, _⊎_, inl, inr, ⊎-elim}
-use mathlib.Core.List.{List, [], _∷_, tail, map, flatMap, List·Memᴰ·head, List·Memᴰ·tail, List·Memᴰ·cases-cons, List·Memᴰ·eq-of-singleton, Memᴰ·cast, Memᴰ·map, Memᴰ·of-map}
+use mathlib.Core.List.{List, [], _∷_, tail, map, List·Memᴰ·head, List·Memᴰ·tail, List·Memᴰ·cases-cons, List·Memᴰ·eq-of-singleton, Memᴰ·map, Memᴰ·of-map}
 use mathlib.Core.Option.{Option, none, some}
 use lib.Dec.{eqb}
 use lib.ListN.{length, getD}
@@ -13,7 +13,7 @@ use Rattle.terms.specs.Lists.{_∈_, elem, keep, last, numbers}
 use Rattle.terms.specs.Network.{Arc, Graph, Net, Admitted, heads, linked, weigh, column}
 use Rattle.terms.specs.Paths.{Route, ByArcs, single, along, Loopless, empty, fresh, Path, exits, walks, paths}
 use Rattle.terms.specs.Regret.{fault, fault-after}
-use Rattle.terms.proofs.ListLaws.{split, clash, of-cond, or-right, and-both, nor-right, elem-mem, mem-elem, outside-cons, cons-outside, outside-apart, mem-keep, keep-mem, keep-length, keep-lt, mem-flatMap, flatMap-mem, getD-mem, last-mem, length-numbers, mem-numbers}
+use Rattle.terms.proofs.ListLaws.{split, of-cond, or-right, and-both, nor-right, elem-mem, mem-elem, outside-cons, cons-outside, outside-apart, mem-keep, keep-mem, keep-length, keep-lt, mem-flatMap, flatMap-mem, getD-mem, last-mem, length-numbers, mem-numbers}
 
 -- ---- paths, node by node
 -- p goes from v to t along arcs of g, repeats no node, and meets no node of seen after v
@@ -22,7 +22,7 @@ pub data PathFrom (g : Graph) (t : ℕ) : List ℕ → ℕ → Route → Type 0 
   onward : {seen : List ℕ} {v h : ℕ} {q : List ℕ} → v ≢ t → linked g v h ≡ true → elem h (v ∷ seen) ≡ false
       → PathFrom g t (v ∷ seen) h (h ∷ q) → PathFrom g t seen v (v ∷ h ∷ q)
 
--- what one of two nodes or more says of its first step
+-- what such a path of two nodes or more says of its first step
 pub record Step (g : Graph) (t : ℕ) (seen : List ℕ) (v x h : ℕ) (q : List ℕ) : Type 0 where
   pub here : x ≡ v
   pub apart : v ≢ t
@@ -31,7 +31,7 @@ pub record Step (g : Graph) (t : ℕ) (seen : List ℕ) (v x h : ℕ) (q : List 
   pub rest : PathFrom g t (v ∷ seen) h (h ∷ q)
 
 module _ {g : Graph} {t : ℕ} where
-  -- it begins with its first node
+  -- a path begins with its first node
   pub starts : {seen : List ℕ} {v : ℕ} {p : Route} → PathFrom g t seen v p → p ≡ v ∷ tail p
   starts (arrive e) = refl
   starts (onward n a u r) = refl
@@ -40,7 +40,6 @@ module _ {g : Graph} {t : ℕ} where
   pub extend : {seen : List ℕ} {v h : ℕ} {p : Route} → v ≢ t → linked g v h ≡ true → elem h (v ∷ seen) ≡ false → PathFrom g t (v ∷ seen) h p → PathFrom g t seen v (v ∷ p)
   extend n a u r = rw (starts r) (onward n a u (rw (starts r) at r))
 
-  -- the first step of one of two nodes or more
   pub step : {seen : List ℕ} {v x h : ℕ} {q : List ℕ} → PathFrom g t seen v (x ∷ h ∷ q) → Step g t seen v x h q
   step (onward n a u r) = record { here = refl; apart = n; arc = a; unmet = u; rest = r }
 
@@ -168,12 +167,15 @@ pub column-within : {net : Net} → Admitted net → (u : ℕ) → Within (net .
 unfolding linked heads column
 column-within {net} ok u v h a = found (Memᴰ·of-map (λ (x : Arc). x .head) arcs-from (elem-mem h (map (λ x. x .head) arcs-from) a))
   where
+    costs : List ℕ
+    costs = getD (net .columns) (u - 1) []
+
     arcs-from : List Arc
-    arcs-from = keep (λ x. eqb (x .tail) v) (weigh (net .arcs) (getD (net .columns) (u - 1) []))
+    arcs-from = keep (λ x. eqb (x .tail) v) (weigh (net .arcs) costs)
 
     found : (x : Arc) × (x ∈ arcs-from) × (x .head ≡ h) → (1 ≤ h) × (h ≤ net .nodes)
     found (x, m, e) =
-        let arc = ok .arcs-of (x .tail, x .head) (weigh-mem (net .arcs) (getD (net .columns) (u - 1) []) (keep-mem (λ (y : Arc). eqb (y .tail) v) (weigh (net .arcs) (getD (net .columns) (u - 1) [])) m .0)) in
+        let arc = ok .arcs-of (x .tail, x .head) (weigh-mem (net .arcs) costs (keep-mem (λ (y : Arc). eqb (y .tail) v) (weigh (net .arcs) costs) m .0)) in
         rw (← e) (arc .head-from, arc .head-to)
 
 -- ---- every arc is open in every column, so the columns of an admitted network have the same paths
@@ -191,7 +193,10 @@ weigh-heads (a ∷ l) (w ∷ ws) (w′ ∷ ws′) v e e′ = same (weigh-heads l
 module _ {net : Net} (u v : ℕ) (ok : Admitted net) (u-lo : 1 ≤ u) (u-hi : u ≤ length (net .columns)) (v-lo : 1 ≤ v) (v-hi : v ≤ length (net .columns)) where
   pub linked-in-column : (a b : ℕ) → linked (column net u) a b ≡ linked (column net v) a b
   unfolding linked column
-  linked-in-column a b = ap (elem b) (weigh-heads (net .arcs) (getD (net .columns) (u - 1) []) (getD (net .columns) (v - 1) []) a (ok .full _ (getD-mem (net .columns) [] (u - 1) (omega arith))) (ok .full _ (getD-mem (net .columns) [] (v - 1) (omega arith))))
+  linked-in-column a b = ap (elem b) (weigh-heads (net .arcs) (getD (net .columns) (u - 1) []) (getD (net .columns) (v - 1) []) a (full u u-lo u-hi) (full v v-lo v-hi))
+    where
+      full : (w : ℕ) → 1 ≤ w → w ≤ length (net .columns) → length (getD (net .columns) (w - 1) []) ≡ length (net .arcs)
+      full w lo hi = ok .full _ (getD-mem (net .columns) [] (w - 1) (omega arith))
 
   arcs-in-column : {p : Route} → ByArcs (column net u) p → ByArcs (column net v) p
   arcs-in-column single = single
@@ -209,7 +214,8 @@ passed : (b : Bool) (o : Option ℕ) (i : ℕ) → cond b o (some i) ≡ none �
 passed true o i e = (refl, e)
 passed false o i e = some≢none e
 
-passed-node : (g : Graph) (seen : List ℕ) (v t x : ℕ) (q : List ℕ) (i : ℕ) → fault-after g seen v t (x ∷ q) i ≡ none → (linked g v x ≡ true) × (elem x seen ≡ false) × (fault-after g (x ∷ seen) x t q (suc i) ≡ none)
+passed-node : (g : Graph) (seen : List ℕ) (v t x : ℕ) (q : List ℕ) (i : ℕ) → fault-after g seen v t (x ∷ q) i ≡ none
+    → (linked g v x ≡ true) × (elem x seen ≡ false) × (fault-after g (x ∷ seen) x t q (suc i) ≡ none)
 unfolding fault-after
 passed-node g seen v t x q i e =
     let c = passed (linked g v x && not (elem x seen)) _ _ e in

@@ -2,7 +2,7 @@
 use Prim.Native.Nat.{ℕ, zero, suc, _≤_, _<_}
 use native.Mathlib.Omega.{arith}
 use mathlib.Core.Path.{_≡_, refl, sym, _∙_, ap, ap₂, subst}
-use mathlib.Core.Bool.{Bool, true, false, _&&_, _||_}
+use mathlib.Core.Bool.{Bool, true, false, _&&_}
 use mathlib.Core.Logic.{_⊎_, inl, inr, ⊎-elim}
 use mathlib.Core.List.{List, [], _∷_, _++_, List·Memᴰ·head, List·Memᴰ·tail, List·Memᴰ·cases-cons, List·Memᴰ·eq-of-singleton, List·Memᴰ·append-cases, Memᴰ·append-left, Memᴰ·append-right, Memᴰ·cast}
 use lib.Dec.{eqb, ltb}
@@ -11,9 +11,10 @@ use lib.Seq.{take-all}
 use borrow.Author.Tests.{eqb-true, eq-eqb, ltb-true, ltb-false, lt-ltb, le-ltb}
 use Rattle.terms.specs.Lists.{_∈_, keep}
 use Rattle.terms.specs.Network.{Graph}
-use Rattle.terms.specs.Paths.{Route, cost, paths}
+use Rattle.terms.specs.Paths.{Route, Path, cost, paths}
 use Rattle.terms.specs.Ranking.{by-first, lex, before, insert, sort, ranked}
 use Rattle.terms.proofs.ListLaws.{split, clash, by-cond, or-cases, or-false, and-both, mem-keep, keep-mem}
+use Rattle.terms.proofs.PathLaws.{Within, listed-path, path-listed}
 
 -- ---- by-first, of which both orders are made: a smaller number, or an equal one and the rest
 pub by-first-true : (a b : ℕ) (r : Bool) → by-first a b r ≡ true → (a < b) ⊎ ((a ≡ b) × (r ≡ true))
@@ -195,11 +196,13 @@ module _ (g : Graph) where
   past {p} {x} e b m = ⊎-elim (λ d. let z : x ≡ p = d ∙ sym e in clash (rw z at b) (before-irrefl p)) (λ k. k) (List·Memᴰ·cases-cons m)
 
   -- a rising list of members of l, which comes before each other member of l, is the beginning of l
-  pub rising-prefix : {k l : List Route} → Rising k → Rising l → ((p : Route) → p ∈ k → p ∈ l) → ((p : Route) → p ∈ l → (p ∈ k) ⊎ ((q : Route) → q ∈ k → before g q p ≡ true)) → k ≡ take (length k) l
+  pub rising-prefix : {k l : List Route} → Rising k → Rising l → ((p : Route) → p ∈ k → p ∈ l)
+      → ((p : Route) → p ∈ l → (p ∈ k) ⊎ ((q : Route) → q ∈ k → before g q p ≡ true)) → k ≡ take (length k) l
   rising-prefix none-left u i j = refl
   rising-prefix (first {p} a r) none-left i j = elim (i p (List·Memᴰ·head refl)) [ ]
   rising-prefix (first {p} {l = k} a r) (first {p = q} {l} b u) i j =
-      ap₂ (λ x z. x ∷ z) e (rising-prefix r u (λ x m. past e (a x m) (i x (List·Memᴰ·tail m))) (λ x m. ⊎-elim (λ h. inl (past (sym e) (b x m) h)) (λ h. inr (λ y o. h y (List·Memᴰ·tail o))) (j x (List·Memᴰ·tail m))))
+      ap₂ (λ x z. x ∷ z) e
+      (rising-prefix r u (λ x m. past e (a x m) (i x (List·Memᴰ·tail m))) (λ x m. ⊎-elim (λ h. inl (past (sym e) (b x m) h)) (λ h. inr (λ y o. h y (List·Memᴰ·tail o))) (j x (List·Memᴰ·tail m))))
     where
       e : p ≡ q
       e = no-later-antisym (⊎-elim (above-no-later a) (λ h. inr (h p (List·Memᴰ·head refl))) (j q (List·Memᴰ·head refl))) (above-no-later b (i p (List·Memᴰ·head refl)))
@@ -214,7 +217,9 @@ module _ (g : Graph) where
   rising-snoc : (p : Route) {k : List Route} → Rising k → ((q : Route) → q ∈ k → before g q p ≡ true) → Rising (k ++ (p ∷ []))
   rising-snoc p none-left h = first {p = p} {l = []} (λ q m. elim m [ ]) none-left
   rising-snoc p (first {p = x} {l} a r) h =
-      first (λ q m. ⊎-elim (a q) (λ o. let e : q ≡ p = List·Memᴰ·eq-of-singleton o in rw e (h x (List·Memᴰ·head refl))) (List·Memᴰ·append-cases l m)) (rising-snoc p r (λ q m. h q (List·Memᴰ·tail m)))
+      first
+      (λ q m. ⊎-elim (a q) (λ o. let e : q ≡ p = List·Memᴰ·eq-of-singleton o in rw e (h x (List·Memᴰ·head refl))) (List·Memᴰ·append-cases l m))
+      (rising-snoc p r (λ q m. h q (List·Memᴰ·tail m)))
 
   -- the next of a ranking: k is its beginning, and p comes next
   pub rising-next : {k l : List Route} {p : Route} → Rising l → Rising k → ((q : Route) → q ∈ k → q ∈ l) → p ∈ l → ((q : Route) → q ∈ k → before g q p ≡ true)
@@ -244,3 +249,10 @@ mem-ranked n g s t m = mem-sort g m
 pub ranked-mem : (n : ℕ) (g : Graph) (s t : ℕ) {p : Route} → p ∈ ranked n g s t → p ∈ paths n g s t
 unfolding ranked
 ranked-mem n g s t m = sort-mem g (paths n g s t) m
+
+-- so it has the paths from s to t and nothing else
+pub ranked-path : (n : ℕ) (g : Graph) (s t : ℕ) {p : Route} → p ∈ ranked n g s t → Path g s t p
+ranked-path n g s t m = listed-path n (ranked-mem n g s t m)
+
+pub path-ranked : (n : ℕ) (g : Graph) (s t : ℕ) {p : Route} → Within n g → 1 ≤ s → s ≤ n → Path g s t p → p ∈ ranked n g s t
+path-ranked n g s t w lo hi p = mem-ranked n g s t (path-listed n w lo hi p)

@@ -1,20 +1,20 @@
 -- best(u), labels, deviations, figures and worst columns are what document 01 says. Assumes nothing.
-use Prim.Native.Nat.{ℕ, zero, suc, _+_, _-_, _≤_, _<_}
+use Prim.Native.Nat.{ℕ, zero, suc, _+_, _≤_, _<_}
 use native.Mathlib.Omega.{arith}
-use native.Mathlib.Nat.{le-antisymm, eq-or-lt-of-le}
+use native.Mathlib.Nat.{le-antisymm}
 use mathlib.Core.Path.{_≡_, refl, sym, _∙_, ap}
 use mathlib.Core.Bool.{Bool}
-use mathlib.Core.Logic.{_⊎_, inl, inr, ⊎-elim}
-use mathlib.Core.List.{List, [], _∷_, map, List·Memᴰ·head, Memᴰ·map, Memᴰ·of-map}
+use mathlib.Core.Logic.{⊎-elim}
+use mathlib.Core.List.{List, [], _∷_, List·Memᴰ·head, Memᴰ·map, Memᴰ·of-map}
 use lib.Dec.{eqb}
 use lib.ListN.{length, getD, length-map}
-use borrow.Author.Tests.{eqb-true, eqb-false, eq-eqb, ne-eqb, le-leb}
+use borrow.Author.Tests.{eqb-true, eqb-false, eq-eqb, ne-eqb, le-leb, lt-leb}
 use Rattle.terms.specs.Lists.{_∈_, index, numbers}
 use Rattle.terms.specs.Network.{Graph, Net, Admitted, column}
 use Rattle.terms.specs.Paths.{Route, Path, cost, paths}
 use Rattle.terms.specs.Ranking.{ranked}
 use Rattle.terms.specs.Regret.{best, mark, label, deviation, deviations, figure, worst}
-use Rattle.terms.proofs.ListLaws.{mem-length, least-le, least-attained, largest-ge, largest-le, largest-mem, length-numbers, getD-map-numbers, mem-numbers, numbers-mem, getD-mem, index-before, index-passes, index-le, index-is}
+use Rattle.terms.proofs.ListLaws.{le-or-lt, getD-mem, mem-length, least-le, least-attained, largest-ge, largest-le, largest-mem, length-numbers, getD-map-numbers, mem-numbers, numbers-mem, index-before, index-passes, index-le, index-is}
 use Rattle.terms.proofs.PathLaws.{path-listed, column-within, path-in-column}
 use Rattle.terms.proofs.RankingLaws.{head-first, before-cost, ranked-rising, mem-ranked, ranked-mem}
 
@@ -42,9 +42,9 @@ module _ (n : ℕ) (g : Graph) (s t : ℕ) where
   unfolding label
   label-reached m = rw (le-leb 1 (length (paths n g s t)) (mem-length m))
 
-  pub label-unreached : paths n g s t ≡ [] → label n g t s ≡ mark
+  pub label-unreached : ((p : Route) → p ∈ paths n g s t → ⊥) → label n g t s ≡ mark
   unfolding label
-  label-unreached e = rw e
+  label-unreached none = rw (lt-leb 1 (length (paths n g s t)) (⊎-elim (λ h. absurd (none _ (getD-mem (paths n g s t) [] 0 h))) (λ h. h) (le-or-lt 1 (length (paths n g s t)))))
 
 -- ---- a path of one column costs in each column its best and the deviation: the difference is never cut at 0
 pub deviation-adds : {net : Net} {s t : ℕ} {p : Route} (r u : ℕ) → Admitted net → 1 ≤ s → s ≤ net .nodes → 1 ≤ r → r ≤ length (net .columns) → 1 ≤ u → u ≤ length (net .columns)
@@ -74,7 +74,8 @@ module _ (net : Net) (s t : ℕ) (p : Route) where
       let b = numbers-mem 1 (length (net .columns)) (o .1) in
       (o .0, b .0, omega arith, o .2)
 
-  pub figure-is : (u : ℕ) → 1 ≤ u → u ≤ length (net .columns) → ((v : ℕ) → 1 ≤ v → v ≤ length (net .columns) → deviation net s t p v ≤ deviation net s t p u) → figure net s t p ≡ deviation net s t p u
+  pub figure-is : (u : ℕ) → 1 ≤ u → u ≤ length (net .columns)
+      → ((v : ℕ) → 1 ≤ v → v ≤ length (net .columns) → deviation net s t p v ≤ deviation net s t p u) → figure net s t p ≡ deviation net s t p u
   unfolding figure
   figure-is u lo hi top =
       le-antisymm (largest-le (deviation net s t p u) (deviations net s t p) (λ y m. let o = deviations-mem m in rw (← o .3) (top (o .0) (o .1) (o .2)))) (deviation-le-figure u lo hi)
@@ -101,9 +102,9 @@ module _ (net : Net) (s t : ℕ) (p : Route) where
   unfolding figure
   figure-mem some = largest-mem (deviations net s t p) (rw deviations-length some)
 
-  pub worst-worst : 1 ≤ length (net .columns) → Worst net s t p (worst net s t p)
+  pub worst-is-worst : 1 ≤ length (net .columns) → Worst net s t p (worst net s t p)
   unfolding worst
-  worst-worst some = record { from = omega arith; upto = in-range; has-figure = sym (deviations-at place in-range) ∙ sym (eqb-true _ _ (index-passes test 0 (deviations net s t p) (rw deviations-length in-range))); lower-less = less }
+  worst-is-worst some = record { from = omega arith; upto = in-range; has-figure = sym (deviations-at place in-range) ∙ sym has-it; lower-less = less }
     where
       test : ℕ → Bool
       test = eqb (figure net s t p)
@@ -118,7 +119,10 @@ module _ (net : Net) (s t : ℕ) (p : Route) where
       in-range : place < length (net .columns)
       in-range = let o = deviations-mem (figure-mem some) in found (o .0) (o .1) (o .2) (o .3)
 
+      has-it : figure net s t p ≡ getD (deviations net s t p) place 0
+      has-it = eqb-true _ _ (index-passes test 0 (deviations net s t p) (rw deviations-length in-range))
+
       less : (v : ℕ) → 1 ≤ v → v < suc place → deviation net s t p v < figure net s t p
       less zero lo hi = absurd (omega arith)
       less (suc j) lo hi =
-          ⊎-elim (λ e. absurd (eqb-false _ _ (index-before test 0 (deviations net s t p) j (omega arith)) (sym e ∙ sym (deviations-at j (omega (arith, in-range)))))) (λ l. l) (eq-or-lt-of-le (deviation-le-figure (suc j) lo (omega (arith, in-range))))
+          omega (arith, deviation-le-figure (suc j) lo (omega (arith, in-range)), deviations-at j (omega (arith, in-range)), eqb-false (figure net s t p) (getD (deviations net s t p) j 0) (index-before test 0 (deviations net s t p) j (omega arith)))

@@ -1,23 +1,23 @@
 -- The stopping rule and the choice: J is the smallest j of its definition, and no path has a smaller figure than the one chosen at J. Assumes nothing.
-use Prim.Native.Nat.{ℕ, zero, suc, _+_, _-_, min, _≤_, _<_}
+use Prim.Native.Nat.{ℕ, zero, suc, _-_, min, _≤_, _<_}
 use native.Mathlib.Omega.{arith}
 use native.Mathlib.Nat.{eq-or-lt-of-le}
-use mathlib.Core.Path.{_≡_, refl, sym, _∙_, ap, subst}
+use mathlib.Core.Path.{_≡_, refl, sym, _∙_, ap}
 use mathlib.Core.Bool.{Bool, true, false}
 use mathlib.Core.Logic.{_⊎_, inl, inr, ⊎-elim}
-use mathlib.Core.List.{List, [], _∷_, map, map-append, List·Memᴰ·head, Memᴰ·map}
+use mathlib.Core.List.{List, [], _∷_, map, map-append, Memᴰ·map}
 use lib.Dec.{eqb, leb}
 use lib.ListN.{length, take, getD}
 use lib.Seq.{take-suc, take-all}
 use borrow.Author.Tests.{eqb-true, eqb-false, eq-eqb, ne-eqb, leb-true, leb-false, le-leb, lt-leb}
-use Rattle.terms.specs.Lists.{_∈_, least, index, smallest}
+use Rattle.terms.specs.Lists.{_∈_, least, index}
 use Rattle.terms.specs.Network.{Graph, Net}
 use Rattle.terms.specs.Paths.{Route}
 use Rattle.terms.specs.Ranking.{before}
 use Rattle.terms.specs.Regret.{deviation, figure}
-use Rattle.terms.specs.Robust.{Answer, settled, left-open, no-path, least-figure, enough, needed, choice, answer}
+use Rattle.terms.specs.Robust.{settled, left-open, no-path, least-figure, enough, needed, choice, answer}
 use Rattle.terms.specs.Demand3.{ranked-in, Needs}
-use Rattle.terms.proofs.ListLaws.{split, or-cases, or-right, or-false, place-mem, mem-place, least-le, least-attained, least-snoc, Smallest, smallest-smallest, smallest-unique, index-before, index-passes, index-le, index-is}
+use Rattle.terms.proofs.ListLaws.{le-or-lt, or-cases, or-right, or-false, place-mem, mem-place, least-le, least-attained, least-snoc, Smallest, smallest-is-smallest, smallest-unique, index-before, index-passes, index-le, index-is}
 use Rattle.terms.proofs.RankingLaws.{Rising, NoLater, rising-earlier, rising-split}
 
 -- ---- Bj, the least figure among the first j: no figure of these is less, and one of them has it
@@ -82,7 +82,8 @@ module _ (fig : Route → ℕ) (ps : List Route) (j : ℕ) where
       within = omega (arith, upto, holder .2)
 
       earlier : (i : ℕ) → i < place → least-figure fig ps j < fig (getD ps i [])
-      earlier i h = ⊎-elim (λ e. absurd (eqb-false _ _ (index-before has-it [] ps i h) (sym e))) (λ l. l) (eq-or-lt-of-le (least-figure-le fig ps j (place-mem j ps [] i (omega (arith, upto, holder .1)) (omega (arith, within)))))
+      earlier i h =
+          omega (arith, least-figure-le fig ps j (place-mem j ps [] i (omega (arith, upto, holder .1)) (omega (arith, within))), eqb-false (fig (getD ps i [])) (least-figure fig ps j) (index-before has-it [] ps i h))
 
 -- ---- the stopping rule, over any list of paths with any deviations and figures: J is the smallest j at which it holds
 pub record Stops (dev fig : Route → ℕ) (ps : List Route) (j : ℕ) : Type 0 where
@@ -95,7 +96,12 @@ module _ (dev fig : Route → ℕ) (ps : List Route) where
   stops : {j : ℕ} → 1 ≤ length ps → Smallest (enough dev fig ps) 1 (length ps - 1) j → Stops dev fig ps j
   unfolding enough
   stops {j} some J =
-      record { one-at-least = J .from; all-at-most = omega arith; holds = ⊎-elim (λ e. inl (omega arith)) (λ h. rule (or-cases (J .passes h))) (eq-or-lt-of-le (J .upto)); not-before = λ i lo hi. fails i (J .none-before i lo hi) }
+      record {
+        one-at-least = J .from;
+        all-at-most = omega arith;
+        holds = ⊎-elim (λ e. inl (omega arith)) (λ h. rule (or-cases (J .passes h))) (eq-or-lt-of-le (J .upto));
+        not-before = λ i lo hi. fails i (J .none-before i lo hi);
+      }
     where
       rule : (eqb j (length ps) ≡ true) ⊎ (leb (least-figure fig ps j) (dev (getD ps j [])) ≡ true) → (j ≡ length ps) ⊎ (least-figure fig ps j ≤ dev (getD ps j []))
       rule (inl e) = inl (eqb-true j (length ps) e)
@@ -107,7 +113,12 @@ module _ (dev fig : Route → ℕ) (ps : List Route) where
   of-stops : {j : ℕ} → Stops dev fig ps j → Smallest (enough dev fig ps) 1 (length ps - 1) j
   unfolding enough
   of-stops {j} r =
-      record { from = r .one-at-least; upto = omega arith; passes = λ _. passes (r .holds); none-before = λ i lo hi. rw (ne-eqb i (length ps) (λ e. omega arith), lt-leb (least-figure fig ps i) (dev (getD ps i [])) (r .not-before i lo hi)) }
+      record {
+        from = r .one-at-least;
+        upto = omega arith;
+        passes = λ _. passes (r .holds);
+        none-before = λ i lo hi. rw (ne-eqb i (length ps) (λ e. omega arith), lt-leb (least-figure fig ps i) (dev (getD ps i [])) (r .not-before i lo hi));
+      }
     where
       passes : (j ≡ length ps) ⊎ (least-figure fig ps j ≤ dev (getD ps j [])) → enough dev fig ps j ≡ true
       passes (inl e) = rw (eq-eqb j (length ps) e)
@@ -115,14 +126,15 @@ module _ (dev fig : Route → ℕ) (ps : List Route) where
 
   pub needed-stops : 1 ≤ length ps → Stops dev fig ps (needed dev fig ps)
   unfolding needed
-  needed-stops some = stops some (smallest-smallest (enough dev fig ps) 1 (length ps - 1))
+  needed-stops some = stops some (smallest-is-smallest (enough dev fig ps) 1 (length ps - 1))
 
   pub needed-is : {j : ℕ} → Stops dev fig ps j → needed dev fig ps ≡ j
   unfolding needed
-  needed-is r = smallest-unique (smallest-smallest (enough dev fig ps) 1 (length ps - 1)) (of-stops r)
+  needed-is r = smallest-unique (smallest-is-smallest (enough dev fig ps) 1 (length ps - 1)) (of-stops r)
 
--- "the number of paths that the stopping rule needs": J of call 6 is one, if there is a path, and no other number is
-pub needed-needs : (net : Net) (r s t : ℕ) → 1 ≤ length (ranked-in net r s t) → Needs net r s t (needed (λ p. deviation net s t p r) (figure net s t) (ranked-in net r s t))
+-- "the number of paths that the stopping rule needs": J of call 6 is one, if any path is ranked, and no other number is
+pub needed-needs : (net : Net) (r s t : ℕ) → 1 ≤ length (ranked-in net r s t)
+    → Needs net r s t (needed (λ p. deviation net s t p r) (figure net s t) (ranked-in net r s t))
 needed-needs net r s t some =
     let J = needed-stops (λ p. deviation net s t p r) (figure net s t) (ranked-in net r s t) some in
     record { one-at-least = J .one-at-least; all-at-most = J .all-at-most; holds = J .holds; not-before = J .not-before }
@@ -132,10 +144,11 @@ needs-needed {net} {r} {s} {t} J =
     needed-is (λ p. deviation net s t p r) (figure net s t) (ranked-in net r s t) (record { one-at-least = J .one-at-least; all-at-most = J .all-at-most; holds = J .holds; not-before = J .not-before })
 
 pub needs-unique : {net : Net} {r s t j k : ℕ} → Needs net r s t j → Needs net r s t k → j ≡ k
-needs-unique J K = sym (needs-needed J) ∙ needs-needed K
+needs-unique a b = sym (needs-needed a) ∙ needs-needed b
 
 -- ---- along a ranked list whose deviations climb and are no more than the figures
-module _ (g : Graph) (dev fig : Route → ℕ) (ps : List Route) (rising : Rising g ps) (climbs : (p q : Route) → before g p q ≡ true → dev p ≤ dev q) (no-more : (p : Route) → dev p ≤ fig p) where
+module _ (g : Graph) (dev fig : Route → ℕ) (ps : List Route)
+    (rising : Rising g ps) (climbs : (p q : Route) → before g p q ≡ true → dev p ≤ dev q) (no-more : (p : Route) → dev p ≤ fig p) where
   -- each path is among the first j, or has at least the deviation of the next as its figure
   pub figure-ahead : (j : ℕ) {q : Route} → j < length ps → q ∈ ps → (q ∈ take j ps) ⊎ (dev (getD ps j []) ≤ fig q)
   figure-ahead j {q} h m = ⊎-elim (λ k. inl k) (λ n. inr (ahead n)) (rising-split g j rising h m)
@@ -173,7 +186,7 @@ module _ (dev fig wst : Route → ℕ) (K : ℕ) where
 
   -- if the rule holds at no number up to K, and there are more paths, it needs more
   pub needs-more : (ps : List Route) → K < length ps → ((i : ℕ) → 1 ≤ i → i ≤ K → dev (getD ps i []) < least-figure fig ps i) → K < needed dev fig ps
-  needs-more ps more going = ⊎-elim (λ e. absurd (stopped (leb-true (needed dev fig ps) K e) (J .holds))) (leb-false (needed dev fig ps) K) (split (leb (needed dev fig ps) K))
+  needs-more ps more going = ⊎-elim (λ h. absurd (stopped h (J .holds))) (λ h. h) (le-or-lt (needed dev fig ps) K)
     where
       J : Stops dev fig ps (needed dev fig ps)
       J = needed-stops dev fig ps (omega arith)
