@@ -1,6 +1,6 @@
 -- The entries of a workspace, word by word and as a list. Assumes nothing.
 -- ---- words
-use Prim.Native.Nat.{ℕ, _+_, _*_, _≤_, _<_}
+use Prim.Native.Nat.{ℕ, _+_, _*_, _-_, _≤_, _<_}
 use native.Mathlib.Omega.{arith}
 use mathlib.Core.Path.{_≡_, sym, _∙_, ap}
 use mathlib.Core.List.{List}
@@ -40,6 +40,18 @@ module _ {n : ℕ} {w : List ℕ} where
     slot-in = λ p h. slot-in (n + 16) (order n w p) (k .within p (omega (arith, k .upto))) (k .room);
     whole = k .whole;
   }
+
+-- ---- the first k nodes of the tail of the entry at a place, which begins at the word `start`
+module _ (n : ℕ) (w : List ℕ) (place k : ℕ) (h : k ≤ length (entry-at n w place .tail)) where
+  pub tail-room : k ≤ n
+  unfolding entry-at
+  tail-room = omega (arith, tail-short n w (order n w place))
+
+  pub tail-words : Readable n w (place + 1) → (start : ℕ) → start ≡ order n w place * (n + 16) + 1 → take (start + 15 + k - (start + 15)) (drop (start + 15) w) ≡ take k (entry-at n w place .tail)
+  unfolding entry-at
+  tail-words r start e =
+      let z : start + 15 + k - (start + 15) ≡ k = omega arith in
+      rw (z, e) (tail-of n w (order n w place) k tail-room (omega (arith, r .whole place (omega arith))))
 
 -- ---- the list of entries
 module _ (n : ℕ) (w : List ℕ) where

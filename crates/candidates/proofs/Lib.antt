@@ -3,3 +3,7 @@ mod SlotLaws
 mod EntryLaws
 mod InsertedLaws
 mod InsertionLaws
+mod RouteLaws
+mod FamilyLaws
+mod RootedLaws
+mod LayingLaws

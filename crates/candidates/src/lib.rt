@@ -2,11 +2,13 @@
 // can hold an entry, and the order in which they stand. A place is a position in that order.
 mod clearing;
 mod insertion;
+mod routes;
 mod slots;
 
 pub use clearing::clear;
 pub use insertion::insert;
 pub use insertion::reset;
+pub use routes::lay_out;
 pub use slots::cost_at;
 pub use slots::parent_at;
 pub use slots::shared_at;
