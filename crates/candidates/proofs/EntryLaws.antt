@@ -24,6 +24,10 @@ module _ (n : ℕ) (w : List ℕ) (i : ℕ) where
   tail-of k h j =
       ap (take k) (sym (drop-drop 15 (i * (n + 16) + 1) w)) ∙ sym (part-of-take (n + 15) 15 k (drop (i * (n + 16) + 1) w) (omega arith)) ∙ sym (take-take k (getD (slot n w i) 4 0) (drop 15 (slot n w i)) j)
 
+  pub node-of : (k : ℕ) → k < length (decode (slot n w i) .tail) → getD (slot n w i) (15 + k) 0 ≡ getD (decode (slot n w i) .tail) k 0
+  unfolding decode
+  node-of k h = sym (getD-take (getD (slot n w i) 4 0) (drop 15 (slot n w i)) k 0 (omega (arith, length-take (getD (slot n w i) 4 0) (drop 15 (slot n w i)))) ∙ getD-drop 15 (slot n w i) k 0)
+
   pub tail-short : length (decode (slot n w i) .tail) ≤ n
   unfolding decode slot
   tail-short = simp (length-take, length-drop) (omega arith)

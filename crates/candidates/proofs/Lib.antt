@@ -7,3 +7,4 @@ mod RouteLaws
 mod FamilyLaws
 mod RootedLaws
 mod LayingLaws
+mod BarLaws

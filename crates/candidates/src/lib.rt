@@ -1,10 +1,12 @@
 // Ranked paths and candidates, kept in a workspace of numbers: slots of n + 16 words, each of which
 // can hold an entry, and the order in which they stand. A place is a position in that order.
+mod bars;
 mod clearing;
 mod insertion;
 mod routes;
 mod slots;
 
+pub use bars::set_bars;
 pub use clearing::clear;
 pub use insertion::insert;
 pub use insertion::reset;

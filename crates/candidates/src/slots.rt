@@ -53,3 +53,11 @@ pub fn tail_length_at(work: &[u32], n: usize, place: usize) -> usize
 {
     word_at(work, n, place, 4) as usize
 }
+
+// Node i of the tail.
+pub fn node_at(work: &[u32], n: usize, place: usize, i: usize) -> usize
+    requires { ⌜ Readable n (now work) (place + 1) × (i < length (entry-at n (now work) place .tail)) ⌝ }
+    ensures { λ r. ⌜ r ≡ getD (entry-at n (now (work .entry)) place .tail) i 0 ⌝ }
+{
+    word_at(work, n, place, 15 + i) as usize
+}
