@@ -6,7 +6,7 @@ use mathlib.Core.Path.{_≡_, refl, sym, _∙_, ap, ap₂}
 use mathlib.Core.List.{List, [], _∷_, _++_, append-assoc}
 use mathlib.Core.Logic.{⊎-elim}
 use lib.ListN.{length, take, drop, set, take-append-drop}
-use lib.Seq.{take-at, take-all, take-take, take-append-le, take-append-add, drop-at}
+use lib.Seq.{length-take-le, take-at, take-all, take-take, take-append-le, take-append-add, drop-at}
 use Rattle.terms.proofs.ListLaws.{le-or-lt}
 use Rattle.candidates.proofs.PartLaws.{high-drop}
 use borrow.Rule.Slice.PartMut.{putMid, post-is}
@@ -53,3 +53,7 @@ start-laid s shared count b (x ∷ path) e o c h = let z : min shared count ≡ 
 -- the first k nodes of the parent's route r
 pub parent-laid : (shared count k : ℕ) (b r path path′ : List ℕ) → b ≡ take shared r → k ≡ min shared count → path′ ≡ take k r ++ drop k path → path′ ≡ take (min shared count) b ++ drop (min shared count) path
 parent-laid shared count k b r path path′ e z l = l ∙ (rw (z, e, take-take (min shared count) shared r (omega arith)) refl)
+
+-- ---- a whole route r in a path
+pub all-laid : (k : ℕ) (r path path′ : List ℕ) → k ≡ length r → path′ ≡ take k r ++ drop k path → take k path′ ≡ r
+all-laid k r path path′ z e = ap (take k) e ∙ take-at (take k r) (drop k path) k (length-take-le k r (omega arith)) ∙ take-all k r (omega arith)

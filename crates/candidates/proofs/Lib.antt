@@ -8,3 +8,4 @@ mod FamilyLaws
 mod RootedLaws
 mod LayingLaws
 mod BarLaws
+mod PlacingLaws
