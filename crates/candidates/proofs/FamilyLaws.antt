@@ -1,6 +1,4 @@
 -- Families: their beginnings, an entry that is put in, and the length of each route. Assumes nothing.
--- ---- one entry
--- only the entries before place p count
 use Prim.Native.Nat.{ℕ, zero, suc, _+_, _-_, _≤_, _<_}
 use native.Mathlib.Omega.{arith}
 use native.Mathlib.Nat.{eq-or-lt-of-le}
@@ -17,6 +15,8 @@ use Rattle.candidates.specs.Routes.{beginning, route, routes, size, Fits
 use Rattle.candidates.proofs.InsertedLaws.{length-inserted, inserted-before, inserted-at, inserted-after}
 use Rattle.candidates.proofs.RouteLaws.{beginning-start, beginning-parent, routes-at}
 
+-- ---- one entry
+-- only the entries before place p count
 fits-same : {n p : ℕ} {E F : List Entry} {e : Entry} → ((r : ℕ) → r < p → getD F r none ≡ getD E r none) → Fits n E p e → Fits n F p e
 fits-same {n} {p} {E} {F} {e} same f = record {
   some = f .some;
