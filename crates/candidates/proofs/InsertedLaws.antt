@@ -1,14 +1,21 @@
 -- A list with one more element put in, place by place. Assumes nothing.
 use Prim.Native.Nat.{ℕ, zero, suc, _+_, _-_, _≤_, _<_, min}
 use native.Mathlib.Omega.{arith}
+use native.Mathlib.Nat.{eq-or-lt-of-le}
 use native.Mathlib.Numerals.{add-one}
+use mathlib.Core.Logic.{⊎-elim}
 use mathlib.Core.Path.{_≡_, refl, sym, _∙_, ap}
 use mathlib.Core.List.{List, [], _∷_, map}
 use lib.ListN.{length, getD, take, drop, length-append, length-take, length-drop}
 use lib.Seq.{getD-take, take-append-le, take-take, take-nil}
-use Rattle.terms.proofs.ListLaws.{take-map}
+use Rattle.terms.proofs.ListLaws.{le-or-lt, take-map}
 use Rattle.candidates.specs.Keeping.{inserted, put-in}
 
+-- a place i is before place p, is p, or is behind it
+pub by-place : {X : Type 0} (p i : ℕ) → (i < p → X) → (i ≡ p → X) → ((q : ℕ) → p ≤ q → i ≡ q + 1 → X) → X
+by-place p i before here behind = ⊎-elim (λ a. ⊎-elim (λ e. here (sym e)) (λ b. behind (i - 1) (omega arith) (omega arith)) (eq-or-lt-of-le a)) before (le-or-lt p i)
+
+-- ---- x put in at place p
 module _ {A : Type 0} (p : ℕ) (x : A) (l : List A) (h : p ≤ length l) where
   pub length-inserted : length (inserted p x l) ≡ length l + 1
   unfolding inserted
@@ -28,6 +35,7 @@ module _ {A : Type 0} (p : ℕ) (x : A) (l : List A) (h : p ≤ length l) where
   unfolding put-in
   put-beyond M k = take-inserted M k
 
+-- what stands at each place then
 module _ {A : Type 0} (x d : A) where
   pub inserted-before : (p : ℕ) (l : List A) (i : ℕ) → i < p → p ≤ length l → getD (inserted p x l) i d ≡ getD l i d
   inserted-before p l i h k = sym (getD-take p (inserted p x l) i d h) ∙ ap (λ (m : List A). getD m i d) (take-inserted p x l k p (omega arith)) ∙ getD-take p l i d h

@@ -1,9 +1,9 @@
 -- How the order changes where an entry is put in. Assumes nothing.
 use Prim.Native.Nat.{ℕ, _+_, _*_, _-_, _/_, _%_, _≤_, _<_, min}
 use native.Mathlib.Omega.{arith}
-use native.Mathlib.Nat.{mul-le-mul-right, eq-or-lt-of-le}
+use native.Mathlib.Nat.{mul-le-mul-right}
 use mathlib.Core.Path.{_≡_, refl, sym, _∙_, ap, subst}
-use mathlib.Core.Logic.{_⊎_, inl, inr, ⊎-elim}
+use mathlib.Core.Logic.{_⊎_, ⊎-elim}
 use mathlib.Core.List.{List, [], _∷_, _++_}
 use lib.ListN.{length, getD, take, drop, set}
 use lib.Seq.{drop-set-lt, take-at, drop-at, length-take-le, ext-getD, getD-take}
@@ -13,7 +13,7 @@ use Rattle.candidates.specs.Slots.{Entry, entry, none, order, slot, deco
 use Rattle.candidates.specs.Keeping.{Kept, From, before, moved-up, moved-on, behind, Shifted, Put, Inserted, inserted, put-in}
 use Rattle.candidates.proofs.PartLaws.{high-drop}
 use Rattle.candidates.proofs.EntryLaws.{length-entries, entries-at}
-use Rattle.candidates.proofs.InsertedLaws.{length-put, inserted-before, inserted-at, inserted-after}
+use Rattle.candidates.proofs.InsertedLaws.{by-place, length-put, inserted-before, inserted-at, inserted-after}
 use Rattle.candidates.proofs.SlotLaws.{slot-end, order-new, order-other, slot-same, order-beside, slot-beside}
 
 -- ---- no entries
@@ -140,11 +140,8 @@ put-new {n} {place} {last} {i} {e} {w} {w₁} {w₂} z s low high new whole = re
 module _ {place last : ℕ} (low : place ≤ last) where
   -- each place below M has one from a place below M
   pub from-place : {M : ℕ} (p : ℕ) → last < M → p < M → (q : ℕ) × From place last p q × (q < M)
-  from-place {M} p h k = ⊎-elim (λ a. ⊎-elim (λ b. up b (eq-or-lt-of-le a)) (λ b. (p, behind b refl, k)) (le-or-lt p last)) (λ a. (p, before a refl, k)) (le-or-lt place p)
-    where
-      up : p ≤ last → (place ≡ p) ⊎ (place < p) → (q : ℕ) × From place last p q × (q < M)
-      up b (inl e) = (last, moved-up (sym e) refl, h)
-      up b (inr a) = (p - 1, moved-on (omega arith) (omega arith) (omega arith), omega arith)
+  from-place p h k =
+      by-place place p (λ a. (p, before a refl, k)) (λ z. (last, moved-up z refl, h)) (λ q a z. ⊎-elim (λ b. (q, moved-on a (omega arith) z, omega arith)) (λ b. (p, behind b refl, k)) (le-or-lt p last))
 
   -- and no two the same
   pub from-once : {p q r s : ℕ} → From place last p r → From place last q s → r ≡ s → p ≡ q
@@ -178,7 +175,7 @@ module _ {n M place last count : ℕ} {e : Entry} {w w′ : List ℕ} (k : Kept 
 
   -- to show something of each place up to `last`: of the new one, and of the others
   each : (P : ℕ → Type 0) → P place → ((p q : ℕ) → From place last p q → q < last → P p) → (p : ℕ) → p < last + 1 → P p
-  each P new old p h = ⊎-elim (λ a. ⊎-elim (λ z. subst P z new) (λ b. old p (p - 1) (moved-on (omega arith) (omega arith) (omega arith)) (omega arith)) (eq-or-lt-of-le a)) (λ a. old p p (before a refl) (omega arith)) (le-or-lt place p)
+  each P new old p h = by-place place p (λ a. old p p (before a refl) (omega arith)) (λ z. subst P (sym z) new) (λ q a z. old p q (moved-on a (omega arith) z) (omega arith))
 
   abbrev E : List Entry
   E = entries n w count
