@@ -1,0 +1,15 @@
+// The path layer's calls on images: Label and Regret of document 01. No call asks anything of its caller.
+
+mod arcs;
+mod columns;
+mod decoding;
+mod labelling;
+mod lists;
+mod measuring;
+mod rows;
+
+pub use labelling::Labelled;
+pub use labelling::label;
+pub use measuring::Measure;
+pub use measuring::Regretted;
+pub use measuring::regret;
