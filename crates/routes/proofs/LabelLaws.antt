@@ -61,6 +61,10 @@ narrowed-at ls i = let e : 1 + i ≡ i + 1 = omega arith in List·getD-map narro
 pub length-narrowed : (ls : List ℕ) → length (map narrowed (drop 1 ls)) ≡ length ls - 1
 length-narrowed ls = simp (length-map, length-drop)
 
+pub length-labels : (n : ℕ) (g : Graph) (t : ℕ) → length (labels n g t) ≡ n
+unfolding labels
+length-labels n g t = simp (length-map, length-numbers)
+
 -- ---- exact labels of a graph in arrays, at a node
 module _ {n t : ℕ} {ts hs ws ls : List ℕ} (arcs : Arcs n ts hs ws) (l : Least (graph ts hs ws) [] t ls) (long : length ls ≡ n + 1) (v : ℕ) (lo : 1 ≤ v) (hi : v ≤ n) where
   free : (x : ℕ) → 1 ≤ x → x ≤ n → getD {A = ℕ} [] x 0 ≡ 0

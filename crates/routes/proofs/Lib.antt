@@ -5,3 +5,4 @@ pub mod RowLaws
 pub mod ArcLaws
 pub mod RoomLaws
 pub mod ListLaws
+pub mod RegretLaws

@@ -1,3 +1,16 @@
+use Prim.Native.Nat.{ℕ, _≤_}
+use native.Mathlib.Omega.{arith}
+use mathlib.Core.Path.{_≡_, sym, _∙_, ap}
+use mathlib.Core.List.{List, [], _++_}
+use lib.ListN.{length, drop}
+use Rattle.image.specs.Outcome.{sound}
+use Rattle.image.specs.Calls.{sizes}
+use Rattle.image.specs.Answers.{checked, refused}
+use Rattle.image.proofs.OutcomeLaws.{refuses-fault, outcome-fault, outcome-sound, after-fault, after-sound}
+use Rattle.routes.specs.Calls.{label-fault, label-outcome, labels-of}
+use Rattle.routes.specs.Decoded.{Accepted}
+use Rattle.routes.proofs.LabelLaws.{length-labels}
+use Rattle.routes.proofs.RowLaws.{sized-sound, accepted-of, in-column, LabelSound, label-sound}
 use borrow.Author.Needs.{needs}
 use Rattle.routes.proofs.labelling.label.Statement.{statement}
 use Rattle.routes.proofs.labelling.label.Tie as tie
@@ -25,11 +38,34 @@ refusal-requires c κs = search needs
 
 -- src/labelling.rt:103:9
 returns : tie.Need-returns
-returns c = ?
+unfolding label-outcome
+returns c = let t = c .before in
+    let k = t .before .before in
+    let a = k .before .before .before .args in
+    let e = refuses-fault (label-fault (a .image .now) (a .column) (a .goal) (length (a .labels .now))) (sizes (a .image .now)) (sym (ap checked (t .enum-told .given .1)) ∙ k .check-label .ensures) in
+    (ap refused (c .refusal .ensures _ (t .enum-told .given .1)) ∙ sym (outcome-fault _ e), sym (after-fault _ _ e))
+
+-- where its rows give sizes, none of them applies and they are the image's
+abbrev start : tie.After-answer → tie.Start
+start c = c .before .before .before .before .before
+
+passes : (c : tie.After-answer) → (label-fault (start c .args .image .now) (start c .args .column) (start c .args .goal) (length (start c .args .labels .now)) ≡ sound) × Accepted (start c .args .image .now) (c .answer .given .0 .0 .n) (c .answer .given .0 .0 .m) (c .answer .given .0 .0 .k)
+passes c =
+    let k = sized-sound (label-fault (start c .args .image .now) (start c .args .column) (start c .args .goal) (length (start c .args .labels .now))) (sym (ap checked (c .answer .given .1)) ∙ c .before .before .check-label .ensures) in
+    (k .0, accepted-of (label-sound _ _ _ _ (k .0) .accepted) (k .1))
+
+given : (c : tie.After-answer) → LabelSound (start c .args .image .now) (start c .args .column) (start c .args .goal) (length (start c .args .labels .now))
+given c = label-sound _ _ _ _ (passes c .0)
+
+known : (c : tie.After-answer) → Accepted (start c .args .image .now) (c .answer .given .0 .0 .n) (c .answer .given .0 .0 .m) (c .answer .given .0 .0 .k)
+known c = passes c .1
 
 -- src/labelling.rt:105:5
 write-labels-requires : tie.Need-write-labels-requires
-write-labels-requires c κs = ?
+write-labels-requires c κs = let a = c .before .before in
+    let g = given a in
+    let k = known a in
+    (record { passes = k .passes; arcs-are = k .arcs-are; from = g .from; upto = g .upto }, ((k .nodes-are, omega (arith, k .nodes-are, g .room-for)), g .goal))
 
 -- src/labelling.rt:97:1
 same-length : tie.Need-same-length
@@ -37,7 +73,12 @@ same-length c = search needs
 
 -- src/labelling.rt:97:1
 returns-2 : tie.Need-returns-2
-returns-2 c = ?
+unfolding label-outcome labels-of
+returns-2 c = let w = c .before .before in
+    let a = w .before .before .before in
+    let e = passes a .0 in
+    let s = a .before .before .before .before .before .args in
+    (sym (outcome-sound _ e), w .write-labels .ensures ∙ ap (λ (n : ℕ). labels-of (s .image .now) (s .column) (s .goal) ++ drop n (s .labels .now)) (known a .nodes-are ∙ sym (length-labels _ _ _)) ∙ sym (after-sound _ _ e))
 
 pub label-spec : {M : Type 1} → statement M
 label-spec =
