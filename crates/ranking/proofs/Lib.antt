@@ -1,0 +1,6 @@
+pub mod PartLaws
+pub mod BranchLaws
+pub mod SplitLaws
+pub mod PoolLaws
+pub mod SearchLaws
+pub mod LateLaws

@@ -1,0 +1,4 @@
+pub mod Branches
+pub mod Parts
+pub mod Pool
+pub mod Search
