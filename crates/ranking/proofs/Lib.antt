@@ -4,3 +4,5 @@ pub mod SplitLaws
 pub mod PoolLaws
 pub mod SearchLaws
 pub mod LateLaws
+pub mod WalkLaws
+pub mod FlagLaws

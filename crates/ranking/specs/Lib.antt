@@ -1,4 +1,6 @@
 pub mod Branches
+pub mod Flags
 pub mod Parts
 pub mod Pool
 pub mod Search
+pub mod Walks
