@@ -3,16 +3,16 @@ use Prim.Native.Nat.{ℕ, zero, suc, _≤_, _<_}
 use native.Mathlib.Omega.{arith}
 use mathlib.Core.Path.{_≡_, refl, sym, _∙_, ap, subst}
 use mathlib.Core.Bool.{Bool, true, false, _||_}
-use mathlib.Core.Logic.{_≢_, _⊎_, inl, inr, ⊎-elim}
-use mathlib.Core.List.{List, [], _∷_, _++_, tail, append-nil, reverseAux, head-eq-of-cons-eq, tail-eq-of-cons-eq, List·Memᴰ·head, List·Memᴰ·tail, List·Memᴰ·append-cases, List·Memᴰ·eq-of-singleton}
+use mathlib.Core.Logic.{_≢_, inl, inr, ⊎-elim}
+use mathlib.Core.List.{List, [], _∷_, _++_, tail, append-nil, reverseAux, head-eq-of-cons-eq, tail-eq-of-cons-eq, List·Memᴰ·head, List·Memᴰ·tail}
 use lib.ListN.{length, take}
 use lib.Seq.{append-snoc}
 use lib.Dec.{eqb}
-use Rattle.terms.specs.Lists.{_∈_, elem, last}
+use Rattle.terms.specs.Lists.{_∈_, elem}
 use Rattle.terms.specs.Network.{Graph, linked}
 use Rattle.terms.specs.Paths.{Route, ByArcs, single, along, Loopless, empty, fresh, Path}
 use Rattle.terms.proofs.ListLaws.{split, clash, elem-mem, mem-elem, take-mem, outside-cons, cons-outside, outside-apart}
-use Rattle.terms.proofs.PathLaws.{PathFrom, arrive, onward, starts, extend, step, to-path, of-path}
+use Rattle.terms.proofs.PathLaws.{PathFrom, arrive, onward, step, to-path, of-path}
 use Rattle.terms.proofs.PrefixLaws.{tail-path, other-tail, before-prefix}
 use Rattle.terms.proofs.RankingLaws.{NoLater, no-later-antisym}
 use Rattle.ranking.specs.Branches.{clear, branch, everything, Branch, In, First, Beginning}

@@ -1,26 +1,24 @@
 -- Flags of a list of nodes: setting and clearing one, their number, and exact labels where the flagged nodes are barred. Assumes nothing.
-use Prim.Native.Nat.{ℕ, suc, _+_, _≤_, _<_}
+use Prim.Native.Nat.{ℕ, _+_, _≤_, _<_}
 use native.Mathlib.Omega.{arith}
 use mathlib.Core.Path.{_≡_, refl, sym, _∙_, ap, subst}
-use mathlib.Core.Bool.{true, false}
+use mathlib.Core.Bool.{false}
 use mathlib.Core.Logic.{_≢_, ⊎-elim}
 use mathlib.Core.List.{List, [], _∷_, _++_, tail, List·Memᴰ·head, List·Memᴰ·tail, List·Memᴰ·append-cases, List·Memᴰ·eq-of-singleton, Memᴰ·append-left, Memᴰ·append-right}
 use lib.ListN.{length, getD, set, length-append, length-set, List·getD-eq-default}
 use lib.Seq.{ext-getD}
 use Rattle.terms.specs.Lists.{_∈_, elem}
-use Rattle.terms.specs.Network.{Graph}
 use Rattle.terms.specs.Paths.{Route, Loopless, empty, fresh, cost}
-use Rattle.terms.proofs.ListLaws.{split, le-or-lt, elem-mem, mem-elem, outside-cons, cons-outside, outside-apart}
+use Rattle.terms.proofs.ListLaws.{split, le-or-lt, elem-mem, outside-cons, cons-outside, outside-apart}
 use Rattle.terms.proofs.PathLaws.{PathFrom, of-path}
 use Rattle.terms.proofs.PrefixLaws.{rebar}
 use Rattle.labels.specs.Arcs.{graph, Arcs}
-use Rattle.labels.specs.Labels.{far, FreePath, Least}
+use Rattle.labels.specs.Labels.{FreePath, Least}
 use Rattle.labels.specs.Queue.{sum}
 use Rattle.labels.proofs.ArcLaws.{graph-within}
 use Rattle.labels.proofs.LabelLaws.{least-goal, least-along}
 use Rattle.labels.proofs.Stores.{set-each, sum-set, sum-le}
 use Rattle.ranking.specs.Flags.{Flagged}
-use Rattle.ranking.specs.Walks.{Consistent}
 use Rattle.ranking.proofs.BranchLaws.{elem-snoc, loopless-snoc}
 use Rattle.ranking.proofs.WalkLaws.{Attained, Exact}
 

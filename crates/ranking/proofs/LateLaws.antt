@@ -2,10 +2,10 @@
 use Prim.Native.Nat.{ℕ, zero, suc, _-_, _≤_, _<_}
 use native.Mathlib.Omega.{arith}
 use native.Mathlib.Nat.{eq-or-lt-of-le}
-use mathlib.Core.Path.{_≡_, refl}
+use mathlib.Core.Path.{_≡_}
 use mathlib.Core.Bool.{true}
 use mathlib.Core.Logic.{_⊎_, inl, inr, ⊎-elim}
-use mathlib.Core.List.{List, [], _∷_, List·Memᴰ·cases-cons}
+use mathlib.Core.List.{List, [], List·Memᴰ·cases-cons}
 use lib.ListN.{length, take, getD}
 use Rattle.terms.specs.Lists.{_∈_}
 use Rattle.terms.specs.Network.{Graph}

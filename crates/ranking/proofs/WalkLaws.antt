@@ -21,7 +21,7 @@ use Rattle.terms.proofs.RankingLaws.{NoLater, by-first-lt, by-first-eq, before-
 use Rattle.labels.specs.Labels.{far}
 use Rattle.ranking.specs.Branches.{clear, branch, In, First, Beginning}
 use Rattle.ranking.specs.Walks.{Consistent, Exit, Choice, Tight, Outside, Allowed, TightWalk, arrived, follow}
-use Rattle.ranking.proofs.BranchLaws.{nothing-barred, ends, met, met-snoc, elem-met, elem-snoc, FirstTail, Leads, leads-path, in-whole, in-tail, in-branch, first-of-tail, tail-of-first, beginning-leads}
+use Rattle.ranking.proofs.BranchLaws.{nothing-barred, ends, met, met-snoc, elem-met, elem-snoc, FirstTail, leads-path, in-whole, in-tail, in-branch, first-of-tail, tail-of-first, beginning-leads}
 
 -- ---- which nodes are open matters, not how that is said
 module _ {g : Graph} {ls : List ℕ} {Open Open′ : ℕ → Type 0} where
