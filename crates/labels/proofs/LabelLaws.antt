@@ -151,15 +151,18 @@ module _ {n t : ℕ} {ts hs ws bars ls : List ℕ} (arcs : Arcs n ts hs ws) (l :
       reached-label = label-reached n (graph ts hs ws) v t (reached-path .1) ∙ reached-best
 
     -- the mark
-    pub unreached-paths : getD ls v 0 ≡ far → paths n (graph ts hs ws) v t ≡ []
-    unreached-paths e = none (paths n (graph ts hs ws) v t) listed-le
-      where
-        none : (k : List Route) → ((p : Route) → p ∈ k → (getD ls v 0 ≤ cost (graph ts hs ws) p) × (getD ls v 0 < far)) → k ≡ []
-        none [] h = refl
-        none (p ∷ k) h = absurd (omega (arith, h p (List·Memᴰ·head refl) .1))
+    pub unreached-none : getD ls v 0 ≡ far → (p : Route) → p ∈ paths n (graph ts hs ws) v t → ⊥
+    unreached-none e p m = omega (arith, listed-le p m .1)
 
     pub unreached-label : getD ls v 0 ≡ far → label n (graph ts hs ws) t v ≡ mark
-    unreached-label e = label-unreached n (graph ts hs ws) v t (unreached-paths e)
+    unreached-label e = label-unreached n (graph ts hs ws) v t (unreached-none e)
+
+    pub unreached-paths : getD ls v 0 ≡ far → paths n (graph ts hs ws) v t ≡ []
+    unreached-paths e = none (paths n (graph ts hs ws) v t) (unreached-none e)
+      where
+        none : (k : List Route) → ((p : Route) → p ∈ k → ⊥) → k ≡ []
+        none [] h = refl
+        none (p ∷ k) h = absurd (h p (List·Memᴰ·head refl))
 
     pub no-paths-far : v < length ls → paths n (graph ts hs ws) v t ≡ [] → getD ls v 0 ≡ far
     no-paths-far long e = by-case (decLt (getD ls v 0) far)

@@ -1,0 +1,135 @@
+-- Check, row by row: which row of an image's header applies, and what is known where none does. Assumes nothing.
+use Prim.Native.Nat.{ℕ, _+_, _*_, _≤_, _<_}
+use native.Mathlib.Omega.{arith}
+use mathlib.Core.Path.{_≡_, refl, sym, _∙_, ap}
+use mathlib.Core.Bool.{Bool, true, false, not, _&&_}
+use mathlib.Core.List.{List, [], _∷_}
+use lib.Dec.{leb, ltb, eqb}
+use lib.ListN.{length}
+use borrow.Author.Tests.{lt-ltb, le-ltb, ltb-false, leb-true, eq-eqb, ne-eqb, eqb-true, not-true, not-false}
+use Rattle.terms.proofs.ListLaws.{and-both}
+use Rattle.image.specs.Outcome.{sound, fault, row, _then_, gives, refuses, outcome}
+use Rattle.image.specs.Rows.{in-range, pairs, lists-fault}
+use Rattle.image.specs.Layout.{edition, node-count, arc-count, column-count, fields-right, costs-start, total, nodes-in, costs-in, node-list, cost-list}
+use Rattle.image.specs.Calls.{header-fault, image-fault, sizes, check-outcome}
+use Rattle.image.proofs.OutcomeLaws.{then-next, then-sound, row-sound, gives-sound, refuses-fault}
+
+-- ---- sizes
+pub record InRange (n m k : ℕ) : Type 0 where
+  pub nodes-from : 2 ≤ n
+  pub nodes-to : n ≤ 200
+  pub arcs-to : m ≤ 1000
+  pub columns-from : 1 ≤ k
+  pub columns-to : k ≤ 8
+
+pub in-range-true : {n m k : ℕ} → in-range n m k ≡ true → InRange n m k
+unfolding in-range
+in-range-true {n} {m} {k} e =
+    let e₁ = and-both (leb 2 n) _ e in
+    let e₂ = and-both (leb n 200) _ (e₁ .1) in
+    let e₃ = and-both (leb m 1000) _ (e₂ .1) in
+    let e₄ = and-both (leb 1 k) (leb k 8) (e₃ .1) in
+    record { nodes-from = leb-true _ _ (e₁ .0); nodes-to = leb-true _ _ (e₂ .0); arcs-to = leb-true _ _ (e₃ .0); columns-from = leb-true _ _ (e₄ .0); columns-to = leb-true _ _ (e₄ .1) }
+
+-- ---- the header
+module _ (b : List ℕ) where
+  pub row-1 : length b < 24 → header-fault b ≡ fault 1 0
+  unfolding header-fault row _then_
+  row-1 h = rw (lt-ltb _ _ h)
+
+  module _ (long : 24 ≤ length b) where
+    pub row-2 : (edition b ≡ 1 → ⊥) → header-fault b ≡ fault 2 0
+    unfolding header-fault row _then_
+    row-2 h = rw (le-ltb _ _ long, ne-eqb _ _ h)
+
+    module _ (first : edition b ≡ 1) where
+      pub row-3 : in-range (node-count b) (arc-count b) (column-count b) ≡ false → header-fault b ≡ fault 3 0
+      unfolding header-fault row _then_
+      row-3 h = rw (le-ltb _ _ long, eq-eqb _ _ first, h)
+
+      module _ (ranges : in-range (node-count b) (arc-count b) (column-count b) ≡ true) where
+        pub row-4 : fields-right b (arc-count b) (column-count b) ≡ false → header-fault b ≡ fault 4 0
+        unfolding header-fault row _then_
+        row-4 h = rw (le-ltb _ _ long, eq-eqb _ _ first, ranges, h)
+
+        module _ (fields : fields-right b (arc-count b) (column-count b) ≡ true) where
+          pub row-5 : (length b ≡ total (arc-count b) (column-count b) → ⊥) → header-fault b ≡ fault 5 0
+          unfolding header-fault row _then_
+          row-5 h = rw (le-ltb _ _ long, eq-eqb _ _ first, ranges, fields, ne-eqb _ _ h)
+
+          pub rows-pass : length b ≡ total (arc-count b) (column-count b) → header-fault b ≡ sound
+          unfolding header-fault row _then_
+          rows-pass h = rw (le-ltb _ _ long, eq-eqb _ _ first, ranges, fields, eq-eqb _ _ h)
+
+-- what a sound header says
+pub record HeaderSound (b : List ℕ) : Type 0 where
+  pub long : 24 ≤ length b
+  pub first : edition b ≡ 1
+  pub ranges : InRange (node-count b) (arc-count b) (column-count b)
+  pub fields : fields-right b (arc-count b) (column-count b) ≡ true
+  pub whole : length b ≡ total (arc-count b) (column-count b)
+
+pub header-sound : (b : List ℕ) → header-fault b ≡ sound → HeaderSound b
+unfolding header-fault
+header-sound b e =
+    let e₁ = then-sound _ _ e in
+    let e₂ = then-sound _ _ (e₁ .1) in
+    let e₃ = then-sound _ _ (e₂ .1) in
+    let e₄ = then-sound _ _ (e₃ .1) in
+    record { long = ltb-false _ _ (row-sound _ _ _ (e₁ .0)); first = eqb-true _ _ (not-false _ (row-sound _ _ _ (e₂ .0))); ranges = in-range-true (not-false _ (row-sound _ _ _ (e₃ .0))); fields = not-false _ (row-sound _ _ _ (e₄ .0)); whole = eqb-true _ _ (not-false _ (row-sound _ _ _ (e₄ .1))) }
+
+-- ---- the length of an image
+pub total-is : (m k : ℕ) → total m k ≡ costs-start m + 4 * (m * k)
+unfolding total
+total-is m k = refl
+
+pub costs-start-is : (m : ℕ) → costs-start m ≡ 24 + 4 * m
+unfolding costs-start
+costs-start-is m = refl
+
+-- ---- the whole check
+-- three numbers that are the image's sizes
+pub record Sized (b : List ℕ) (n m k : ℕ) : Type 0 where
+  pub n-is : n ≡ node-count b
+  pub m-is : m ≡ arc-count b
+  pub k-is : k ≡ column-count b
+
+pub sized : (b : List ℕ) {n m k : ℕ} → n ∷ m ∷ k ∷ [] ≡ sizes b → Sized b n m k
+unfolding sizes
+sized b e = record { n-is = cc; m-is = cc; k-is = cc }
+
+pub same-sizes : (b : List ℕ) {n m k : ℕ} → Sized b n m k → n ∷ m ∷ k ∷ [] ≡ sizes b
+unfolding sizes
+same-sizes b s = cc (s .n-is, s .m-is, s .k-is)
+
+-- past a sound header the lists decide
+pub body-decides : (b : List ℕ) (n m k : ℕ) → header-fault b ≡ sound → Sized b n m k
+    → outcome (lists-fault n (pairs m (nodes-in m b)) (costs-in m k b)) (n ∷ m ∷ k ∷ []) ≡ check-outcome b
+unfolding check-outcome image-fault node-list cost-list sizes
+body-decides b n m k h s =
+    let e₁ : n ≡ node-count b = s .n-is in
+    let e₂ : m ≡ arc-count b = s .m-is in
+    let e₃ : k ≡ column-count b = s .k-is in
+    rw (e₁, e₂, e₃, then-next _ h)
+
+-- and its sizes are bounded
+pub bounds : (b : List ℕ) (n m k : ℕ) → header-fault b ≡ sound → Sized b n m k → (m ≤ 1000) × (k ≤ 8) × (length b ≡ total m k)
+bounds b n m k h s =
+    let r = header-sound b h in
+    let e₂ : m ≡ arc-count b = s .m-is in
+    let e₃ : k ≡ column-count b = s .k-is in
+    (rw e₂ (r .ranges .arcs-to), rw e₃ (r .ranges .columns-to), rw (e₂, e₃) (r .whole))
+
+-- an accepted image has a sound header
+pub accepted-header : (b : List ℕ) → image-fault b ≡ sound → header-fault b ≡ sound
+unfolding image-fault
+accepted-header b e = then-sound _ _ e .0
+
+-- what an answer of Check says of the image: it is accepted, and these are its sizes; or this fault applies
+pub accepted : (b : List ℕ) {n m k : ℕ} → gives (n ∷ m ∷ k ∷ []) ≡ check-outcome b → (image-fault b ≡ sound) × Sized b n m k
+unfolding check-outcome
+accepted b e = let g = gives-sound (image-fault b) (sizes b) e in (g .0, sized b (g .1))
+
+pub rejected : (b : List ℕ) {n p : ℕ} → refuses n p ≡ check-outcome b → image-fault b ≡ fault n p
+unfolding check-outcome
+rejected b e = refuses-fault (image-fault b) (sizes b) e

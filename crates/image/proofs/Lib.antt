@@ -1,0 +1,7 @@
+pub mod OutcomeLaws
+pub mod ByteLaws
+pub mod SliceLaws
+pub mod RowLaws
+pub mod CheckLaws
+pub mod UnpackLaws
+pub mod BuildLaws

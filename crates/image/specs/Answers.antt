@@ -1,0 +1,34 @@
+-- What the answers of Check, Unpack and Build say: 01's values, or the refusal's number and place. Assumes nothing.
+use mathlib.Core.Path.{_≡_}
+use mathlib.Core.List.{List, [], _∷_}
+use Prim.Native.Nat.{ℕ}
+use Rattle.image.specs.declared.refusal.Refusal.{Refusal}
+use Rattle.image.specs.declared.checking.Sizes.{Sizes}
+use Rattle.image.specs.declared.checking.Checked.{Checked}
+use Rattle.image.specs.declared.checking.Checked.the-variants as check
+use Rattle.image.specs.declared.unpacking.Unpacked.{Unpacked}
+use Rattle.image.specs.declared.unpacking.Unpacked.the-variants as unpack
+use Rattle.image.specs.declared.building.Built.{Built}
+use Rattle.image.specs.declared.building.Built.the-variants as build
+use Rattle.image.specs.Outcome.{Outcome, gives, refuses}
+use Rattle.image.specs.Refusals.{numberOf, placeOf}
+
+-- n, m and k
+abbrev pub triple : Sizes → List ℕ
+triple s = s .n ∷ s .m ∷ s .k ∷ []
+
+abbrev pub refused : Refusal → Outcome
+refused r = refuses (numberOf r) (placeOf r)
+
+abbrev pub checked : Checked → Outcome
+checked (check.Network s) = gives (triple s)
+checked (check.Refused r) = refused r
+
+abbrev pub unpacked : Unpacked → Outcome
+unpacked (unpack.Lists s) = gives (triple s)
+unpacked (unpack.Refused r) = refused r
+
+-- the image's length
+abbrev pub built : Built → Outcome
+built (build.Image n) = gives (n ∷ [])
+built (build.Refused r) = refused r

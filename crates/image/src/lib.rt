@@ -1,0 +1,19 @@
+// The image layer: Check, Build and Unpack of document 01, and the parts of an accepted image that
+// the layers above read. No call of document 01 asks anything of its caller.
+
+mod building;
+mod bytes;
+mod checking;
+mod layout;
+mod refusal;
+mod rows;
+mod unpacking;
+
+pub use building::Built;
+pub use building::build;
+pub use checking::Checked;
+pub use checking::Sizes;
+pub use checking::check;
+pub use refusal::Refusal;
+pub use unpacking::Unpacked;
+pub use unpacking::unpack;

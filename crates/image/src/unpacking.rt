@@ -1,0 +1,74 @@
+// Unpack: the lists of an image.
+use super::bytes::read16;
+use super::bytes::read32;
+use super::checking::Checked;
+use super::checking::Sizes;
+use super::checking::check;
+use super::layout::cost_count;
+use super::layout::costs_start;
+use super::refusal::Refusal;
+ghost use mathlib.Core.Path.{_≡_};
+ghost use mathlib.Core.List.{_++_};
+ghost use Prim.Native.Nat.{_+_, _*_, _≤_};
+ghost use lib.ListN.{length, drop};
+ghost use Rattle.image.specs.Bytes.{decode};
+ghost use Rattle.image.specs.Outcome.{after};
+ghost use Rattle.image.specs.Layout.{node-list, cost-list};
+ghost use Rattle.image.specs.Calls.{unpack-fault, unpack-outcome};
+ghost use Rattle.image.specs.Answers.{unpacked};
+
+// Unpack's answer.
+pub enum Unpacked {
+    Lists(Sizes),
+    Refused(Refusal),
+}
+
+// The first `count` numbers of two bytes each.
+fn read_nodes(source: &[u8], count: usize, nodes: &mut [u16])
+    requires { ⌜ (2 * count ≤ length (now source)) × (count ≤ length (now nodes)) ⌝ }
+    ensures { λ _. ⌜ now (nodes .exit) ≡ decode 2 count (now (source .entry)) ++ drop count (now (nodes .entry)) ⌝ }
+{
+    let mut i = 0;
+    while i < count {
+        nodes[i] = read16(source, 2 * i) as u16;
+        i += 1;
+    }
+}
+
+// The first `count` numbers of four bytes each.
+fn read_costs(source: &[u8], count: usize, costs: &mut [u32])
+    requires { ⌜ (4 * count ≤ length (now source)) × (count ≤ length (now costs)) ⌝ }
+    ensures { λ _. ⌜ now (costs .exit) ≡ decode 4 count (now (source .entry)) ++ drop count (now (costs .entry)) ⌝ }
+{
+    let mut i = 0;
+    while i < count {
+        costs[i] = read32(source, 4 * i);
+        i += 1;
+    }
+}
+
+// Document 01, call 7.
+pub fn unpack(image: &[u8], nodes: &mut [u16], costs: &mut [u32]) -> Unpacked
+    ensures { λ r. ⌜ unpacked r ≡ unpack-outcome (now (image .entry)) (length (now (nodes .entry))) (length (now (costs .entry))) ⌝ }
+    ensures { λ _. ⌜ now (nodes .exit) ≡ after (unpack-fault (now (image .entry)) (length (now (nodes .entry))) (length (now (costs .entry)))) (node-list (now (image .entry))) (now (nodes .entry)) ⌝ }
+    ensures { λ _. ⌜ now (costs .exit) ≡ after (unpack-fault (now (image .entry)) (length (now (nodes .entry))) (length (now (costs .entry)))) (cost-list (now (image .entry))) (now (costs .entry)) ⌝ }
+{
+    let answer = check(image);
+    let Checked::Network(sizes) = answer else {
+        return Unpacked::Refused(answer.refusal());
+    };
+    let m = sizes.m;
+    let k = sizes.k;
+    let nodes_needed = 2 * (m as usize);
+    let costs_needed = cost_count(m, k) as usize;
+    if nodes.len() < nodes_needed {
+        return Unpacked::Refused(Refusal::SliceTooShort);
+    }
+    if costs.len() < costs_needed {
+        return Unpacked::Refused(Refusal::SliceTooShort);
+    }
+    read_nodes(&image[24..], nodes_needed, nodes);
+    let start = costs_start(m) as usize;
+    read_costs(&image[start..], costs_needed, costs);
+    Unpacked::Lists(sizes)
+}
