@@ -6,3 +6,4 @@ pub mod SearchLaws
 pub mod LateLaws
 pub mod WalkLaws
 pub mod FlagLaws
+pub mod ExitLaws
