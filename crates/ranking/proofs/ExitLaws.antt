@@ -14,8 +14,9 @@ use Rattle.terms.proofs.ListLaws.{le-or-lt, clash, by-cond, of-cond, and-both}
 use Rattle.labels.specs.Arcs.{graph, Arcs}
 use Rattle.labels.specs.Labels.{far}
 use Rattle.labels.proofs.ArcLaws.{At, linked-at, at-linked, at-weight}
+use Rattle.ranking.specs.Flags.{Fresh}
 use Rattle.ranking.specs.Walks.{Exit, Choice, Tight}
-use Rattle.ranking.specs.Exits.{Unmarked, Unused, via, via-arc, Best, Scanned, Usable, Chosen, Keeps}
+use Rattle.ranking.specs.Exits.{Unmarked, Unused, via, via-arc, Best, Scanned, Usable, Chosen, Keeps, Stepped}
 use Rattle.ranking.specs.Star.{Star, Heads, longest}
 use Rattle.ranking.specs.declared.exits.Next.{Next}
 use Rattle.ranking.specs.declared.exits.Next.the-variants.{Node, Nothing}
@@ -167,7 +168,7 @@ pub scanned-usable : {k a e : ℕ} {hs ws : List ℕ} {r : Next} (ls used barred
 scanned-usable {hs} {ws} ls used barred h top (Scanned.best b) =
     let k = via-below ls used barred (getD hs (b .place) 0) (getD ws (b .place) 0) (omega (arith, b .has, b .below)) in
     let i : b .place < length hs = omega (arith, b .upper) in
-    rw (← b .node) (Usable.usable (h .head-from (b .place) i) (h .head-in (b .place) i) (k .0 .unused))
+    rw (← b .node) (Usable.usable (record { from = h .head-from (b .place) i; upto = h .head-in (b .place) i; unflagged = k .0 .unused }))
 scanned-usable ls used barred h top (Scanned.none f) = Usable.none
 
 -- ---- whether an arc keeps to a label
@@ -179,3 +180,27 @@ module _ {ls used : List ℕ} {y w want : ℕ} where
   pub strayed : {b : Bool} → Keeps ls used y w want b → b ≡ false → getD used y 0 ≡ 0 → w + getD ls y 0 ≡ want → ⊥
   strayed (Keeps.keeps u e) t = clash refl t
   strayed (Keeps.strays n) t = n
+
+-- ---- what was found, if that is a node, or nothing
+no-node : {A : Type 0} {y l : ℕ} → _≡_ {A = Next} Nothing (Node y l) → A
+no-node e = let z : _≡_ {A = ℕ} 0 1 = cc in absurd (omega arith)
+
+pub usable-node : {k y l : ℕ} {used : List ℕ} {r : Next} → Usable k used r → r ≡ Node y l → Fresh k used y
+usable-node {y} (Usable.usable {y = x} f) e = let h : x ≡ y = cc in rw (← h) f
+usable-node Usable.none e = no-node e
+
+module _ {g : Graph} {ls : List ℕ} {Open : ℕ → Type 0} {v : ℕ} where
+  pub stepped-node : {y l : ℕ} {r : Next} → Stepped g ls Open v r → r ≡ Node y l → Tight g ls Open v y
+  stepped-node {y} (Stepped.tight {y = x} t) e = let h : x ≡ y = cc in rw (← h) t
+  stepped-node Stepped.stuck e = no-node e
+
+  pub chosen-node : {y l : ℕ} {r : Next} → Chosen g ls Open v r → r ≡ Node y l → Choice g ls Open v l y
+  chosen-node {y} {l} (Chosen.choice {y = x} {l = m} c) e =
+      let h : x ≡ y = cc in
+      let k : m ≡ l = cc in
+      rw (← h, ← k) c
+  chosen-node (Chosen.none n) e = no-node e
+
+  pub chosen-nothing : {r : Next} → Chosen g ls Open v r → r ≡ Nothing → (z : ℕ) → Exit g ls Open v z → ⊥
+  chosen-nothing (Chosen.choice c) e = no-node (sym e)
+  chosen-nothing (Chosen.none n) e = n

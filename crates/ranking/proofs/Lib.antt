@@ -7,3 +7,4 @@ pub mod LateLaws
 pub mod WalkLaws
 pub mod FlagLaws
 pub mod ExitLaws
+pub mod LaidLaws

@@ -7,6 +7,7 @@ use lib.Dec.{eqb, ltb}
 use lib.ListN.{length, getD}
 use Rattle.terms.specs.Network.{Graph}
 use Rattle.labels.specs.Labels.{far}
+use Rattle.ranking.specs.Flags.{Fresh}
 use Rattle.ranking.specs.Walks.{Exit, Choice, Tight}
 use Rattle.ranking.specs.declared.exits.Next.{Next}
 use Rattle.ranking.specs.declared.exits.Next.the-variants.{Node, Nothing}
@@ -48,7 +49,7 @@ pub data Scanned (number : ℕ → ℕ) (hs : List ℕ) (a e : ℕ) : Next → T
 -- ---- of a node
 -- the node that was found is a node that is not used
 pub data Usable (k : ℕ) (used : List ℕ) : Next → Type 0 where
-  usable : {y l : ℕ} → 1 ≤ y → y < k → getD used y 0 ≡ 0 → Usable k used (Node y l)
+  usable : {y l : ℕ} → Fresh k used y → Usable k used (Node y l)
   none : Usable k used Nothing
 
 -- the choice among the exits of v, or there is none

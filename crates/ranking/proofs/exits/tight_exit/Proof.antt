@@ -104,7 +104,7 @@ returns c =
     let p = start l .pre in
     let k = kept (c .before .keeps .ensures) (c .if1 .taken) in
     let top = in-arcs (c .before .before .before .before) .0 in
-    (Usable.usable (p .0 .head-from _ top) (p .0 .head-in _ top) (k .0), λ n ts arcs star reached. Stepped.tight (first-tight arcs star (omega (arith, star .long, p .1 .0 .0 .long)) (start l .args .labels .now) (start l .args .used .now) (l .loop .i) (l .loop .inv .0) (omega arith) reached (k .0) (k .1) (l .loop .inv .2)))
+    (Usable.usable (record { from = p .0 .head-from _ top; upto = p .0 .head-in _ top; unflagged = k .0 }), λ n ts arcs star reached. Stepped.tight (first-tight arcs star (omega (arith, star .long, p .1 .0 .0 .long)) (start l .args .labels .now) (start l .args .used .now) (l .loop .i) (l .loop .inv .0) (omega arith) reached (k .0) (k .1) (l .loop .inv .2)))
 
 -- src/exits.rt:136:9
 add-i : tie.Need-add-i Inv-loop μ-loop
