@@ -93,7 +93,7 @@ module _ {g : Graph} {s t : ℕ} (b : Route) (v : ℕ) (F : List ℕ) where
   pub in-whole : {p : Route} (i : In g s t (branch (b ++ (v ∷ [])) F) p) → p ≡ b ++ v ∷ i .rest
   in-whole i = i .whole ∙ append-snoc b v (i .rest)
 
-  in-path : {p : Route} (i : In g s t (branch (b ++ (v ∷ [])) F) p) → Path g s t (b ++ v ∷ i .rest)
+  pub in-path : {p : Route} (i : In g s t (branch (b ++ (v ∷ [])) F) p) → Path g s t (b ++ v ∷ i .rest)
   in-path i = subst (Path g s t) (in-whole i) (i .path)
 
   pub in-tail : {p : Route} (i : In g s t (branch (b ++ (v ∷ [])) F) p) → PathFrom g t (met b) v (v ∷ i .rest)

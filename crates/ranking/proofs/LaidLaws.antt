@@ -83,6 +83,16 @@ module _ {k at : ℕ} {used path : List ℕ} where
   pub laid-same : {used′ path′ : List ℕ} → take at path′ ≡ take at path → Laid k used path at → Laid k used′ path′ at → used′ ≡ used
   laid-same {used′} e l l′ = flags-same (rw e at (l′ .flagged)) (l .flagged) (l′ .flags-long ∙ sym (l .flags-long))
 
+-- a path that was lengthened, one node more
+pub longer-more : {k at len y : ℕ} {used path path₀ : List ℕ} → Longer k path₀ at used path len → Fresh k used y → Longer k path₀ at (set used y 1) (set path len y) (len + 1)
+longer-more {at} {len} {y} {path} l f = record { no-shorter = omega (arith, l .no-shorter); laid = laid-more (l .laid) f; kept = take-set-le at path len y (l .no-shorter) ∙ l .kept }
+
+-- the last node set apart
+pub laid-last : {k at x : ℕ} {used path : List ℕ} → Laid k used path at → getD path (at - 1) 0 ≡ x → take at path ≡ take (at - 1) path ++ (x ∷ [])
+laid-last {at} {x} {path} l e =
+    let h : at ≡ at - 1 + 1 = omega (arith, l .some) in
+    ap (λ (i : ℕ). take i path) h ∙ take-last path (at - 1) (omega (arith, l .some, l .upto)) ∙ ap (λ (z : ℕ). take (at - 1) path ++ (z ∷ [])) e
+
 -- ---- a tight walk from x, the last node of q, that has come through p to z
 pub record Walking (g : Graph) (t : ℕ) (ls : List ℕ) (q : Route) (x : ℕ) (p : Route) (z : ℕ) : Type 0 where
   pub rest : Route

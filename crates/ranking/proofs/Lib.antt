@@ -6,5 +6,7 @@ pub mod SearchLaws
 pub mod LateLaws
 pub mod WalkLaws
 pub mod FlagLaws
+pub mod NetworkLaws
 pub mod ExitLaws
 pub mod LaidLaws
+pub mod FirstLaws

@@ -1,6 +1,7 @@
 pub mod Branches
 pub mod Exits
 pub mod Flags
+pub mod Found
 pub mod Laid
 pub mod Parts
 pub mod Pool

@@ -1,0 +1,128 @@
+-- The first path of a branch, found by a walk along labels or step by step. Assumes nothing.
+use Prim.Native.Nat.{ℕ, suc, _+_, _-_, _≤_, _<_}
+use native.Mathlib.Omega.{arith}
+use native.Mathlib.Numerals.{add-one}
+use mathlib.Core.Path.{_≡_, refl, sym, _∙_, ap, subst}
+use mathlib.Core.Bool.{true, false}
+use mathlib.Core.Logic.{_≢_}
+use mathlib.Core.List.{List, [], _∷_, _++_}
+use lib.ListN.{length, take, getD, set, length-append, length-set}
+use lib.Seq.{append-snoc, take-at, getD-set-other}
+use Rattle.terms.specs.Lists.{elem}
+use Rattle.terms.specs.Network.{Graph}
+use Rattle.terms.specs.Paths.{Route, Path, cost}
+use Rattle.terms.proofs.PathLaws.{PathFrom, step}
+use Rattle.ranking.specs.Branches.{branch, In, First, Beginning}
+use Rattle.ranking.specs.Exits.{Unmarked}
+use Rattle.ranking.specs.Flags.{Flagged, Fresh}
+use Rattle.ranking.specs.Laid.{Longer, Arrives}
+use Rattle.ranking.specs.Walks.{Consistent, Exit, Choice, Allowed}
+use Rattle.ranking.proofs.BranchLaws.{ends, met, in-whole, in-path, in-tail, arrived-first, beginning-path}
+use Rattle.ranking.proofs.FlagLaws.{unflagged}
+use Rattle.ranking.proofs.LaidLaws.{take-more, last-more, laid-room, laid-place, laid-last, longer-more}
+use Rattle.ranking.proofs.WalkLaws.{Exact, exit-open, choice-open, no-exit, walk-first, step-on, exit-path, first-cost}
+
+-- ---- a branch that has a path, by its last node v
+module _ {g : Graph} {s t : ℕ} (b : Route) (v : ℕ) (F : List ℕ) {p : Route} (i : In g s t (branch (b ++ (v ∷ [])) F) p) where
+  -- short of the goal it is a beginning
+  in-beginning : v ≢ t → Beginning g s t (b ++ (v ∷ []))
+  in-beginning n = by-rest (i .rest) (in-tail b v F i) (i .whole)
+    where
+      by-rest : (r : Route) → PathFrom g t (met b) v (v ∷ r) → p ≡ (b ++ (v ∷ [])) ++ r → Beginning g s t (b ++ (v ∷ []))
+      by-rest [] k w = absurd (n (ends k))
+      by-rest (z ∷ r) k w =
+          subst (Beginning g s t) (ap (take (length (b ++ (v ∷ [])))) w ∙ take-at (b ++ (v ∷ [])) (z ∷ r) (length (b ++ (v ∷ []))) refl)
+          (beginning-path (length (b ++ (v ∷ []))) (omega (arith, length-append b (v ∷ []))) (omega (arith, ap length w, length-append (b ++ (v ∷ [])) (z ∷ r))) (i .path))
+
+  -- at the goal it is the path
+  arrived-only : v ≡ t → First g s t (branch (b ++ (v ∷ [])) F) (b ++ (v ∷ []))
+  arrived-only e = by-rest (i .rest) (in-tail b v F i) (in-path b v F i)
+    where
+      by-rest : (r : Route) → PathFrom g t (met b) v (v ∷ r) → Path g s t (b ++ v ∷ r) → First g s t (branch (b ++ (v ∷ [])) F) (b ++ (v ∷ []))
+      by-rest [] k w = arrived-first b v F e w
+      by-rest (z ∷ r) k w = absurd (step k .apart e)
+
+-- ---- flags for lists
+module _ {used barred q F : List ℕ} (f : Flagged used q) (h : Flagged barred F) where
+  to-allowed : (z : ℕ) → Unmarked used barred z → Allowed q F z
+  to-allowed z u = record { unmet = unflagged f z (u .unused); free = unflagged h z (u .free) }
+
+  of-allowed : (z : ℕ) → Allowed q F z → Unmarked used barred z
+  of-allowed z o = record { unused = f .outside z (o .unmet); free = h .outside z (o .free) }
+
+  pub choice-allowed : {g : Graph} {ls : List ℕ} {v l y : ℕ} → Choice g ls (Unmarked used barred) v l y → Choice g ls (Allowed q F) v l y
+  choice-allowed = choice-open to-allowed of-allowed
+
+  pub none-allowed : {g : Graph} {ls : List ℕ} {v : ℕ} → ((z : ℕ) → Exit g ls (Unmarked used barred) v z → ⊥) → (z : ℕ) → Exit g ls (Allowed q F) v z → ⊥
+  none-allowed n z x = n z (exit-open of-allowed x)
+
+-- with the flags of q twice nothing more is barred
+module _ {used q : List ℕ} (f : Flagged used q) where
+  to-unmet : (z : ℕ) → Unmarked used used z → Allowed q [] z
+  unfolding elem
+  to-unmet z u = record { unmet = unflagged f z (u .unused); free = refl }
+
+  of-unmet : (z : ℕ) → Allowed q [] z → Unmarked used used z
+  of-unmet z o = record { unused = f .outside z (o .unmet); free = f .outside z (o .unmet) }
+
+-- ---- steps from q to q′: the branch of q′ has a path, and its first path is that of q's
+pub record Onward (g : Graph) (s t : ℕ) (q q′ : Route) : Type 0 where
+  pub some : (p : Route) × In g s t (branch q′ []) p
+  pub back : {p : Route} → First g s t (branch q′ []) p → First g s t (branch q []) p
+
+module _ {g : Graph} {s t : ℕ} where
+  pub onward-start : {q p : Route} → In g s t (branch q []) p → Onward g s t q q
+  onward-start {p} i = record { some = (p, i); back = λ f. f }
+
+  module _ {q : Route} (b : Route) (v : ℕ) (o : Onward g s t q (b ++ (v ∷ []))) where
+    pub onward-end : v ≡ t → First g s t (branch q []) (b ++ (v ∷ []))
+    onward-end e = o .back (arrived-only b v [] (o .some .1) e)
+
+    module _ {ls used : List ℕ} (n : v ≢ t) (f : Flagged used (b ++ (v ∷ []))) (e : Exact g t ls (b ++ (v ∷ []))) where
+      pub onward-step : {l y : ℕ} → Choice g ls (Unmarked used used) v l y → Onward g s t q ((b ++ (v ∷ [])) ++ (y ∷ []))
+      onward-step c =
+          let c′ = choice-open (to-unmet f) (of-unmet f) c in
+          let x = exit-path b v [] n (in-beginning b v [] (o .some .1) n) e (c′ .exit) in
+          record { some = (x .0, x .1); back = λ k. o .back (step-on b v [] n e c′ k) }
+
+      pub onward-stuck : ((z : ℕ) → Exit g ls (Unmarked used used) v z → ⊥) → ⊥
+      onward-stuck none = no-exit b v [] n (e .consistent) (λ z x. none z (exit-open (of-unmet f) x)) (o .some .1)
+
+-- ---- step by step along a path that is laid out
+-- the path has been lengthened to len nodes, of which x is the last; the goal is none of the others
+pub record Stepping (k : ℕ) (path₀ : List ℕ) (at goal : ℕ) (used path : List ℕ) (len x : ℕ) : Type 0 where
+  pub longer : Longer k path₀ at used path len
+  pub same : length path ≡ length path₀
+  pub last : getD path (len - 1) 0 ≡ x
+  pub goal-ahead : (x ≡ goal → ⊥) → getD used goal 0 ≡ 0
+
+pub stepping-place : {k at goal len x : ℕ} {path₀ used path : List ℕ} → Stepping k path₀ at goal used path len x → x < k
+stepping-place {len} s = rw (s .last) at (laid-place (len - 1) (omega (arith, s .longer .laid .some)) (s .longer .laid))
+
+pub stepping-more : {k at goal len x y : ℕ} {path₀ used path : List ℕ} → x ≢ goal → Fresh k used y → Stepping k path₀ at goal used path len x → Stepping k path₀ at goal (set used y 1) (set path len y) (len + 1) y
+stepping-more {goal} {len} {y} {used} {path} n f s = record {
+  longer = longer-more (s .longer) f;
+  same = simp length-set (s .same);
+  last = last-more path len y (laid-room (s .longer .laid) f);
+  goal-ahead = λ m. getD-set-other used y goal 1 0 (λ e. m (sym e)) ∙ s .goal-ahead n;
+}
+
+module _ {k at goal len x : ℕ} {path₀ used path : List ℕ} {g : Graph} {q : Route} {s : ℕ} (S : Stepping k path₀ at goal used path len x) (o : Onward g s goal q (take len path)) where
+  abbrev lead : Route
+  lead = take (len - 1) path
+
+  split : take len path ≡ lead ++ (x ∷ [])
+  split = laid-last (S .longer .laid) (S .last)
+
+  pub stepping-end : x ≡ goal → First g s goal (branch q []) (take len path)
+  stepping-end e = rw split (onward-end lead x (rw split at o) e)
+
+  module _ {ls : List ℕ} (n : x ≢ goal) (e : Exact g goal ls (take len path)) where
+    flagged : Flagged used (lead ++ (x ∷ []))
+    flagged = rw split at (S .longer .laid .flagged)
+
+    pub stepping-onward : {l y : ℕ} → Fresh k used y → Choice g ls (Unmarked used used) x l y → Onward g s goal q (take (len + 1) (set path len y))
+    stepping-onward {y} f c = rw (take-more path len y (laid-room (S .longer .laid) f), split) (onward-step lead x (rw split at o) n flagged (rw split at e) c)
+
+    pub stepping-stuck : ((z : ℕ) → Exit g ls (Unmarked used used) x z → ⊥) → ⊥
+    stepping-stuck none = onward-stuck lead x (rw split at o) n flagged (rw split at e) none

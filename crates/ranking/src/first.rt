@@ -1,0 +1,75 @@
+// The first path of a branch: by a walk along labels that are at hand, or else along labels with the
+// beginning barred, or else step by step.
+ghost use mathlib.Core.Path.{_≡_};
+ghost use mathlib.Core.List.{List, [], _∷_, _++_};
+ghost use Prim.Native.Nat.{ℕ, _-_, _≤_, _<_};
+ghost use lib.ListN.{length, take, getD};
+ghost use Rattle.terms.specs.Paths.{Route};
+ghost use Rattle.labels.specs.Arcs.{graph};
+ghost use Rattle.ranking.specs.Branches.{branch, In, First, Beginning};
+ghost use Rattle.ranking.specs.Exits.{Unmarked};
+ghost use Rattle.ranking.specs.Flags.{Flagged, Fresh};
+ghost use Rattle.ranking.specs.Found.{Room, Ahead, Kept, FirstFound};
+ghost use Rattle.ranking.specs.Laid.{Laid, Longer, Tried};
+ghost use Rattle.ranking.specs.Star.{Network};
+ghost use Rattle.ranking.specs.Walks.{Consistent, Choice};
+use crate::exits::Next;
+use crate::exits::least_exit;
+use crate::walk::attempt;
+use crate::walk::unmark;
+use labels::least;
+
+pub enum Found {
+    // The length of the path, and what its tail costs, from the end of the beginning on.
+    Tail(usize, u64),
+    // The branch has no path.
+    Empty,
+}
+
+// From path[at - 1], each step to the node that labels made anew show to be the next.
+fn steps(
+    tails: &[u16],
+    heads: &[u16],
+    weights: &[u32],
+    first_out: &[u16],
+    first_in: &[u16],
+    next_in: &[u16],
+    goal: usize,
+    used: &mut [u8],
+    path: &mut [u16],
+    at: usize,
+    dirty: &mut [u8],
+    queue: &mut [u16],
+    labels: &mut [u64],
+) -> usize
+    requires { ⌜ Network (length (now used)) (now tails) (now heads) (now weights) (now «first_out») (now «first_in») (now «next_in») ⌝ }
+    requires { ⌜ Laid (length (now used)) (now used) (now path) at ⌝ }
+    requires { ⌜ (goal < length (now used)) × ((getD (now path) (at - 1) 0 ≡ goal → ⊥) → getD (now used) goal 0 ≡ 0) ⌝ }
+    requires { ⌜ Room (length (now used)) (now dirty) (now queue) (now labels) ⌝ }
+    ensures { λ r. ⌜ Longer (length (now (used .entry))) (now (path .entry)) at (now (used .exit)) (now (path .exit)) r ⌝ }
+    ensures { λ r. ⌜ ((s : ℕ) (p : Route) → In (graph (now (tails .entry)) (now (heads .entry)) (now (weights .entry))) s goal (branch (take at (now (path .entry))) []) p → First (graph (now (tails .entry)) (now (heads .entry)) (now (weights .entry))) s goal (branch (take at (now (path .entry))) []) (take r (now (path .exit)))) ⌝ }
+{
+    let mut len = at;
+    let mut x = path[at - 1] as usize;
+    while x != goal {
+        least(
+            tails,
+            weights,
+            first_in,
+            next_in,
+            used,
+            goal,
+            dirty,
+            queue,
+            labels,
+        );
+        let Next::Node(y, _) = least_exit(heads, weights, first_out, x, labels, used, used) else {
+            return len;
+        };
+        path[len] = y;
+        x = y as usize;
+        used[x] = 1;
+        len += 1;
+    }
+    len
+}
