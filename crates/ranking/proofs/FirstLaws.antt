@@ -5,22 +5,25 @@ use native.Mathlib.Numerals.{add-one}
 use mathlib.Core.Path.{_≡_, refl, sym, _∙_, ap, subst}
 use mathlib.Core.Bool.{true, false}
 use mathlib.Core.Logic.{_≢_}
-use mathlib.Core.List.{List, [], _∷_, _++_}
+use mathlib.Core.List.{List, [], _∷_, _++_, List·Memᴰ·head, Memᴰ·append-right}
 use lib.ListN.{length, take, getD, set, length-append, length-set}
 use lib.Seq.{append-snoc, take-at, getD-set-other}
 use Rattle.terms.specs.Lists.{elem}
 use Rattle.terms.specs.Network.{Graph}
 use Rattle.terms.specs.Paths.{Route, Path, cost}
+use Rattle.terms.proofs.ListLaws.{outside-apart}
 use Rattle.terms.proofs.PathLaws.{PathFrom, step}
 use Rattle.ranking.specs.Branches.{branch, In, First, Beginning}
 use Rattle.ranking.specs.Exits.{Unmarked}
 use Rattle.ranking.specs.Flags.{Flagged, Fresh}
-use Rattle.ranking.specs.Laid.{Longer, Arrives}
+use Rattle.ranking.specs.Found.{Ahead, Extent, Kept}
+use Rattle.ranking.specs.Laid.{Laid, Longer, Arrives, Tried}
 use Rattle.ranking.specs.Walks.{Consistent, Exit, Choice, Allowed}
+use Rattle.ranking.specs.declared.first.Found.the-variants.{Tail}
 use Rattle.ranking.proofs.BranchLaws.{ends, met, in-whole, in-path, in-tail, arrived-first, beginning-path}
 use Rattle.ranking.proofs.FlagLaws.{unflagged}
 use Rattle.ranking.proofs.LaidLaws.{take-more, last-more, laid-room, laid-place, laid-last, longer-more}
-use Rattle.ranking.proofs.WalkLaws.{Exact, exit-open, choice-open, no-exit, walk-first, step-on, exit-path, first-cost}
+use Rattle.ranking.proofs.WalkLaws.{Exact, exit-open, choice-open, branch-cost, no-exit, walk-first, step-on, exit-path, first-cost}
 
 -- ---- a branch that has a path, by its last node v
 module _ {g : Graph} {s t : ℕ} (b : Route) (v : ℕ) (F : List ℕ) {p : Route} (i : In g s t (branch (b ++ (v ∷ [])) F) p) where
@@ -126,3 +129,54 @@ module _ {k at goal len x : ℕ} {path₀ used path : List ℕ} {g : Graph} {q :
 
     pub stepping-stuck : ((z : ℕ) → Exit g ls (Unmarked used used) x z → ⊥) → ⊥
     stepping-stuck none = onward-stuck lead x (rw split at o) n flagged (rw split at e) none
+
+-- a goal that is ahead is not flagged when one node more is, unless it is that node
+pub still-ahead : {k d goal y : ℕ} {used path : List ℕ} → Laid k used path d → Fresh k used y → Ahead k goal used → (getD (set path d y) (d + 1 - 1) 0 ≡ goal → ⊥) → getD (set used y 1) goal 0 ≡ 0
+still-ahead {d} {goal} {y} {used} {path} l f a n = getD-set-other used y goal 1 0 (λ e. n (last-more path d y (laid-room l f) ∙ sym e)) ∙ a .unmet
+
+-- ---- the branch of a beginning that is laid out, with its flags and those of the barred nodes
+module _ {k d : ℕ} {used path barred F : List ℕ} {g : Graph} {s t : ℕ} (l : Laid k used path d) (h : Flagged barred F) (B : Beginning g s t (take d path)) where
+  abbrev front : Route
+  front = take (d - 1) path
+
+  abbrev node : ℕ
+  node = getD path (d - 1) 0
+
+  cut : take d path ≡ front ++ (node ∷ [])
+  cut = laid-last l refl
+
+  -- its last node is not the goal
+  not-goal : node ≢ t
+  not-goal = outside-apart (B .short-of-goal) (rw cut (Memᴰ·append-right front (List·Memᴰ·head refl)))
+
+  module _ {ls : List ℕ} where
+    allowed : {m y : ℕ} → Choice g ls (Unmarked used barred) node m y → Choice g ls (Allowed (front ++ (node ∷ [])) F) node m y
+    allowed = choice-allowed (rw cut at (l .flagged)) h
+
+    -- with no exit it is empty
+    pub branch-empty : Consistent g t ls (take d path) → ((z : ℕ) → Exit g ls (Unmarked used barred) node z → ⊥) → (p : Route) → In g s t (branch (take d path) F) p → ⊥
+    branch-empty c none p i = no-exit front node F not-goal (rw cut at c) (none-allowed (rw cut at (l .flagged)) h none) (rw cut at i)
+
+    module _ {m y : ℕ} (ch : Choice g ls (Unmarked used barred) node m y) where
+      -- no path of it costs less than the beginning and the least weight and label
+      pub branch-floor : Consistent g t ls (take d path) → (p : Route) → In g s t (branch (take d path) F) p → cost g (take d path) + m ≤ cost g p
+      branch-floor c p i = rw cut (branch-cost front node F not-goal (rw cut at c) (allowed ch .lowest) (rw cut at i))
+
+      -- a walk that arrives is its first path
+      pub branch-walked : {p : Route} → Consistent g t ls (take d path) → Arrives g t ls (take d path ++ (y ∷ [])) y p → First g s t (branch (take d path) F) p × (cost g p ≡ cost g (take d path) + m)
+      branch-walked {p} c a =
+          let w : p ≡ take d path ++ y ∷ a .rest = a .whole ∙ append-snoc (take d path) y (a .rest) in
+          rw (w, cut) (walk-first front node F not-goal (rw cut at B) (rw cut at c) (allowed ch) (rw cut at (a .tight)))
+
+      -- and so is the first path that goes on with y
+      pub branch-stepped : {p : Route} → Exact g t ls (take d path) → ((r : Route) → In g s t (branch (take d path ++ (y ∷ [])) []) r → First g s t (branch (take d path ++ (y ∷ [])) []) p)
+          → First g s t (branch (take d path) F) p × (cost g p ≡ cost g (take d path) + m)
+      branch-stepped {p} e on =
+          let e′ = rw cut at e in
+          let x = exit-path front node F not-goal (rw cut at B) e′ (allowed ch .exit) in
+          let f = step-on front node F not-goal e′ (allowed ch) (rw cut at (on (x .0) (rw cut (x .1)))) in
+          rw cut (f, first-cost front node F not-goal (rw cut at B) e′ (allowed ch) f)
+
+-- what a try leaves as it was
+pub tried-kept : {d len rest : ℕ} {used path used′ path′ : List ℕ} → Tried used path d used′ path′ len → Kept used path d used′ path′ (Tail len rest)
+tried-kept t = record { flags = t .flags; kept = t .kept; reach = Extent.extent (t .longer) (t .upto) }

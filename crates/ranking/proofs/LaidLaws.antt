@@ -129,3 +129,11 @@ tried {k} {d} {len} y {path} {path′} l m u = record {
   where
     kept : take d path′ ≡ take d path
     kept = sym (take-take d (d + 1) path′ (omega arith)) ∙ ap (take d) (m .kept) ∙ take-take d (d + 1) (set path d y) (omega arith) ∙ take-set-le d path d y (omega arith)
+
+-- the same flags and first places in a path of the same length
+pub laid-kept : {k d : ℕ} {used path path′ : List ℕ} → take d path′ ≡ take d path → length path′ ≡ length path → Laid k used path d → Laid k used path′ d
+laid-kept e n l = record { some = l .some; upto = omega (arith, l .upto); room = omega (arith, l .room); flags-long = l .flags-long; nodes = rw e (l .nodes); loopless = rw e (l .loopless); flagged = rw e (l .flagged) }
+
+-- two tries, one after the other
+pub tried-again : {d len len′ : ℕ} {used path used′ path′ used″ path″ : List ℕ} → Tried used path d used′ path′ len → Tried used′ path′ d used″ path″ len′ → Tried used path d used″ path″ len′
+tried-again a b = record { flags = b .flags ∙ a .flags; kept = b .kept ∙ a .kept; longer = b .longer; upto = b .upto }

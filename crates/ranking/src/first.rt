@@ -73,3 +73,111 @@ fn steps(
     }
     len
 }
+
+// The first of the paths that go on from path[..d] with y, step by step. The flags are then as before.
+fn surely(
+    tails: &[u16],
+    heads: &[u16],
+    weights: &[u32],
+    first_out: &[u16],
+    first_in: &[u16],
+    next_in: &[u16],
+    goal: usize,
+    used: &mut [u8],
+    path: &mut [u16],
+    d: usize,
+    y: u16,
+    dirty: &mut [u8],
+    queue: &mut [u16],
+    labels: &mut [u64],
+) -> usize
+    requires { ⌜ Network (length (now used)) (now tails) (now heads) (now weights) (now «first_out») (now «first_in») (now «next_in») ⌝ }
+    requires { ⌜ Laid (length (now used)) (now used) (now path) d × Fresh (length (now used)) (now used) y ⌝ }
+    requires { ⌜ Ahead (length (now used)) goal (now used) ⌝ }
+    requires { ⌜ Room (length (now used)) (now dirty) (now queue) (now labels) ⌝ }
+    ensures { λ r. ⌜ Tried (now (used .entry)) (now (path .entry)) d (now (used .exit)) (now (path .exit)) r ⌝ }
+    ensures { λ r. ⌜ ((s : ℕ) (p : Route) → In (graph (now (tails .entry)) (now (heads .entry)) (now (weights .entry))) s goal (branch (take d (now (path .entry)) ++ (y ∷ [])) []) p → First (graph (now (tails .entry)) (now (heads .entry)) (now (weights .entry))) s goal (branch (take d (now (path .entry)) ++ (y ∷ [])) []) (take r (now (path .exit)))) ⌝ }
+{
+    path[d] = y;
+    used[y as usize] = 1;
+    let len = steps(
+        tails,
+        heads,
+        weights,
+        first_out,
+        first_in,
+        next_in,
+        goal,
+        used,
+        path,
+        d + 1,
+        dirty,
+        queue,
+        labels,
+    );
+    unmark(path, d, len, used);
+    len
+}
+
+// The first path of the branch of path[..d], whose next node is not barred, by labels with the nodes
+// of path[..d] barred.
+pub fn exact_path(
+    tails: &[u16],
+    heads: &[u16],
+    weights: &[u32],
+    first_out: &[u16],
+    first_in: &[u16],
+    next_in: &[u16],
+    goal: usize,
+    used: &mut [u8],
+    barred: &[u8],
+    path: &mut [u16],
+    d: usize,
+    dirty: &mut [u8],
+    queue: &mut [u16],
+    labels: &mut [u64],
+) -> Found
+    requires { ⌜ Network (length (now used)) (now tails) (now heads) (now weights) (now «first_out») (now «first_in») (now «next_in») ⌝ }
+    requires { ⌜ Laid (length (now used)) (now used) (now path) d × (length (now barred) ≡ length (now used)) ⌝ }
+    requires { ⌜ Ahead (length (now used)) goal (now used) ⌝ }
+    requires { ⌜ Room (length (now used)) (now dirty) (now queue) (now labels) ⌝ }
+    ensures { λ r. ⌜ Kept (now (used .entry)) (now (path .entry)) d (now (used .exit)) (now (path .exit)) r ⌝ }
+    ensures { λ r. ⌜ ((s : ℕ) (F : List ℕ) → Beginning (graph (now (tails .entry)) (now (heads .entry)) (now (weights .entry))) s goal (take d (now (path .entry))) → Flagged (now (barred .entry)) F → FirstFound (graph (now (tails .entry)) (now (heads .entry)) (now (weights .entry))) s goal (branch (take d (now (path .entry))) F) (now (path .exit)) r) ⌝ }
+{
+    least(
+        tails,
+        weights,
+        first_in,
+        next_in,
+        used,
+        goal,
+        dirty,
+        queue,
+        labels,
+    );
+    let v = path[d - 1] as usize;
+    let Next::Node(y, l) = least_exit(heads, weights, first_out, v, labels, used, barred) else {
+        return Found::Empty;
+    };
+    let end = attempt(heads, weights, first_out, goal, labels, used, path, d, y);
+    if end.arrived {
+        return Found::Tail(end.len, l);
+    }
+    let len = surely(
+        tails,
+        heads,
+        weights,
+        first_out,
+        first_in,
+        next_in,
+        goal,
+        used,
+        path,
+        d,
+        y,
+        dirty,
+        queue,
+        labels,
+    );
+    Found::Tail(len, l)
+}
