@@ -1,9 +1,7 @@
 -- The first path of a branch, found by a walk along labels or step by step. Assumes nothing.
-use Prim.Native.Nat.{ℕ, suc, _+_, _-_, _≤_, _<_}
+use Prim.Native.Nat.{ℕ, _+_, _-_, _≤_, _<_}
 use native.Mathlib.Omega.{arith}
-use native.Mathlib.Numerals.{add-one}
 use mathlib.Core.Path.{_≡_, refl, sym, _∙_, ap, subst}
-use mathlib.Core.Bool.{true, false}
 use mathlib.Core.Logic.{_≢_}
 use mathlib.Core.List.{List, [], _∷_, _++_, List·Memᴰ·head, Memᴰ·append-right}
 use lib.ListN.{length, take, getD, set, length-append, length-set}
@@ -19,8 +17,9 @@ use Rattle.ranking.specs.Flags.{Flagged, Fresh}
 use Rattle.ranking.specs.Found.{Ahead, Extent, Kept}
 use Rattle.ranking.specs.Laid.{Laid, Longer, Arrives, Tried}
 use Rattle.ranking.specs.Walks.{Consistent, Exit, Choice, Allowed}
+use Rattle.ranking.specs.declared.first.Found.{Found}
 use Rattle.ranking.specs.declared.first.Found.the-variants.{Tail}
-use Rattle.ranking.proofs.BranchLaws.{ends, met, in-whole, in-path, in-tail, arrived-first, beginning-path}
+use Rattle.ranking.proofs.BranchLaws.{ends, met, in-path, in-tail, arrived-first, beginning-path}
 use Rattle.ranking.proofs.FlagLaws.{unflagged}
 use Rattle.ranking.proofs.LaidLaws.{take-more, last-more, laid-room, laid-place, laid-last, longer-more}
 use Rattle.ranking.proofs.WalkLaws.{Exact, exit-open, choice-open, branch-cost, no-exit, walk-first, step-on, exit-path, first-cost}
@@ -180,3 +179,7 @@ module _ {k d : ℕ} {used path barred F : List ℕ} {g : Graph} {s t : ℕ} (l 
 -- what a try leaves as it was
 pub tried-kept : {d len rest : ℕ} {used path used′ path′ : List ℕ} → Tried used path d used′ path′ len → Kept used path d used′ path′ (Tail len rest)
 tried-kept t = record { flags = t .flags; kept = t .kept; reach = Extent.extent (t .longer) (t .upto) }
+
+-- and what is kept after it
+pub kept-again : {d len : ℕ} {used path used′ path′ used″ path″ : List ℕ} {r : Found} → Tried used path d used′ path′ len → Kept used′ path′ d used″ path″ r → Kept used path d used″ path″ r
+kept-again t k = record { flags = k .flags ∙ t .flags; kept = k .kept ∙ t .kept; reach = k .reach }

@@ -1,20 +1,19 @@
 -- A path laid out node by node: one node more, one node less, and a tight walk as it goes on. Assumes nothing.
-use Prim.Native.Nat.{ℕ, suc, _+_, _-_, _≤_, _<_}
+use Prim.Native.Nat.{ℕ, _+_, _-_, _≤_, _<_}
 use native.Mathlib.Omega.{arith}
 use native.Mathlib.Numerals.{add-one}
 use mathlib.Core.Path.{_≡_, refl, sym, _∙_, ap, subst}
 use mathlib.Core.Bool.{false}
 use mathlib.Core.Logic.{_≢_}
 use mathlib.Core.List.{List, [], _∷_, _++_, append-nil, append-assoc}
-use lib.ListN.{length, take, getD, set, length-take, length-set}
+use lib.ListN.{length, take, getD, set, length-set}
 use lib.Seq.{take-suc, take-suc-set, take-set-le, getD-set-same, length-take-le, append-snoc, take-take}
 use Rattle.terms.specs.Lists.{elem}
 use Rattle.terms.specs.Network.{Graph}
 use Rattle.terms.specs.Paths.{Route, Loopless, fresh}
 use Rattle.terms.proofs.ListLaws.{place-mem, outside-cons, cons-outside}
-use Rattle.labels.specs.Labels.{far}
 use Rattle.ranking.specs.Flags.{Flagged, Fresh}
-use Rattle.ranking.specs.Walks.{Tight, Outside, TightWalk, arrived, follow}
+use Rattle.ranking.specs.Walks.{Tight, TightWalk, arrived, follow}
 use Rattle.ranking.specs.Exits.{Unused}
 use Rattle.ranking.specs.Laid.{Laid, Longer, Arrives, Tried}
 use Rattle.ranking.proofs.BranchLaws.{elem-snoc, loopless-snoc}

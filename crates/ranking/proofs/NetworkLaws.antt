@@ -1,20 +1,22 @@
 -- What a graph in arrays gives to the functions that read it: places for every index, small labels, exact labels. Assumes nothing.
-use Prim.Native.Nat.{ℕ, _+_, _≤_, _<_}
+use Prim.Native.Nat.{ℕ, _+_}
 use native.Mathlib.Omega.{arith}
-use mathlib.Core.Path.{_≡_, refl, sym, _∙_}
+use mathlib.Core.Path.{_≡_, sym, _∙_}
 use mathlib.Core.Bool.{false}
 use mathlib.Core.Logic.{⊎-elim}
 use mathlib.Core.List.{List}
-use lib.ListN.{length, getD, List·getD-eq-default}
+use lib.ListN.{length, List·getD-eq-default}
 use Rattle.terms.specs.Lists.{elem}
 use Rattle.terms.proofs.ListLaws.{le-or-lt}
 use Rattle.labels.specs.Arcs.{graph, heaviest, Arcs}
 use Rattle.labels.specs.Arrays.{Arrays}
-use Rattle.labels.specs.Labels.{far, Least}
-use Rattle.labels.proofs.ArcLaws.{arrays-of}
+use Rattle.labels.specs.Labels.{Least}
+use Rattle.labels.proofs.ArcLaws.{arrays-of, graph-within}
 use Rattle.labels.proofs.LabelLaws.{label-le}
-use Rattle.ranking.specs.Flags.{Flagged}
-use Rattle.ranking.specs.Star.{Star, Network, Heads, Starts, Small, longest}
+use Rattle.ranking.specs.Exits.{Unmarked}
+use Rattle.ranking.specs.Flags.{Flagged, Fresh}
+use Rattle.ranking.specs.Star.{Star, Network, Heads, Starts, Small}
+use Rattle.ranking.specs.Walks.{Choice}
 use Rattle.ranking.proofs.FlagLaws.{least-exact}
 use Rattle.ranking.proofs.WalkLaws.{Exact}
 
@@ -55,3 +57,9 @@ module _ {k : ℕ} {ts hs ws outs ins nexts : List ℕ} (net : Network k ts hs w
 
     pub network-exact : {q : List ℕ} → Flagged bars q → elem t q ≡ false → Exact (graph ts hs ws) t ls q
     network-exact f u = least-exact (net .arcs) (omega (arith, net .places)) f l u
+
+  -- the chosen exit is a node
+  pub choice-fresh : {ls used barred : List ℕ} {v l y : ℕ} → Choice (graph ts hs ws) ls (Unmarked used barred) v l y → Fresh k used y
+  choice-fresh {v} {y} c =
+      let w = graph-within (net .arcs) v y (c .exit .arc) in
+      record { from = w .0; upto = omega (arith, w .1, net .places); unflagged = c .exit .is-open .unused }

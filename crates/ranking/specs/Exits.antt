@@ -4,7 +4,7 @@ use mathlib.Core.Path.{_≡_}
 use mathlib.Core.Bool.{Bool, true, false, _&&_, cond}
 use mathlib.Core.List.{List}
 use lib.Dec.{eqb, ltb}
-use lib.ListN.{length, getD}
+use lib.ListN.{getD}
 use Rattle.terms.specs.Network.{Graph}
 use Rattle.labels.specs.Labels.{far}
 use Rattle.ranking.specs.Flags.{Fresh}

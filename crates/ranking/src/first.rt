@@ -121,7 +121,7 @@ fn surely(
 
 // The first path of the branch of path[..d], whose next node is not barred, by labels with the nodes
 // of path[..d] barred.
-pub fn exact_path(
+fn exact_path(
     tails: &[u16],
     heads: &[u16],
     weights: &[u32],
@@ -180,4 +180,57 @@ pub fn exact_path(
         labels,
     );
     Found::Tail(len, l)
+}
+
+// The first path of the branch of path[..d], whose next node is not barred. y and l are its least exit
+// by the labels `overall`, which may be those of the whole network: the walk along these arrives
+// mostly, and the branch is searched by labels of its own where it does not.
+pub fn first_path(
+    tails: &[u16],
+    heads: &[u16],
+    weights: &[u32],
+    first_out: &[u16],
+    first_in: &[u16],
+    next_in: &[u16],
+    goal: usize,
+    overall: &[u64],
+    used: &mut [u8],
+    barred: &[u8],
+    path: &mut [u16],
+    d: usize,
+    y: u16,
+    l: u64,
+    dirty: &mut [u8],
+    queue: &mut [u16],
+    labels: &mut [u64],
+) -> Found
+    requires { ⌜ Network (length (now used)) (now tails) (now heads) (now weights) (now «first_out») (now «first_in») (now «next_in») ⌝ }
+    requires { ⌜ Laid (length (now used)) (now used) (now path) d × (length (now barred) ≡ length (now used)) ⌝ }
+    requires { ⌜ Ahead (length (now used)) goal (now used) ⌝ }
+    requires { ⌜ Room (length (now used)) (now dirty) (now queue) (now labels) ⌝ }
+    requires { ⌜ Consistent (graph (now tails) (now heads) (now weights)) goal (now overall) (take d (now path)) × (length (now overall) ≡ length (now used)) ⌝ }
+    requires { ⌜ Choice (graph (now tails) (now heads) (now weights)) (now overall) (Unmarked (now used) (now barred)) (getD (now path) (d - 1) 0) l y ⌝ }
+    ensures { λ r. ⌜ Kept (now (used .entry)) (now (path .entry)) d (now (used .exit)) (now (path .exit)) r ⌝ }
+    ensures { λ r. ⌜ ((s : ℕ) (F : List ℕ) → Beginning (graph (now (tails .entry)) (now (heads .entry)) (now (weights .entry))) s goal (take d (now (path .entry))) → Flagged (now (barred .entry)) F → FirstFound (graph (now (tails .entry)) (now (heads .entry)) (now (weights .entry))) s goal (branch (take d (now (path .entry))) F) (now (path .exit)) r) ⌝ }
+{
+    let end = attempt(heads, weights, first_out, goal, overall, used, path, d, y);
+    if end.arrived {
+        return Found::Tail(end.len, l);
+    }
+    exact_path(
+        tails,
+        heads,
+        weights,
+        first_out,
+        first_in,
+        next_in,
+        goal,
+        used,
+        barred,
+        path,
+        d,
+        dirty,
+        queue,
+        labels,
+    )
 }

@@ -8,3 +8,4 @@ mod walk;
 pub use exits::Next;
 pub use exits::least_exit;
 pub use first::Found;
+pub use first::first_path;

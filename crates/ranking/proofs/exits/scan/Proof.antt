@@ -1,7 +1,6 @@
 use mathlib.Core.Logic.{⊎-elim}
 use mathlib.Core.Path.{sym}
-use Prim.Native.Nat.{_-_, _≤_, _<_}
-use lib.ListN.{length, getD}
+use Prim.Native.Nat.{_-_, _≤_}
 use Rattle.ranking.specs.Exits.{via-arc}
 use Rattle.ranking.proofs.ExitLaws.{Scan, scan-start, scan-take, scan-pass, scan-none, scan-best}
 use native.Mathlib.Omega.{arith}

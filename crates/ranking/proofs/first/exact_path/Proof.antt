@@ -1,8 +1,8 @@
 use Rattle.ranking.specs.Exits.{Unmarked}
 use Rattle.ranking.specs.Walks.{Choice}
-use mathlib.Core.Path.{_≡_, refl, sym, _∙_, ap}
+use mathlib.Core.Path.{_≡_, refl, _∙_}
 use mathlib.Core.List.{List}
-use Prim.Native.Nat.{ℕ, _-_, _<_}
+use Prim.Native.Nat.{ℕ, _-_}
 use native.Mathlib.Omega.{arith}
 use lib.ListN.{length, take, getD}
 use Rattle.terms.specs.Network.{Graph}

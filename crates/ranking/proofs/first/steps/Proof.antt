@@ -5,13 +5,13 @@ use Rattle.ranking.specs.Star.{Network}
 use Rattle.ranking.proofs.FlagLaws.{unflagged}
 use Rattle.ranking.proofs.LaidLaws.{laid-room}
 use Rattle.ranking.proofs.WalkLaws.{Exact}
-use mathlib.Core.Path.{_≡_, refl, sym, _∙_}
+use mathlib.Core.Path.{refl, sym, _∙_}
 use mathlib.Core.List.{List, []}
-use Prim.Native.Nat.{ℕ, _-_, _≤_, _<_}
+use Prim.Native.Nat.{ℕ, _-_, _<_}
 use borrow.Author.Needs.{needs}
-use lib.ListN.{length, take, getD, length-set}
+use lib.ListN.{length, take, length-set}
 use Rattle.terms.specs.Paths.{Route}
-use Rattle.labels.specs.Arcs.{graph, Arcs}
+use Rattle.labels.specs.Arcs.{graph}
 use Rattle.ranking.specs.Branches.{branch, In}
 use Rattle.ranking.specs.Found.{Room}
 use Rattle.ranking.proofs.ExitLaws.{usable-node, chosen-node, chosen-nothing}

@@ -1,7 +1,7 @@
-use mathlib.Core.Path.{_≡_, sym, _∙_, ap}
+use mathlib.Core.Path.{_∙_, ap}
 use Prim.Native.Nat.{_+_, _<_}
 use native.Mathlib.Omega.{arith}
-use lib.ListN.{length, getD, set, length-set}
+use lib.ListN.{length, set, length-set}
 use Rattle.ranking.specs.Laid.{Longer, Tried}
 use Rattle.ranking.proofs.FirstLaws.{still-ahead}
 use Rattle.ranking.proofs.LaidLaws.{take-more, laid-room, laid-more, tried}

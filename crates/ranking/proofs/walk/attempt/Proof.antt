@@ -1,7 +1,7 @@
-use mathlib.Core.Path.{_≡_, sym, _∙_}
-use Prim.Native.Nat.{_+_, _<_}
+use mathlib.Core.Path.{_∙_}
+use Prim.Native.Nat.{_<_}
 use native.Mathlib.Omega.{arith}
-use lib.ListN.{length, getD, length-set}
+use lib.ListN.{length, length-set}
 use Rattle.ranking.proofs.LaidLaws.{take-more, last-more, laid-room, laid-more, tried}
 use borrow.Author.Needs.{needs}
 use Rattle.ranking.proofs.walk.attempt.Statement.{statement}

@@ -1,5 +1,5 @@
 use mathlib.Core.Path.{_≡_}
-use Prim.Native.Nat.{_-_, _≤_, _<_}
+use Prim.Native.Nat.{_-_, _≤_}
 use lib.ListN.{length}
 use Rattle.ranking.specs.Laid.{Laid}
 use Rattle.ranking.proofs.LaidLaws.{laid-less, laid-place}
