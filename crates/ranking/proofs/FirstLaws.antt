@@ -14,7 +14,7 @@ use Rattle.terms.proofs.PathLaws.{PathFrom, step}
 use Rattle.ranking.specs.Branches.{branch, In, First, Beginning}
 use Rattle.ranking.specs.Exits.{Unmarked}
 use Rattle.ranking.specs.Flags.{Flagged, Fresh}
-use Rattle.ranking.specs.Found.{Ahead, Extent, Kept}
+use Rattle.ranking.specs.Found.{Ahead, Begun, Extent, Kept}
 use Rattle.ranking.specs.Laid.{Laid, Longer, Arrives, Tried}
 use Rattle.ranking.specs.Walks.{Consistent, Exit, Choice, Allowed}
 use Rattle.ranking.specs.declared.first.Found.{Found}
@@ -95,16 +95,18 @@ module _ {g : Graph} {s t : ℕ} where
 pub record Stepping (k : ℕ) (path₀ : List ℕ) (at goal : ℕ) (used path : List ℕ) (len x : ℕ) : Type 0 where
   pub longer : Longer k path₀ at used path len
   pub same : length path ≡ length path₀
+  pub some : 1 ≤ len
   pub last : getD path (len - 1) 0 ≡ x
   pub goal-ahead : (x ≡ goal → ⊥) → getD used goal 0 ≡ 0
 
 pub stepping-place : {k at goal len x : ℕ} {path₀ used path : List ℕ} → Stepping k path₀ at goal used path len x → x < k
-stepping-place {len} s = rw (s .last) at (laid-place (len - 1) (omega (arith, s .longer .laid .some)) (s .longer .laid))
+stepping-place {len} s = rw (s .last) at (laid-place (len - 1) (omega (arith, s .some)) (s .longer .laid))
 
 pub stepping-more : {k at goal len x y : ℕ} {path₀ used path : List ℕ} → x ≢ goal → Fresh k used y → Stepping k path₀ at goal used path len x → Stepping k path₀ at goal (set used y 1) (set path len y) (len + 1) y
 stepping-more {goal} {len} {y} {used} {path} n f s = record {
   longer = longer-more (s .longer) f;
   same = simp length-set (s .same);
+  some = omega arith;
   last = last-more path len y (laid-room (s .longer .laid) f);
   goal-ahead = λ m. getD-set-other used y goal 1 0 (λ e. m (sym e)) ∙ s .goal-ahead n;
 }
@@ -114,7 +116,7 @@ module _ {k at goal len x : ℕ} {path₀ used path : List ℕ} {g : Graph} {q :
   lead = take (len - 1) path
 
   split : take len path ≡ lead ++ (x ∷ [])
-  split = laid-last (S .longer .laid) (S .last)
+  split = laid-last (S .some) (S .longer .laid) (S .last)
 
   pub stepping-end : x ≡ goal → First g s goal (branch q []) (take len path)
   stepping-end e = rw split (onward-end lead x (rw split at o) e)
@@ -134,7 +136,7 @@ pub still-ahead : {k d goal y : ℕ} {used path : List ℕ} → Laid k used path
 still-ahead {d} {goal} {y} {used} {path} l f a n = getD-set-other used y goal 1 0 (λ e. n (last-more path d y (laid-room l f) ∙ sym e)) ∙ a .unmet
 
 -- ---- the branch of a beginning that is laid out, with its flags and those of the barred nodes
-module _ {k d : ℕ} {used path barred F : List ℕ} {g : Graph} {s t : ℕ} (l : Laid k used path d) (h : Flagged barred F) (B : Beginning g s t (take d path)) where
+module _ {k d : ℕ} {used path barred F : List ℕ} {g : Graph} {s t : ℕ} (β : Begun k used barred path d) (h : Flagged barred F) (B : Beginning g s t (take d path)) where
   abbrev front : Route
   front = take (d - 1) path
 
@@ -142,7 +144,7 @@ module _ {k d : ℕ} {used path barred F : List ℕ} {g : Graph} {s t : ℕ} (l 
   node = getD path (d - 1) 0
 
   cut : take d path ≡ front ++ (node ∷ [])
-  cut = laid-last l refl
+  cut = laid-last (β .some) (β .laid) refl
 
   -- its last node is not the goal
   not-goal : node ≢ t
@@ -150,11 +152,11 @@ module _ {k d : ℕ} {used path barred F : List ℕ} {g : Graph} {s t : ℕ} (l 
 
   module _ {ls : List ℕ} where
     allowed : {m y : ℕ} → Choice g ls (Unmarked used barred) node m y → Choice g ls (Allowed (front ++ (node ∷ [])) F) node m y
-    allowed = choice-allowed (rw cut at (l .flagged)) h
+    allowed = choice-allowed (rw cut at (β .laid .flagged)) h
 
     -- with no exit it is empty
     pub branch-empty : Consistent g t ls (take d path) → ((z : ℕ) → Exit g ls (Unmarked used barred) node z → ⊥) → (p : Route) → In g s t (branch (take d path) F) p → ⊥
-    branch-empty c none p i = no-exit front node F not-goal (rw cut at c) (none-allowed (rw cut at (l .flagged)) h none) (rw cut at i)
+    branch-empty c none p i = no-exit front node F not-goal (rw cut at c) (none-allowed (rw cut at (β .laid .flagged)) h none) (rw cut at i)
 
     module _ {m y : ℕ} (ch : Choice g ls (Unmarked used barred) node m y) where
       -- no path of it costs less than the beginning and the least weight and label

@@ -48,7 +48,6 @@ module _ {k at : ℕ} {used path : List ℕ} where
       let e = take-more path at y room in
       let out = unflagged (l .flagged) y (f .unflagged) in
       record {
-        some = omega arith;
         upto = simp length-set (omega arith);
         room = simp length-set (l .room);
         flags-long = simp length-set (l .flags-long);
@@ -58,14 +57,13 @@ module _ {k at : ℕ} {used path : List ℕ} where
       }
 
   -- one node less
-  pub laid-less : {i : ℕ} → 1 ≤ at → i ≡ at + 1 → Laid k used path i → Laid k (set used (getD path at 0) 0) path at
-  laid-less some z l′ =
+  pub laid-less : {i : ℕ} → i ≡ at + 1 → Laid k used path i → Laid k (set used (getD path at 0) 0) path at
+  laid-less z l′ =
       let l = rw z at l′ in
       let h : at < length path = omega (arith, l .upto) in
       let e = take-last path at h in
       let k = loopless-last (take at path) (getD path at 0) (rw e at (l .loopless)) in
       record {
-        some = some;
         upto = omega arith;
         room = l .room;
         flags-long = simp length-set (l .flags-long);
@@ -87,10 +85,10 @@ pub longer-more : {k at len y : ℕ} {used path path₀ : List ℕ} → Longer k
 longer-more {at} {len} {y} {path} l f = record { no-shorter = omega (arith, l .no-shorter); laid = laid-more (l .laid) f; kept = take-set-le at path len y (l .no-shorter) ∙ l .kept }
 
 -- the last node set apart
-pub laid-last : {k at x : ℕ} {used path : List ℕ} → Laid k used path at → getD path (at - 1) 0 ≡ x → take at path ≡ take (at - 1) path ++ (x ∷ [])
-laid-last {at} {x} {path} l e =
-    let h : at ≡ at - 1 + 1 = omega (arith, l .some) in
-    ap (λ (i : ℕ). take i path) h ∙ take-last path (at - 1) (omega (arith, l .some, l .upto)) ∙ ap (λ (z : ℕ). take (at - 1) path ++ (z ∷ [])) e
+pub laid-last : {k at x : ℕ} {used path : List ℕ} → 1 ≤ at → Laid k used path at → getD path (at - 1) 0 ≡ x → take at path ≡ take (at - 1) path ++ (x ∷ [])
+laid-last {at} {x} {path} some l e =
+    let h : at ≡ at - 1 + 1 = omega arith in
+    ap (λ (i : ℕ). take i path) h ∙ take-last path (at - 1) (omega (arith, l .upto)) ∙ ap (λ (z : ℕ). take (at - 1) path ++ (z ∷ [])) e
 
 -- ---- a tight walk from x, the last node of q, that has come through p to z
 pub record Walking (g : Graph) (t : ℕ) (ls : List ℕ) (q : Route) (x : ℕ) (p : Route) (z : ℕ) : Type 0 where
@@ -131,7 +129,7 @@ tried {k} {d} {len} y {path} {path′} l m u = record {
 
 -- the same flags and first places in a path of the same length
 pub laid-kept : {k d : ℕ} {used path path′ : List ℕ} → take d path′ ≡ take d path → length path′ ≡ length path → Laid k used path d → Laid k used path′ d
-laid-kept e n l = record { some = l .some; upto = omega (arith, l .upto); room = omega (arith, l .room); flags-long = l .flags-long; nodes = rw e (l .nodes); loopless = rw e (l .loopless); flagged = rw e (l .flagged) }
+laid-kept e n l = record { upto = omega (arith, l .upto); room = omega (arith, l .room); flags-long = l .flags-long; nodes = rw e (l .nodes); loopless = rw e (l .loopless); flagged = rw e (l .flagged) }
 
 -- two tries, one after the other
 pub tried-again : {d len len′ : ℕ} {used path used′ path′ used″ path″ : List ℕ} → Tried used path d used′ path′ len → Tried used′ path′ d used″ path″ len′ → Tried used path d used″ path″ len′

@@ -6,6 +6,7 @@ pub mod SearchLaws
 pub mod LateLaws
 pub mod WalkLaws
 pub mod FlagLaws
+pub mod StarLaws
 pub mod NetworkLaws
 pub mod ExitLaws
 pub mod LaidLaws

@@ -6,6 +6,7 @@ use lib.ListN.{length, take, getD}
 use Rattle.terms.specs.Network.{Graph}
 use Rattle.terms.specs.Paths.{Route, cost}
 use Rattle.ranking.specs.Branches.{Branch, In, First}
+use Rattle.ranking.specs.Laid.{Laid}
 use Rattle.ranking.specs.declared.first.Found.{Found}
 use Rattle.ranking.specs.declared.first.Found.the-variants.{Tail, Empty}
 
@@ -19,6 +20,12 @@ pub record Room (k : ℕ) (dirty queue labels : List ℕ) : Type 0 where
 pub record Ahead (k goal : ℕ) (used : List ℕ) : Type 0 where
   pub place : goal < k
   pub unmet : getD used goal 0 ≡ 0
+
+-- a beginning of d nodes, one at least, is laid out, and the barred nodes are flagged too
+pub record Begun (k : ℕ) (used barred path : List ℕ) (d : ℕ) : Type 0 where
+  pub laid : Laid k used path d
+  pub some : 1 ≤ d
+  pub barred-long : length barred ≡ k
 
 -- the path reaches beyond its first d nodes, which hold the beginning
 pub data Extent (d : ℕ) (path : List ℕ) : Found → Type 0 where

@@ -12,7 +12,6 @@ use Rattle.ranking.specs.Walks.{TightWalk}
 
 -- the first `at` places of path hold nodes that differ, and used has the flags of these; nodes have the places from 1 to below k
 pub record Laid (k : ℕ) (used path : List ℕ) (at : ℕ) : Type 0 where
-  pub some : 1 ≤ at
   pub upto : at ≤ length path
   -- there is a place for each node
   pub room : k ≤ length path + 1

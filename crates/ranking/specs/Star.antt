@@ -2,6 +2,7 @@
 -- so that no index lies outside. Assumes nothing.
 use Prim.Native.Nat.{ℕ, _+_, _≤_, _<_}
 use mathlib.Core.Path.{_≡_}
+use mathlib.Core.Bool.{Bool, true, false}
 use mathlib.Core.List.{List}
 use lib.ListN.{length, getD}
 use Rattle.labels.specs.Arcs.{Arcs}
@@ -17,7 +18,24 @@ pub record Star (n : ℕ) (ts hs first : List ℕ) : Type 0 where
   pub out : (v i : ℕ) → v ≤ n → i < length ts → getD ts i 0 ≡ v → (getD first v 0 ≤ i) × (i < getD first (v + 1) 0)
   pub rising : (i j : ℕ) → i < j → j < length ts → getD ts i 0 ≡ getD ts j 0 → getD hs i 0 < getD hs j 0
 
--- a graph in arrays, with the arcs out of and into each node; nodes have the places below k
+-- ---- how it is made
+-- tails that rise, few enough for 16 bits
+pub record RisingTails (ts : List ℕ) : Type 0 where
+  pub rising : (i j : ℕ) → i ≤ j → j < length ts → getD ts i 0 ≤ getD ts j 0
+  pub few : length ts < 65536
+
+-- the tail at index i is below v
+pub data Comes (ts : List ℕ) (i v : ℕ) : Bool → Type 0 where
+  comes : i < length ts → getD ts i 0 < v → Comes ts i v true
+  ends : (i < length ts → v ≤ getD ts i 0) → Comes ts i v false
+
+-- the tails below v are those before index c
+pub record Cut (ts : List ℕ) (v c : ℕ) : Type 0 where
+  pub within : c ≤ length ts
+  pub before : (j : ℕ) → j < c → getD ts j 0 < v
+  pub from : (j : ℕ) → c ≤ j → j < length ts → v ≤ getD ts j 0
+
+-- ---- a graph in arrays, with the arcs out of and into each node; nodes have the places below k
 pub record Network (k : ℕ) (ts hs ws outs ins nexts : List ℕ) : Type 0 where
   pub nodes : ℕ
   pub places : k ≡ nodes + 1

@@ -9,7 +9,7 @@ ghost use Rattle.labels.specs.Arcs.{graph};
 ghost use Rattle.ranking.specs.Branches.{branch, In, First, Beginning};
 ghost use Rattle.ranking.specs.Exits.{Unmarked};
 ghost use Rattle.ranking.specs.Flags.{Flagged, Fresh};
-ghost use Rattle.ranking.specs.Found.{Room, Ahead, Kept, FirstFound};
+ghost use Rattle.ranking.specs.Found.{Room, Ahead, Begun, Kept, FirstFound};
 ghost use Rattle.ranking.specs.Laid.{Laid, Longer, Tried};
 ghost use Rattle.ranking.specs.Star.{Network};
 ghost use Rattle.ranking.specs.Walks.{Consistent, Choice};
@@ -43,7 +43,7 @@ fn steps(
     labels: &mut [u64],
 ) -> usize
     requires { ⌜ Network (length (now used)) (now tails) (now heads) (now weights) (now «first_out») (now «first_in») (now «next_in») ⌝ }
-    requires { ⌜ Laid (length (now used)) (now used) (now path) at ⌝ }
+    requires { ⌜ Laid (length (now used)) (now used) (now path) at × (1 ≤ at) ⌝ }
     requires { ⌜ (goal < length (now used)) × ((getD (now path) (at - 1) 0 ≡ goal → ⊥) → getD (now used) goal 0 ≡ 0) ⌝ }
     requires { ⌜ Room (length (now used)) (now dirty) (now queue) (now labels) ⌝ }
     ensures { λ r. ⌜ Longer (length (now (used .entry))) (now (path .entry)) at (now (used .exit)) (now (path .exit)) r ⌝ }
@@ -138,7 +138,7 @@ fn exact_path(
     labels: &mut [u64],
 ) -> Found
     requires { ⌜ Network (length (now used)) (now tails) (now heads) (now weights) (now «first_out») (now «first_in») (now «next_in») ⌝ }
-    requires { ⌜ Laid (length (now used)) (now used) (now path) d × (length (now barred) ≡ length (now used)) ⌝ }
+    requires { ⌜ Begun (length (now used)) (now used) (now barred) (now path) d ⌝ }
     requires { ⌜ Ahead (length (now used)) goal (now used) ⌝ }
     requires { ⌜ Room (length (now used)) (now dirty) (now queue) (now labels) ⌝ }
     ensures { λ r. ⌜ Kept (now (used .entry)) (now (path .entry)) d (now (used .exit)) (now (path .exit)) r ⌝ }
@@ -205,7 +205,7 @@ pub fn first_path(
     labels: &mut [u64],
 ) -> Found
     requires { ⌜ Network (length (now used)) (now tails) (now heads) (now weights) (now «first_out») (now «first_in») (now «next_in») ⌝ }
-    requires { ⌜ Laid (length (now used)) (now used) (now path) d × (length (now barred) ≡ length (now used)) ⌝ }
+    requires { ⌜ Begun (length (now used)) (now used) (now barred) (now path) d ⌝ }
     requires { ⌜ Ahead (length (now used)) goal (now used) ⌝ }
     requires { ⌜ Room (length (now used)) (now dirty) (now queue) (now labels) ⌝ }
     requires { ⌜ Consistent (graph (now tails) (now heads) (now weights)) goal (now overall) (take d (now path)) × (length (now overall) ≡ length (now used)) ⌝ }

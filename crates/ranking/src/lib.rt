@@ -3,9 +3,11 @@
 // those out of v are at the indices from first_out[v] to below first_out[v + 1].
 mod exits;
 mod first;
+mod outs;
 mod walk;
 
 pub use exits::Next;
 pub use exits::least_exit;
 pub use first::Found;
 pub use first::first_path;
+pub use outs::star;

@@ -32,7 +32,7 @@ fn walk(
 ) -> End
     requires { ⌜ Heads (length (now labels)) (now heads) (now weights) ⌝ }
     requires { ⌜ Starts (length (now labels)) (now heads) (now «first_out») ⌝ }
-    requires { ⌜ Laid (length (now labels)) (now used) (now path) at ⌝ }
+    requires { ⌜ Laid (length (now labels)) (now used) (now path) at × (1 ≤ at) ⌝ }
     ensures { λ r. ⌜ Longer (length (now (labels .entry))) (now (path .entry)) at (now (used .exit)) (now (path .exit)) (r .len) ⌝ }
     ensures { λ r. ⌜ ((n : ℕ) (ts : List ℕ) → Arcs n ts (now (heads .entry)) (now (weights .entry)) → Star n ts (now (heads .entry)) (now («first_out» .entry)) → getD (now (labels .entry)) (getD (now (path .entry)) (at - 1) 0) 0 < far → r .arrived ≡ true → Arrives (graph ts (now (heads .entry)) (now (weights .entry))) goal (now (labels .entry)) (take at (now (path .entry))) (getD (now (path .entry)) (at - 1) 0) (take (r .len) (now (path .exit)))) ⌝ }
 {
@@ -58,7 +58,7 @@ fn walk(
 
 // Clears the flags of the nodes in path[from..to].
 pub fn unmark(path: &[u16], from: usize, to: usize, used: &mut [u8])
-    requires { ⌜ Laid (length (now used)) (now used) (now path) to × (1 ≤ from) × (from ≤ to) ⌝ }
+    requires { ⌜ Laid (length (now used)) (now used) (now path) to × (from ≤ to) ⌝ }
     ensures { λ _. ⌜ Laid (length (now (used .entry))) (now (used .exit)) (now (path .entry)) from ⌝ }
 {
     let mut i = to;

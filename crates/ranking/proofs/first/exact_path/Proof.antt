@@ -9,7 +9,7 @@ use Rattle.terms.specs.Network.{Graph}
 use Rattle.labels.specs.Arcs.{graph}
 use Rattle.labels.specs.Labels.{Least}
 use Rattle.ranking.specs.Flags.{Fresh}
-use Rattle.ranking.specs.Found.{Extent, FirstFound}
+use Rattle.ranking.specs.Found.{Begun, Extent, FirstFound}
 use Rattle.ranking.specs.Laid.{Laid, Tried}
 use Rattle.ranking.specs.Star.{Network}
 use Rattle.ranking.proofs.ExitLaws.{usable-node, chosen-node, chosen-nothing}
@@ -64,8 +64,8 @@ network c = start c .pre .0
 abbrev net : tie.After-least → Graph
 net c = graph (start c .args .tails .now) (start c .args .heads .now) (start c .args .weights .now)
 
-laid : (c : tie.After-least) → let s = start c in Laid (length (s .args .used .now)) (s .args .used .now) (s .args .path .now) (s .args .d)
-laid c = start c .pre .1 .0 .0
+begun : (c : tie.After-least) → let s = start c in Begun (length (s .args .used .now)) (s .args .used .now) (s .args .barred .now) (s .args .path .now) (s .args .d)
+begun c = start c .pre .1 .0
 
 -- the labels have a place for each node, and are exact
 abbrev made : tie.After-least → List ℕ
@@ -78,7 +78,7 @@ made-least : (c : tie.After-least) → Least (net c) (start c .args .used .now) 
 made-least c = let n = network c in c .least .ensures (n .nodes) _ (n .arcs) (n .chains)
 
 made-exact : (c : tie.After-least) → Exact (net c) (start c .args .goal) (made c) (take (start c .args .d) (start c .args .path .now))
-made-exact c = network-exact (network c) (made-long c) (made-least c) (laid c .flagged) (unflagged (laid c .flagged) _ (start c .pre .1 .1 .0 .unmet))
+made-exact c = network-exact (network c) (made-long c) (made-least c) (begun c .laid .flagged) (unflagged (begun c .laid .flagged) _ (start c .pre .1 .1 .0 .unmet))
 
 -- the exit that was chosen
 abbrev next : tie.After-known-told → ℕ
@@ -101,13 +101,13 @@ walk-tried c = c .attempt .ensures .0
 
 -- what it left, and the steps after it
 walk-laid : (c : tie.After-attempt) → let s = start (with-labels (chosen (told c))) in Laid (length (s .args .used .now)) (s .args .used .now) (c .attempt .last .1 .1 .1 .1 .1 .1 .0) (s .args .d)
-walk-laid c = laid-kept (walk-tried c .kept) (c .attempt .kept .1 .1 .1 .1 .1 .1 .0) (laid (with-labels (chosen (told c))))
+walk-laid c = laid-kept (walk-tried c .kept) (c .attempt .kept .1 .1 .1 .1 .1 .1 .0) (begun (with-labels (chosen (told c))) .laid)
 
 -- src/first.rt:147:5
 least-requires : tie.Need-least-requires
 least-requires c κs =
     let p = entry c .pre in
-    rw (p .1 .1 .1 .labels-long) (network-arrays (p .0) (p .1 .0 .0 .flags-long), (record { place = p .1 .1 .0 .place; free = p .1 .1 .0 .unmet }, record { dirty-long = p .1 .1 .1 .dirty-long; queue-long = p .1 .1 .1 .queue-long }))
+    rw (p .1 .1 .1 .labels-long) (network-arrays (p .0) (p .1 .0 .laid .flags-long), (record { place = p .1 .1 .0 .place; free = p .1 .1 .0 .unmet }, record { dirty-long = p .1 .1 .1 .dirty-long; queue-long = p .1 .1 .1 .queue-long }))
 
 -- src/first.rt:148:18
 sub-v : tie.Need-sub-v
@@ -115,7 +115,7 @@ sub-v c = search needs
 
 -- src/first.rt:148:13
 mul-v : tie.Need-mul-v
-mul-v c = omega (arith, laid (labelled c), start (labelled c) .good)
+mul-v c = omega (arith, begun (labelled c) .laid, start (labelled c) .good)
 
 -- src/first.rt:148:13
 slice-read-v : tie.Need-slice-read-v
@@ -131,7 +131,7 @@ least-exit-requires c κs =
     let a = labelled (c .before .before .before) in
     let s = start a in
     let n = network a in
-    rw (made-long a) (network-heads n, ((network-starts n, laid-place (s .args .d - 1) (omega (arith, laid a .some)) (laid a)), (network-small n (made-long a) (made-least a), (refl, s .pre .1 .0 .1))))
+    rw (made-long a) (network-heads n, ((network-starts n, laid-place (s .args .d - 1) (omega (arith, begun a .some)) (begun a .laid)), (network-small n (made-long a) (made-least a), (refl, begun a .barred-long))))
 
 -- src/first.rt:149:20
 enum-known-y : tie.Need-enum-known-y
@@ -163,7 +163,7 @@ returns c =
     let x = c .before .before in
     let a = with-labels x in
     let n = network a in
-    (record { flags = refl; kept = refl; reach = Extent.nothing }, λ s F B h. FirstFound.none (branch-empty (laid a) h B (made-exact a .consistent) (chosen-nothing (x .least-exit .ensures .1 _ _ (n .arcs) (n .star)) (c .enum-told .given .1))))
+    (record { flags = refl; kept = refl; reach = Extent.nothing }, λ s F B h. FirstFound.none (branch-empty (begun a) h B (made-exact a .consistent) (chosen-nothing (x .least-exit .ensures .1 _ _ (n .arcs) (n .star)) (c .enum-told .given .1))))
 
 -- src/first.rt:152:9
 attempt-requires : tie.Need-attempt-requires
@@ -171,7 +171,7 @@ attempt-requires c κs =
     let t = c .before .before .before in
     let a = with-labels (chosen t) in
     let n = network a in
-    rw (made-long a) (network-heads n, (network-starts n, (laid a, usable t)))
+    rw (made-long a) (network-heads n, (network-starts n, (begun a .laid, usable t)))
 
 -- src/first.rt:154:9
 same-length-5 : tie.Need-same-length-5
@@ -200,7 +200,7 @@ returns-2 c =
     let t = told w in
     let a = with-labels (chosen t) in
     let n = network a in
-    (tried-kept (walk-tried w), λ s F B h. let r = branch-walked (laid a) h B (choice t) (made-exact a .consistent) (w .attempt .ensures .1 _ _ (n .arcs) (n .star) (choice t .exit .reached) (c .if1 .taken)) in FirstFound.found (r .0) (r .1))
+    (tried-kept (walk-tried w), λ s F B h. let r = branch-walked (begun a) h B (choice t) (made-exact a .consistent) (w .attempt .ensures .1 _ _ (n .arcs) (n .star) (choice t .exit .reached) (c .if1 .taken)) in FirstFound.found (r .0) (r .1))
 
 -- src/first.rt:156:9
 surely-requires : tie.Need-surely-requires
@@ -246,7 +246,7 @@ returns-3 c =
     let a = with-labels (chosen t) in (
       tried-kept (tried-again (walk-tried w) (u .surely .ensures .0)),
       λ s F B h.
-          let r = branch-stepped (laid a) h B (choice t) (made-exact a) (λ p i. rw (walk-tried w .kept) at (u .surely .ensures .1 s p (rw (walk-tried w .kept) i))) in
+          let r = branch-stepped (begun a) h B (choice t) (made-exact a) (λ p i. rw (walk-tried w .kept) at (u .surely .ensures .1 s p (rw (walk-tried w .kept) i))) in
           FirstFound.found (r .0) (r .1),
     )
 

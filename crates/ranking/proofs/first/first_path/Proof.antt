@@ -32,7 +32,7 @@ walk-tried c = c .attempt .ensures .0
 attempt-requires : tie.Need-attempt-requires
 attempt-requires c κs =
     let p = entry c .pre in
-    rw (p .1 .1 .1 .1 .0 .1) (network-heads (p .0), (network-starts (p .0), (p .1 .0 .0, choice-fresh (p .0) (p .1 .1 .1 .1 .1))))
+    rw (p .1 .1 .1 .1 .0 .1) (network-heads (p .0), (network-starts (p .0), (p .1 .0 .laid, choice-fresh (p .0) (p .1 .1 .1 .1 .1))))
 
 -- src/first.rt:218:9
 same-length : tie.Need-same-length
@@ -50,7 +50,7 @@ returns c =
     let choice = p .1 .1 .1 .1 .1 in (
       tried-kept (walk-tried w),
       λ s F B h.
-          let r = branch-walked (p .1 .0 .0) h B choice (p .1 .1 .1 .1 .0 .0) (w .attempt .ensures .1 _ _ (p .0 .arcs) (p .0 .star) (choice .exit .reached) (c .if1 .taken)) in
+          let r = branch-walked (p .1 .0) h B choice (p .1 .1 .1 .1 .0 .0) (w .attempt .ensures .1 _ _ (p .0 .arcs) (p .0 .star) (choice .exit .reached) (c .if1 .taken)) in
           FirstFound.found (r .0) (r .1),
     )
 
@@ -59,7 +59,7 @@ exact-path-requires : tie.Need-exact-path-requires
 exact-path-requires c κs =
     let w = strayed c in
     let p = start w .pre in
-    rw (walk-tried w .flags) (p .0, ((laid-kept (walk-tried w .kept) (w .attempt .kept .1 .1 .1 .1 .1 .1 .0) (p .1 .0 .0), p .1 .0 .1), (p .1 .1 .0, p .1 .1 .1 .0)))
+    rw (walk-tried w .flags) (p .0, (record { laid = laid-kept (walk-tried w .kept) (w .attempt .kept .1 .1 .1 .1 .1 .1 .0) (p .1 .0 .laid); some = p .1 .0 .some; barred-long = p .1 .0 .barred-long }, (p .1 .1 .0, p .1 .1 .1 .0)))
 
 -- src/first.rt:188:1
 same-length-3 : tie.Need-same-length-3

@@ -114,7 +114,7 @@ cast-x c = omega (arith, c .slice-known6 .given (entry c .args .at - 1))
 loop-holds : tie.Need-loop-holds Inv-loop μ-loop
 loop-holds c =
     let p = entry c .pre in
-    (record { longer = record { no-shorter = omega arith; laid = p .1 .0; kept = refl }; same = refl; last = refl; goal-ahead = p .1 .1 .0 .1 }, p .1 .1 .1, λ s r i. onward-start i)
+    (record { longer = record { no-shorter = omega arith; laid = p .1 .0 .0; kept = refl }; same = refl; some = p .1 .0 .1; last = refl; goal-ahead = p .1 .1 .0 .1 }, p .1 .1 .1, λ s r i. onward-start i)
 
 -- src/first.rt:55:9
 least-requires : tie.Need-least-requires Inv-loop μ-loop

@@ -62,14 +62,14 @@ steps-requires c κs =
     let p = s .pre in
     let l = p .1 .0 .0 in
     let f = p .1 .0 .1 in
-    rw (length-set (s .args .used .now) (s .args .y) 1) (p .0, (laid-more l f, ((p .1 .1 .0 .place, still-ahead l f (p .1 .1 .0)), p .1 .1 .1)))
+    rw (length-set (s .args .used .now) (s .args .y) 1) (p .0, ((laid-more l f, omega arith), ((p .1 .1 .0 .place, still-ahead l f (p .1 .1 .0)), p .1 .1 .1)))
 
 -- src/first.rt:118:5
 unmark-requires : tie.Need-unmark-requires
 unmark-requires c κs =
     let w = stepped c in
     let l = longer w in
-    (rw (l .laid .flags-long) (l .laid), start w .pre .1 .0 .0 .some, omega (arith, l .no-shorter))
+    (rw (l .laid .flags-long) (l .laid), omega (arith, l .no-shorter))
 
 -- src/first.rt:78:1
 same-length : tie.Need-same-length

@@ -48,14 +48,14 @@ walk-requires : tie.Need-walk-requires
 walk-requires c κs =
     let s = entry (c .before .before) in
     let p = s .pre in
-    (p .0, (p .1 .0, laid-more (p .1 .1 .0) (p .1 .1 .1)))
+    (p .0, (p .1 .0, (laid-more (p .1 .1 .0) (p .1 .1 .1), omega arith)))
 
 -- src/walk.rt:87:5
 unmark-requires : tie.Need-unmark-requires
 unmark-requires c κs =
     let w = walked c in
     let l = w .walk .ensures .0 in
-    (rw (l .laid .flags-long) (l .laid), start w .pre .1 .1 .0 .some, omega (arith, l .no-shorter))
+    (rw (l .laid .flags-long) (l .laid), omega (arith, l .no-shorter))
 
 -- src/walk.rt:66:1
 same-length : tie.Need-same-length

@@ -17,7 +17,7 @@ abbrev μ-loop : tie.MeasureT-loop
 
 -- src/walk.rt:58:5
 loop-holds : tie.Need-loop-holds Inv-loop μ-loop
-loop-holds c = (c .pre .2, omega arith, c .pre .0)
+loop-holds c = (c .pre .1, omega arith, c .pre .0)
 
 -- src/walk.rt:59:9
 sub-i : tie.Need-sub-i Inv-loop μ-loop
@@ -49,7 +49,7 @@ loop-less c = omega arith
 loop-again : tie.Need-loop-again Inv-loop μ-loop
 loop-again c =
     let l = c .before .before in
-    (omega arith, omega arith, laid-less (omega arith) (omega arith) (l .loop .inv .2))
+    (omega arith, omega arith, laid-less (omega arith) (l .loop .inv .2))
 
 -- src/walk.rt:53:1
 same-length : tie.Need-same-length Inv-loop μ-loop

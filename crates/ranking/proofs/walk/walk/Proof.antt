@@ -71,8 +71,8 @@ cast-x c = omega (arith, c .slice-known3 .given (entry c .args .at - 1))
 -- src/walk.rt:40:5
 loop-holds : tie.Need-loop-holds Inv-loop μ-loop
 loop-holds c =
-    let l = entry c .pre .1 .1 in
-    (omega arith, refl, refl, l, laid-place (entry c .args .at - 1) (omega (arith, l .some)) l, λ n ts a s r. (walking-start, r))
+    let l = entry c .pre .1 .1 .0 in
+    (omega arith, refl, refl, l, laid-place (entry c .args .at - 1) (omega arith) l, λ n ts a s r. (walking-start, r))
 
 -- src/walk.rt:41:32
 tight-exit-requires : tie.Need-tight-exit-requires Inv-loop μ-loop
