@@ -5,9 +5,11 @@ mod exits;
 mod first;
 mod outs;
 mod walk;
+mod whole;
 
 pub use exits::Next;
 pub use exits::least_exit;
 pub use first::Found;
 pub use first::first_path;
 pub use outs::star;
+pub use whole::first_of_all;
