@@ -40,7 +40,15 @@ fn label_arrays(
     decode(image, m, u, tails, heads, weights);
     chain(heads, first_in, next_in);
     least(
-        tails, weights, first_in, next_in, barred, goal, dirty, queue, labels,
+        tails,
+        weights,
+        first_in,
+        next_in,
+        barred,
+        goal,
+        dirty,
+        queue,
+        labels,
     );
 }
 

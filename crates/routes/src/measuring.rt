@@ -103,7 +103,5 @@ pub fn regret(image: &[u8], start: u32, goal: u32, nodes: &[u16]) -> Regretted
     let Checked::Network(sizes) = answer else {
         return Regretted::Refused(answer.refusal());
     };
-    Regretted::Measured(greatest_regret(
-        image, sizes.n, sizes.m, sizes.k, start, goal, nodes,
-    ))
+    Regretted::Measured(greatest_regret(image, sizes.n, sizes.m, sizes.k, start, goal, nodes))
 }
