@@ -63,7 +63,7 @@ module _ {value : ℕ → ℕ} {u top place : ℕ} (from : 1 ≤ u) (s : SoFar v
   up-to : (P : ℕ → Type 0) → ((v : ℕ) → 1 ≤ v → v < u → P (value v)) → P (value u) → (v : ℕ) → 1 ≤ v → v < u + 1 → P (value v)
   up-to P before here v lo hi = ⊎-elim (λ e. rw e here) (before v lo) (eq-or-lt-of-le {n = v} {m = u} (omega arith))
 
-  pub larger : top < value u → SoFar value (u + 1) (value u) u
+  larger : top < value u → SoFar value (u + 1) (value u) u
   larger h = record {
     place-from = from;
     none-yet = λ k. absurd (omega arith);
@@ -72,7 +72,7 @@ module _ {value : ℕ → ℕ} {u top place : ℕ} (from : 1 ≤ u) (s : SoFar v
     first = λ v lo hi. omega (arith, s .largest v lo hi);
   }
 
-  pub no-larger : value u ≤ top → SoFar value (u + 1) top place
+  no-larger : value u ≤ top → SoFar value (u + 1) top place
   no-larger h = record {
     place-from = s .place-from;
     none-yet = λ k. absurd (omega arith);
@@ -83,6 +83,14 @@ module _ {value : ℕ → ℕ} {u top place : ℕ} (from : 1 ≤ u) (s : SoFar v
     where
       at-first : u ≡ 1 → (place < u + 1) × (value place ≡ top)
       at-first e = let k = s .none-yet (omega arith) in (omega arith, ap value (k .1 ∙ sym e) ∙ omega arith)
+
+  -- the value at u is held against the largest so far
+  module _ {over top′ place′ : ℕ} (is : over ≡ value u) where
+    pub raised : top < over → top′ ≡ over → place′ ≡ u → SoFar value (u + 1) top′ place′
+    raised h e f = let e′ : top′ ≡ value u = e ∙ is in rw (e′, f) (larger (omega arith))
+
+    pub kept : over ≤ top → top′ ≡ top → place′ ≡ place → SoFar value (u + 1) top′ place′
+    kept h e f = rw (e, f) (no-larger (omega arith))
 
 -- over all columns it is the figure, at the worst column
 pub greatest : (net : Net) (s t : ℕ) (p : Route) {k top place : ℕ} → 1 ≤ k → k ≡ length (net .columns) → SoFar (deviation net s t p) (k + 1) top place → (top ≡ figure net s t p) × (place ≡ worst net s t p)

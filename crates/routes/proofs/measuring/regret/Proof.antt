@@ -1,3 +1,14 @@
+use Rattle.image.proofs.CheckLaws.{Sized}
+use Prim.Native.Nat.{ℕ}
+use mathlib.Core.Path.{_≡_, sym, _∙_, ap, ap₂}
+use mathlib.Core.List.{List, [], _∷_}
+use Rattle.image.specs.Outcome.{sound, gives}
+use Rattle.image.specs.Calls.{sizes}
+use Rattle.image.specs.Answers.{checked, refused}
+use Rattle.image.proofs.OutcomeLaws.{refuses-fault, outcome-fault, outcome-sound}
+use Rattle.routes.specs.Calls.{regret-fault, regret-outcome}
+use Rattle.routes.specs.Decoded.{Accepted}
+use Rattle.routes.proofs.RowLaws.{sized-sound, accepted-of, RegretSound, regret-sound}
 use borrow.Author.Needs.{needs}
 use Rattle.routes.proofs.measuring.regret.Statement.{statement}
 use Rattle.routes.proofs.measuring.regret.Tie as tie
@@ -25,15 +36,35 @@ refusal-requires c κs = search needs
 
 -- src/measuring.rt:104:9
 returns : tie.Need-returns
-returns c = ?
+unfolding regret-outcome
+returns c = let t = c .before in
+    let k = t .before .before in
+    let a = k .before .before .before .args in
+    let e = refuses-fault (regret-fault (a .image .now) (a .start) (a .goal) (a .nodes .now)) (sizes (a .image .now)) (sym (ap checked (t .enum-told .given .1)) ∙ k .check-regret .ensures) in
+    ap refused (c .refusal .ensures _ (t .enum-told .given .1)) ∙ sym (outcome-fault _ e)
+
+-- where its rows give sizes, none of them applies and they are the image's
+abbrev start : tie.After-answer → tie.Start
+start c = c .before .before .before .before .before
+
+passes : (c : tie.After-answer) → (regret-fault (start c .args .image .now) (start c .args .start) (start c .args .goal) (start c .args .nodes .now) ≡ sound) × Sized (start c .args .image .now) (c .answer .given .0 .0 .n) (c .answer .given .0 .0 .m) (c .answer .given .0 .0 .k)
+passes c =
+    sized-sound (regret-fault (start c .args .image .now) (start c .args .start) (start c .args .goal) (start c .args .nodes .now)) (sym (ap checked (c .answer .given .1)) ∙ c .before .before .check-regret .ensures)
+
+given : (c : tie.After-answer) → RegretSound (start c .args .image .now) (start c .args .start) (start c .args .goal) (start c .args .nodes .now)
+given c = regret-sound _ _ _ _ (passes c .0)
 
 -- src/measuring.rt:106:25
 greatest-regret-requires : tie.Need-greatest-regret-requires
-greatest-regret-requires c κs = ?
+greatest-regret-requires c κs = let a = c .before in
+    let g = given a in
+    (accepted-of (g .accepted) (passes a .1), (g .ends, g .path))
 
 -- src/measuring.rt:99:1
 returns-2 : tie.Need-returns-2
-returns-2 c = ?
+unfolding regret-outcome
+returns-2 c = let e = c .greatest-regret .ensures in
+    ap₂ (λ (f w : ℕ). gives (f ∷ w ∷ [])) (e .0) (e .1) ∙ sym (outcome-sound _ (passes (c .before .before) .0))
 
 pub regret-spec : {M : Type 1} → statement M
 regret-spec =
