@@ -6,3 +6,4 @@ pub mod ArcLaws
 pub mod RoomLaws
 pub mod ListLaws
 pub mod RegretLaws
+pub mod LoadLaws

@@ -65,22 +65,33 @@ unfoldable pub labels-of : List ℕ → ℕ → ℕ → List ℕ
 labels-of b u t = labels (netOf b .nodes) (column (netOf b) u) t
 
 -- ---- Shortest: column u, start s, goal t; "writes the first path of the ranking order, gives length and cost"
-unfoldable pub shortest-fault : List ℕ → ℕ → ℕ → ℕ → ℕ → Fault
-shortest-fault b u s t room =
+-- the rows before 15
+unfoldable pub shortest-rows : List ℕ → ℕ → ℕ → ℕ → ℕ → Fault
+shortest-rows b u s t room =
     image-fault b
     then ends-row (netOf b) s t
     then column-row (netOf b) u
     then room-row room (netOf b .nodes)
-    then no-path-row (netOf b .nodes) (column (netOf b) u) s t
+
+-- rows 15 and 16
+unfoldable pub path-rows : List ℕ → ℕ → ℕ → ℕ → Fault
+path-rows b u s t =
+    no-path-row (netOf b .nodes) (column (netOf b) u) s t
     then cost-row (dearest (netOf b .nodes) (column (netOf b) u) s t)
+
+unfoldable pub shortest-fault : List ℕ → ℕ → ℕ → ℕ → ℕ → Fault
+shortest-fault b u s t room = shortest-rows b u s t room then path-rows b u s t
 
 -- the path that is written
 unfoldable pub shortest-of : List ℕ → ℕ → ℕ → ℕ → Route
 shortest-of b u s t = getD (ranked (netOf b .nodes) (column (netOf b) u) s t) 0 []
 
+-- its length and cost
+unfoldable pub shortest-values : List ℕ → ℕ → ℕ → ℕ → List ℕ
+shortest-values b u s t = length (shortest-of b u s t) ∷ cost (column (netOf b) u) (shortest-of b u s t) ∷ []
+
 unfoldable pub shortest-outcome : List ℕ → ℕ → ℕ → ℕ → ℕ → Outcome
-shortest-outcome b u s t room =
-    outcome (shortest-fault b u s t room) (length (shortest-of b u s t) ∷ cost (column (netOf b) u) (shortest-of b u s t) ∷ [])
+shortest-outcome b u s t room = outcome (shortest-fault b u s t room) (shortest-values b u s t)
 
 -- ---- Regret: start s, goal t, a node list; "gives figure and worst column"
 -- the dearest path over all columns, which this call reads all
