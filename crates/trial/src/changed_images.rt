@@ -92,9 +92,9 @@ fn note_length(calls: Calls, image: &[u8], length: usize) -> Calls {
         return calls;
     }
     if length < 24 {
-        return note_refused_image(calls, &image[..length], refusal(1, 0));
+        return note_refused_image(calls, &image[0..length], refusal(1, 0));
     }
-    note_refused_image(calls, &image[..length], refusal(5, 0))
+    note_refused_image(calls, &image[0..length], refusal(5, 0))
 }
 
 // Each length up to that of the slice.

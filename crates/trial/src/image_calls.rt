@@ -110,7 +110,7 @@ pub fn build_agrees(
     if IMAGE_PLACES < room {
         return false;
     }
-    build_into(n, k, nodes, costs, &mut places[..room], expected, written)
+    build_into(n, k, nodes, costs, &mut places[0..room], expected, written)
 }
 
 // Unpack into slices that hold the pattern.
@@ -148,8 +148,8 @@ pub fn unpack_agrees(
     }
     unpack_into(
         image,
-        &mut node_places[..node_room],
-        &mut cost_places[..cost_room],
+        &mut node_places[0..node_room],
+        &mut cost_places[0..cost_room],
         expected,
         nodes,
         costs,
@@ -182,8 +182,8 @@ fn rebuild_with(image: &[u8], nodes: &mut [u16], costs: &mut [u32]) -> bool {
     build_agrees(
         sizes.n,
         sizes.k,
-        &nodes[..node_count],
-        &costs[..cost_count],
+        &nodes[0..node_count],
+        &costs[0..cost_count],
         image.len(),
         length(bytes),
         image,

@@ -21,13 +21,10 @@ use super::plain_image::total;
 // Build with a slice that is exactly long enough, with a longer one and with one that is a byte too
 // short.
 fn note_builds(calls: Calls, n: u32, k: u32, nodes: &[u16], costs: &[u32], image: &[u8]) -> Calls {
-    let bytes = image.len();
+    let bytes = total(nodes, costs) as usize;
     let result = length(total(nodes, costs));
     let exact = calls.note_build(build_agrees(n, k, nodes, costs, bytes, result, image));
     let longer = exact.note_build(build_agrees(n, k, nodes, costs, bytes + 9, result, image));
-    if bytes == 0 {
-        return longer;
-    }
     longer.note_build(build_agrees(n, k, nodes, costs, bytes - 1, refusal(13, 0), &[]))
 }
 

@@ -58,7 +58,7 @@ fn all_refuse(
         k,
         nodes,
         costs,
-        &mut image[..bytes],
+        &mut image[0..bytes],
         number,
         place,
     )

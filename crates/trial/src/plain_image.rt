@@ -4,15 +4,32 @@ use super::answers::Answer;
 use super::answers::length;
 use super::answers::refusal;
 use super::answers::sizes;
+ghost use Prim.Native.Nat.{_≤_, _<_};
 
 // A length as a number; the tests have no longer slices.
-fn count(places: usize) -> u32 {
+fn count(places: usize) -> u32
+    ensures { λ r. ⌜ r < 1000000000 ⌝ }
+{
     (places % 1000000000) as u32
 }
 
 // The product of two numbers, which 64 bits hold.
-pub fn product(a: u32, b: u32) -> u64 {
+pub fn product(a: u32, b: u32) -> u64
+    ensures { λ r. ⌜ r ≤ 18446744065119617025 ⌝ }
+{
     (a as u64) * (b as u64)
+}
+
+fn wide8(byte: u8) -> u16
+    ensures { λ r. ⌜ r ≤ 255 ⌝ }
+{
+    byte as u16
+}
+
+fn wide16(node: u16) -> u32
+    ensures { λ r. ⌜ r ≤ 65535 ⌝ }
+{
+    node as u32
 }
 
 // m: half the list's length, rounded down.
@@ -21,7 +38,9 @@ pub fn arc_count(nodes: &[u16]) -> u32 {
 }
 
 // Bytes of the image of two lists.
-pub fn total(nodes: &[u16], costs: &[u32]) -> u32 {
+pub fn total(nodes: &[u16], costs: &[u32]) -> u32
+    ensures { λ r. ⌜ 24 ≤ r ⌝ }
+{
     24 + count(2 * nodes.len()) + count(4 * costs.len())
 }
 
@@ -57,7 +76,7 @@ fn image_byte(n: u32, k: u32, nodes: &[u16], costs: &[u32], at: usize) -> u8 {
     }
     let node = (at - 24) / 2;
     if node < nodes.len() {
-        return byte_of(nodes[node] as u32, at % 2);
+        return byte_of(wide16(nodes[node]), at % 2);
     }
     let cost = (at - 24) / 4 - nodes.len() / 2;
     if cost < costs.len() {
@@ -81,7 +100,7 @@ fn number16(image: &[u8], at: usize) -> u16 {
     if image.len() - 2 < at {
         return 0;
     }
-    (image[at] as u16) + 256 * (image[at + 1] as u16)
+    wide8(image[at]) + 256 * wide8(image[at + 1])
 }
 
 // The number of four bytes at an offset.
@@ -92,7 +111,7 @@ fn number32(image: &[u8], at: usize) -> u32 {
     if image.len() - 4 < at {
         return 0;
     }
-    (number16(image, at) as u32) + 65536 * (number16(image, at + 2) as u32)
+    wide16(number16(image, at)) + 65536 * wide16(number16(image, at + 2))
 }
 
 // The numbers of two bytes from offset 24 on.
@@ -115,7 +134,7 @@ fn size_out_of_range(n: u32, m: u32, k: u32) -> bool {
 }
 
 fn node_at(nodes: &[u16], i: usize) -> u32 {
-    if i < nodes.len() { nodes[i] as u32 } else { 0 }
+    if i < nodes.len() { wide16(nodes[i]) } else { 0 }
 }
 
 // An arc as one number, which rises with the tail and then with the head.
@@ -194,9 +213,11 @@ pub fn build_answer(n: u32, k: u32, nodes: &[u16], costs: &[u32], room: usize) -
 }
 
 // Row 4 for an image.
-fn field_is_wrong(image: &[u8], m: u32, k: u32) -> bool {
+fn field_is_wrong(image: &[u8], m: u32, k: u32) -> bool
+    requires { ⌜ m ≤ 65535 ⌝ }
+{
     let costs_offset = 24 + 4 * (m as u64);
-    let total = costs_offset + 4 * product(m, k);
+    let total = costs_offset + product(4 * m, k);
     number32(image, 8) != 24
         || number32(image, 12) as u64 != costs_offset
         || number32(image, 16) as u64 != total
@@ -205,9 +226,9 @@ fn field_is_wrong(image: &[u8], m: u32, k: u32) -> bool {
 
 // The number of the first of rows 1 to 5 that applies to an image, or 0.
 fn header_row(image: &[u8]) -> u32 {
-    let n = number16(image, 2) as u32;
-    let m = number16(image, 4) as u32;
-    let k = number16(image, 6) as u32;
+    let n = wide16(number16(image, 2));
+    let m = wide16(number16(image, 4));
+    let k = wide16(number16(image, 6));
     if image.len() < 24 {
         return 1;
     }
@@ -233,9 +254,9 @@ fn check_with(image: &[u8], nodes: &mut [u16], costs: &mut [u32]) -> Answer {
     if row != 0 {
         return refusal(row, 0);
     }
-    let n = number16(image, 2) as u32;
-    let m = number16(image, 4) as u32;
-    let k = number16(image, 6) as u32;
+    let n = wide16(number16(image, 2));
+    let m = wide16(number16(image, 4));
+    let k = wide16(number16(image, 6));
     let node_count = 2 * (m as usize);
     let cost_count = product(m, k) as usize;
     if nodes.len() < node_count {
@@ -244,12 +265,12 @@ fn check_with(image: &[u8], nodes: &mut [u16], costs: &mut [u32]) -> Answer {
     if costs.len() < cost_count {
         return refusal(0, 0);
     }
-    decode_nodes(image, &mut nodes[..node_count]);
-    decode_costs(image, 24 + 4 * m, &mut costs[..cost_count]);
+    decode_nodes(image, &mut nodes[0..node_count]);
+    decode_costs(image, 24 + 4 * m, &mut costs[0..cost_count]);
     lists_answer(
         n,
-        &nodes[..node_count],
-        &costs[..cost_count],
+        &nodes[0..node_count],
+        &costs[0..cost_count],
         sizes(n, m, k),
     )
 }

@@ -53,7 +53,9 @@ fn change_node(nodes: &mut [u16], place: u32, number: u32) {
         return;
     }
     let at = (place as usize) % nodes.len();
-    nodes[at] = (number % 10) as u16;
+    if at < nodes.len() {
+        nodes[at] = (number % 10) as u16;
+    }
 }
 
 // Changes one cost, to 999,998 to 1,000,002.
@@ -62,10 +64,26 @@ fn change_cost(costs: &mut [u32], place: u32, number: u32) {
         return;
     }
     let at = (place as usize) % costs.len();
-    costs[at] = 999998 + number % 5;
+    if at < costs.len() {
+        costs[at] = 999998 + number % 5;
+    }
 }
 
-// One of five changes, as the drawn numbers have it: a node, a cost, both, n or k.
+// Changes a node number, a cost or both.
+fn change_lists(nodes: &mut [u16], costs: &mut [u32], change: u32, place: u32, number: u32) {
+    if change == 0 {
+        change_node(nodes, place, number);
+        return;
+    }
+    if change == 1 {
+        change_cost(costs, place, number);
+        return;
+    }
+    change_node(nodes, place, number);
+    change_cost(costs, place, number);
+}
+
+// The calls after one of five changes, as the drawn numbers have it: n, k, a node, a cost or both.
 fn note_changed(
     calls: Calls,
     n: u32,
@@ -78,18 +96,13 @@ fn note_changed(
     let change = number_at(numbers, 4) % 5;
     let place = number_at(numbers, 5);
     let number = number_at(numbers, 6);
-    if change == 3 {
+    if change == 4 {
         return note_lists(calls, number % 10, k, nodes, costs, image);
     }
-    if change == 4 {
+    if change == 3 {
         return note_lists(calls, n, number % 10, nodes, costs, image);
     }
-    if change != 1 {
-        change_node(nodes, place, number);
-    }
-    if change != 0 {
-        change_cost(costs, place, number);
-    }
+    change_lists(nodes, costs, change, place, number);
     note_lists(calls, n, k, nodes, costs, image)
 }
 
@@ -111,7 +124,7 @@ fn note_drawn(
     if costs.len() < cost_count {
         return calls.note_build(false);
     }
-    let bytes = total(&nodes[..node_count], &costs[..cost_count]) as usize;
+    let bytes = total(&nodes[0..node_count], &costs[0..cost_count]) as usize;
     if image.len() < bytes {
         return calls.note_build(false);
     }
@@ -120,19 +133,19 @@ fn note_drawn(
             calls,
             drawn.n,
             drawn.k,
-            &mut nodes[..node_count],
-            &mut costs[..cost_count],
+            &mut nodes[0..node_count],
+            &mut costs[0..cost_count],
             numbers,
-            &mut image[..bytes],
+            &mut image[0..bytes],
         );
     }
     note_sound(
         calls,
         drawn.n,
         drawn.k,
-        &nodes[..node_count],
-        &costs[..cost_count],
-        &mut image[..bytes],
+        &nodes[0..node_count],
+        &costs[0..cost_count],
+        &mut image[0..bytes],
     )
 }
 
