@@ -1,14 +1,15 @@
-// The calls of the image layer, each held to the answer that it should give and to what its lent slices
-// should hold after it.
+// The calls of the image layer, each held to the answer that it should give and to what the slices that
+// are lent to it should hold after it.
 use super::answers::Answer;
 use super::answers::length;
 use super::answers::of_build;
 use super::answers::of_check;
 use super::answers::of_unpack;
 use super::answers::same_answer;
-use super::plain_image::check_answer;
-use super::plain_image::product;
-use super::report::Tally;
+use super::numbers::count;
+use super::numbers::product;
+use super::plain_answers::check_answer;
+use super::report::Report;
 use super::slices::BYTE_PATTERN;
 use super::slices::NODE_PATTERN;
 use super::slices::NUMBER_PATTERN;
@@ -20,61 +21,11 @@ use image::Unpacked;
 // Places for the largest network's image and lists, and some more.
 const IMAGE_PLACES: usize = 36100;
 
-const NODE_PLACES: usize = 2010;
+const NODE_PLACES: usize = 2020;
 
-const COST_PLACES: usize = 8010;
+const COST_PLACES: usize = 8020;
 
-// The tallies of the image layer's calls. A rebuild is Unpack, and Build from what it wrote.
-pub struct Calls {
-    pub check: Tally,
-    pub build: Tally,
-    pub unpack: Tally,
-    pub rebuild: Tally,
-}
-
-impl Calls {
-    pub fn new() -> Calls {
-        Calls {
-            check: Tally::new(),
-            build: Tally::new(),
-            unpack: Tally::new(),
-            rebuild: Tally::new(),
-        }
-    }
-
-    pub fn note_check(mut self, agrees: bool) -> Calls {
-        let tally = self.check;
-        self.check = tally.note(agrees);
-        self
-    }
-
-    pub fn note_build(mut self, agrees: bool) -> Calls {
-        let tally = self.build;
-        self.build = tally.note(agrees);
-        self
-    }
-
-    pub fn note_unpack(mut self, agrees: bool) -> Calls {
-        let tally = self.unpack;
-        self.unpack = tally.note(agrees);
-        self
-    }
-
-    pub fn note_rebuild(mut self, agrees: bool) -> Calls {
-        let tally = self.rebuild;
-        self.rebuild = tally.note(agrees);
-        self
-    }
-
-    // Prints the tallies of the calls that were made.
-    pub fn print(self, name: &[u8]) {
-        self.check.print(name, b"check");
-        self.build.print(name, b"build");
-        self.unpack.print(name, b"unpack");
-        self.rebuild.print(name, b"rebuild");
-    }
-}
-
+// Whether Check gives the answer.
 pub fn check_agrees(image: &[u8], expected: Answer) -> bool {
     same_answer(of_check(image::check(image)), expected)
 }
@@ -96,7 +47,7 @@ fn build_into(
     holds_bytes(image, written)
 }
 
-// Whether Build with a slice of `room` bytes gives the answer and writes these bytes and no others.
+// Whether Build into a slice of `room` bytes gives the answer, and writes these bytes and no others.
 pub fn build_agrees(
     n: u32,
     k: u32,
@@ -126,10 +77,13 @@ fn unpack_into(
     if !same_answer(answer, expected) {
         return false;
     }
-    holds_nodes(nodes, written_nodes) && holds_numbers(costs, written_costs)
+    if !holds_nodes(nodes, written_nodes) {
+        return false;
+    }
+    holds_numbers(costs, written_costs)
 }
 
-// Whether Unpack with slices of so many places gives the answer and writes these lists and nothing else.
+// Whether Unpack into slices of so many places gives the answer, and writes these lists and nothing else.
 pub fn unpack_agrees(
     image: &[u8],
     node_room: usize,
@@ -156,15 +110,7 @@ pub fn unpack_agrees(
     )
 }
 
-// Check and Unpack refuse an image with this answer, and Unpack, with slices that hold something and
-// with empty ones, writes nothing.
-pub fn note_refused_image(calls: Calls, image: &[u8], expected: Answer) -> Calls {
-    let checked = calls.note_check(check_agrees(image, expected));
-    let unpacked = checked.note_unpack(unpack_agrees(image, 12, 12, expected, &[], &[]));
-    unpacked.note_unpack(unpack_agrees(image, 0, 0, expected, &[], &[]))
-}
-
-// Unpack, and Build from what it wrote.
+// Unpack into slices, and Build from what it wrote.
 fn rebuild_with(image: &[u8], nodes: &mut [u16], costs: &mut [u32]) -> bool {
     let answer = image::unpack(image, nodes, costs);
     let Unpacked::Lists(sizes) = answer else {
@@ -178,14 +124,13 @@ fn rebuild_with(image: &[u8], nodes: &mut [u16], costs: &mut [u32]) -> bool {
     if costs.len() < cost_count {
         return false;
     }
-    let bytes = (image.len() % 65536) as u32;
     build_agrees(
         sizes.n,
         sizes.k,
         &nodes[0..node_count],
         &costs[0..cost_count],
         image.len(),
-        length(bytes),
+        length(count(image.len())),
         image,
     )
 }
@@ -197,12 +142,20 @@ pub fn rebuild_agrees(image: &[u8]) -> bool {
     rebuild_with(image, &mut nodes, &mut costs)
 }
 
-// The calls on an image, held to the plain check: it is refused, or Unpack and Build give it back.
-pub fn note_image(calls: Calls, image: &[u8]) -> Calls {
+// Check and Unpack refuse an image with this answer. Unpack writes nothing, and its slices, be they empty
+// or not, do not matter.
+pub fn note_refused_image(mut report: Report, image: &[u8], expected: Answer) -> Report {
+    report = report.note_check(check_agrees(image, expected));
+    report = report.note_unpack(unpack_agrees(image, 12, 12, expected, &[], &[]));
+    report.note_unpack(unpack_agrees(image, 0, 0, expected, &[], &[]))
+}
+
+// An image is refused as the plain check says, or else Unpack and Build give it back.
+pub fn note_image(mut report: Report, image: &[u8]) -> Report {
     let expected = check_answer(image);
     if expected.number != 0 {
-        return note_refused_image(calls, image, expected);
+        return note_refused_image(report, image, expected);
     }
-    let checked = calls.note_check(check_agrees(image, expected));
-    checked.note_rebuild(rebuild_agrees(image))
+    report = report.note_check(check_agrees(image, expected));
+    report.note_rebuild(rebuild_agrees(image))
 }

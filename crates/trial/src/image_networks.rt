@@ -1,86 +1,133 @@
-// A network and its image: Build gives the one from the other's lists, and Check and Unpack take it
-// apart. Tried with network S, the network without arcs and the largest network.
+// Sound networks: Build gives the image of the lists, and Check and Unpack take it. Tried with network S,
+// the network without arcs and the largest network.
 use super::answers::Answer;
 use super::answers::length;
 use super::answers::refusal;
 use super::answers::sizes;
-use super::image_calls::Calls;
 use super::image_calls::build_agrees;
 use super::image_calls::check_agrees;
 use super::image_calls::rebuild_agrees;
 use super::image_calls::unpack_agrees;
-use super::networks::EMPTY_IMAGE;
 use super::networks::S_COSTS;
-use super::networks::S_IMAGE;
 use super::networks::S_NODES;
 use super::networks::largest_nodes;
+use super::networks::lay_out_s;
 use super::plain_image::arc_count;
 use super::plain_image::encode;
 use super::plain_image::total;
+use super::report::Report;
 
-// Build with a slice that is exactly long enough, with a longer one and with one that is a byte too
-// short.
-fn note_builds(calls: Calls, n: u32, k: u32, nodes: &[u16], costs: &[u32], image: &[u8]) -> Calls {
-    let bytes = total(nodes, costs) as usize;
-    let result = length(total(nodes, costs));
-    let exact = calls.note_build(build_agrees(n, k, nodes, costs, bytes, result, image));
-    let longer = exact.note_build(build_agrees(n, k, nodes, costs, bytes + 9, result, image));
-    longer.note_build(build_agrees(n, k, nodes, costs, bytes - 1, refusal(13, 0), &[]))
-}
-
-// Unpack with slices that are exactly long enough, and with longer ones.
-fn note_unpacks(calls: Calls, image: &[u8], result: Answer, nodes: &[u16], costs: &[u32]) -> Calls {
-    let node_room = nodes.len();
-    let cost_room = costs.len();
-    let exact = unpack_agrees(image, node_room, cost_room, result, nodes, costs);
-    let longer = unpack_agrees(image, node_room + 9, cost_room + 9, result, nodes, costs);
-    calls.note_unpack(exact).note_unpack(longer)
-}
-
-// Unpack with a node list, and with a cost list, that is a place too short, where a list has a place.
-fn note_short_unpacks(calls: Calls, image: &[u8], node_room: usize, cost_room: usize) -> Calls {
-    if node_room == 0 {
-        return calls;
-    }
-    if cost_room == 0 {
-        return calls;
-    }
-    let short = refusal(13, 0);
-    let few_nodes = unpack_agrees(image, node_room - 1, cost_room, short, &[], &[]);
-    let few_costs = unpack_agrees(image, node_room, cost_room - 1, short, &[], &[]);
-    calls.note_unpack(few_nodes).note_unpack(few_costs)
-}
-
-// All calls of the image layer, for a network's lists and its image.
-pub fn note_network(
-    calls: Calls,
+// Build into a slice that is exactly long enough, into a longer one and into one a byte too short.
+fn note_builds(
+    mut report: Report,
     n: u32,
     k: u32,
     nodes: &[u16],
     costs: &[u32],
     image: &[u8],
-) -> Calls {
-    let result = sizes(n, arc_count(nodes), k);
-    let built = note_builds(calls, n, k, nodes, costs, image);
-    let checked = built.note_check(check_agrees(image, result));
-    let unpacked = note_unpacks(checked, image, result, nodes, costs);
-    let refused = note_short_unpacks(unpacked, image, nodes.len(), costs.len());
-    refused.note_rebuild(rebuild_agrees(image))
+) -> Report {
+    let result = length(total(nodes, costs));
+    let room = total(nodes, costs) as usize;
+    report = report.note_build(build_agrees(n, k, nodes, costs, room, result, image));
+    report = report.note_build(build_agrees(n, k, nodes, costs, room + 9, result, image));
+    report.note_build(build_agrees(n, k, nodes, costs, room - 1, refusal(13, 0), &[]))
 }
 
-// Network S, whose image and answers are written out.
+// Unpack into slices that are exactly long enough, and into longer ones.
+fn note_unpacks(
+    mut report: Report,
+    image: &[u8],
+    result: Answer,
+    nodes: &[u16],
+    costs: &[u32],
+) -> Report {
+    let node_room = nodes.len();
+    let cost_room = costs.len();
+    report = report.note_unpack(unpack_agrees(image, node_room, cost_room, result, nodes, costs));
+    report.note_unpack(unpack_agrees(image, node_room + 9, cost_room + 9, result, nodes, costs))
+}
+
+// Unpack into slices of which one is a place too short, where the network has arcs.
+fn note_short_unpacks(
+    mut report: Report,
+    image: &[u8],
+    node_room: usize,
+    cost_room: usize,
+) -> Report {
+    if node_room == 0 {
+        return report;
+    }
+    if cost_room == 0 {
+        return report;
+    }
+    let short = refusal(13, 0);
+    report = report.note_unpack(unpack_agrees(image, node_room - 1, cost_room, short, &[], &[]));
+    report.note_unpack(unpack_agrees(image, node_room, cost_room - 1, short, &[], &[]))
+}
+
+// All calls of the image layer, on a network's lists and its image.
+pub fn note_network(
+    mut report: Report,
+    n: u32,
+    k: u32,
+    nodes: &[u16],
+    costs: &[u32],
+    image: &[u8],
+) -> Report {
+    let result = sizes(n, arc_count(nodes), k);
+    report = note_builds(report, n, k, nodes, costs, image);
+    report = report.note_check(check_agrees(image, result));
+    report = note_unpacks(report, image, result, nodes, costs);
+    report = note_short_unpacks(report, image, nodes.len(), costs.len());
+    report.note_rebuild(rebuild_agrees(image))
+}
+
+// Network S's image, with document 01's numbers.
+fn note_s(image: &[u8]) -> Report {
+    let report = note_network(Report::new(), 4, 2, &S_NODES, &S_COSTS, image);
+    let built = build_agrees(4, 2, &S_NODES, &S_COSTS, 84, length(84), image);
+    report
+        .note_build(built)
+        .note_check(check_agrees(image, sizes(4, 5, 2)))
+}
+
 fn network_s() {
-    let calls = note_network(Calls::new(), 4, 2, &S_NODES, &S_COSTS, &S_IMAGE);
-    let checked = calls.note_check(check_agrees(&S_IMAGE, sizes(4, 5, 2)));
-    let built = build_agrees(4, 2, &S_NODES, &S_COSTS, 84, length(84), &S_IMAGE);
-    checked.note_build(built).print(b"network S");
+    let mut image = [0u8; 84];
+    lay_out_s(&mut image);
+    note_s(&image).print(b"network S");
 }
 
 // n = 2, m = 0, k = 1.
 fn network_without_arcs() {
-    let calls = note_network(Calls::new(), 2, 1, &[], &[], &EMPTY_IMAGE);
-    calls
-        .note_check(check_agrees(&EMPTY_IMAGE, sizes(2, 0, 1)))
+    let image = [
+        1,
+        0,
+        2,
+        0,
+        0,
+        0,
+        1,
+        0,
+        24,
+        0,
+        0,
+        0,
+        24,
+        0,
+        0,
+        0,
+        24,
+        0,
+        0,
+        0,
+        0,
+        0,
+        0,
+        0,
+    ];
+    let report = note_network(Report::new(), 2, 1, &[], &[], &image);
+    report
+        .note_check(check_agrees(&image, sizes(2, 0, 1)))
         .print(b"network without arcs");
 }
 
@@ -95,7 +142,7 @@ fn largest_network() {
     let costs = [1000000u32; 8000];
     let mut image = [0u8; 36024];
     lay_out_largest(&mut nodes, &costs, &mut image);
-    note_network(Calls::new(), 200, 8, &nodes, &costs, &image).print(b"largest network");
+    note_network(Report::new(), 200, 8, &nodes, &costs, &image).print(b"largest network");
 }
 
 pub fn run() {

@@ -22,18 +22,69 @@ impl Tally {
         self
     }
 
-    // Prints `name kind: 3 agree, 0 differ`, if there was a comparison.
-    pub fn print(self, name: &[u8], kind: &[u8]) {
+    // Prints `title call: 3 agree, 0 differ`, if there was a comparison.
+    pub fn print(self, title: &[u8], call: &[u8]) {
         if self.agree == 0 && self.differ == 0 {
             return;
         }
-        io::write_all(1, name);
+        io::write_all(1, title);
         io::write_all(1, b" ");
-        io::write_all(1, kind);
+        io::write_all(1, call);
         io::write_all(1, b": ");
         io::print_decimal(1, self.agree as u64);
         io::write_all(1, b" agree, ");
         io::print_decimal(1, self.differ as u64);
         io::write_all(1, b" differ\n");
+    }
+}
+
+// A tally for each call. A rebuild is Unpack, and Build from the lists that it wrote.
+pub struct Report {
+    pub check: Tally,
+    pub build: Tally,
+    pub unpack: Tally,
+    pub rebuild: Tally,
+}
+
+impl Report {
+    pub fn new() -> Report {
+        Report {
+            check: Tally::new(),
+            build: Tally::new(),
+            unpack: Tally::new(),
+            rebuild: Tally::new(),
+        }
+    }
+
+    pub fn note_check(mut self, agrees: bool) -> Report {
+        let tally = self.check;
+        self.check = tally.note(agrees);
+        self
+    }
+
+    pub fn note_build(mut self, agrees: bool) -> Report {
+        let tally = self.build;
+        self.build = tally.note(agrees);
+        self
+    }
+
+    pub fn note_unpack(mut self, agrees: bool) -> Report {
+        let tally = self.unpack;
+        self.unpack = tally.note(agrees);
+        self
+    }
+
+    pub fn note_rebuild(mut self, agrees: bool) -> Report {
+        let tally = self.rebuild;
+        self.rebuild = tally.note(agrees);
+        self
+    }
+
+    // Prints the tallies of the calls that were made.
+    pub fn print(self, title: &[u8]) {
+        self.check.print(title, b"check");
+        self.build.print(title, b"build");
+        self.unpack.print(title, b"unpack");
+        self.rebuild.print(title, b"rebuild");
     }
 }

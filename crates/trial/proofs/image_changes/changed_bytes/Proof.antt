@@ -1,10 +1,10 @@
--- `trial::changed_images::changed_bytes` is safe and ends.
+-- `trial::image_changes::changed_bytes` is safe and ends.
 use Prim.Native.Nat.{_-_}
 use mathlib.Core.Path.{_≡_}
 use borrow.Author.Needs.{needs}
 use lib.ListN.{length}
-use Rattle.trial.proofs.changed_images.changed_bytes.Statement.{statement}
-use Rattle.trial.proofs.changed_images.changed_bytes.Tie as tie
+use Rattle.trial.proofs.image_changes.changed_bytes.Statement.{statement}
+use Rattle.trial.proofs.image_changes.changed_bytes.Tie as tie
 
 abbrev Inv-loop : tie.InvT-loop
 Inv-loop image₀ calls₀ at₀ at-end image calls at = length image ≡ length image₀

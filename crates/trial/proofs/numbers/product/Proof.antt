@@ -1,9 +1,9 @@
--- `trial::plain_image::product`: two numbers of 32 bits have a product of at most (2 ^ 32 - 1) ^ 2.
+-- `trial::numbers::product`: two numbers of 32 bits have a product of at most (2 ^ 32 - 1) ^ 2.
 use Prim.Native.Nat.{ℕ, _*_, _≤_}
 use native.Mathlib.Nat.{mul-le-mul}
 use native.Mathlib.Omega.{arith}
-use Rattle.trial.proofs.plain_image.product.Statement.{statement}
-use Rattle.trial.proofs.plain_image.product.Tie as tie
+use Rattle.trial.proofs.numbers.product.Statement.{statement}
+use Rattle.trial.proofs.numbers.product.Tie as tie
 
 bound : (a b : ℕ) → a ≤ 4294967295 → b ≤ 4294967295 → a * b ≤ 18446744065119617025
 bound a b small-a small-b = mul-le-mul small-a small-b

@@ -1,10 +1,10 @@
--- `trial::changed_images::changed_fields` is safe and ends.
+-- `trial::image_changes::changed_fields` is safe and ends.
 use Prim.Native.Nat.{_-_}
 use mathlib.Core.Path.{_≡_}
 use borrow.Author.Needs.{needs}
 use lib.ListN.{length}
-use Rattle.trial.proofs.changed_images.changed_fields.Statement.{statement}
-use Rattle.trial.proofs.changed_images.changed_fields.Tie as tie
+use Rattle.trial.proofs.image_changes.changed_fields.Statement.{statement}
+use Rattle.trial.proofs.image_changes.changed_fields.Tie as tie
 
 abbrev Inv-loop : tie.InvT-loop
 Inv-loop rows image₀ calls₀ i₀ i-end image calls i = length image ≡ length image₀

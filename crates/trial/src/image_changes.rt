@@ -1,10 +1,11 @@
 // Network S's image with fields changed, cut short or made longer, and with each byte changed: what
 // Check and Unpack say of it.
 use super::answers::refusal;
-use super::image_calls::Calls;
 use super::image_calls::note_image;
 use super::image_calls::note_refused_image;
-use super::networks::S_IMAGE;
+use super::networks::lay_out_s;
+use super::networks::s_byte;
+use super::report::Report;
 
 // Each row: an offset and a number of two bytes that is put there, the same once more, and the number
 // and place of the refusal.
@@ -45,92 +46,82 @@ const CHANGED_FIELDS: [[u16; 6]; 34] = [
     [62, 99, 82, 99, 9, 4],
 ];
 
-// The byte of the image at an offset, and 0 behind it.
-fn s_byte(at: usize) -> u8 {
-    if at < 84 { S_IMAGE[at] } else { 0 }
-}
-
-// Lays the image out anew.
-fn restore(image: &mut [u8]) {
-    for at in 0..image.len() {
-        image[at] = s_byte(at);
-    }
-}
-
+// Changes one byte.
 fn put(image: &mut [u8], at: usize, byte: u8) {
     if at < image.len() {
         image[at] = byte;
     }
 }
 
-fn put16(image: &mut [u8], at: u16, value: u16) {
-    put(image, at as usize, (value % 256) as u8);
-    put(image, at as usize + 1, (value / 256) as u8);
+// Changes a number of two bytes.
+fn put16(image: &mut [u8], at: u16, number: u16) {
+    put(image, at as usize, (number % 256) as u8);
+    put(image, at as usize + 1, (number / 256) as u8);
 }
 
-fn note_changed_fields(calls: Calls, row: [u16; 6], image: &mut [u8]) -> Calls {
-    restore(image);
+fn note_changed_fields(report: Report, row: [u16; 6], image: &mut [u8]) -> Report {
+    lay_out_s(image);
     put16(image, row[0], row[1]);
     put16(image, row[2], row[3]);
-    note_refused_image(calls, image, refusal(row[4] as u32, row[5] as u32))
+    note_refused_image(report, image, refusal(row[4] as u32, row[5] as u32))
 }
 
-fn changed_fields(rows: &[[u16; 6]], image: &mut [u8]) -> Calls {
-    let mut calls = Calls::new();
+fn changed_fields(rows: &[[u16; 6]], image: &mut [u8]) -> Report {
+    let mut report = Report::new();
     for i in 0..rows.len() {
-        calls = note_changed_fields(calls, rows[i], image);
+        report = note_changed_fields(report, rows[i], image);
     }
-    calls
+    report
 }
 
 // The first `length` bytes of the image, or the image with zeros behind it; but not the image itself.
-fn note_length(calls: Calls, image: &[u8], length: usize) -> Calls {
+fn note_length(report: Report, image: &[u8], length: usize) -> Report {
     if image.len() < length {
-        return calls;
+        return report;
     }
     if length == 84 {
-        return calls;
+        return report;
     }
     if length < 24 {
-        return note_refused_image(calls, &image[0..length], refusal(1, 0));
+        return note_refused_image(report, &image[0..length], refusal(1, 0));
     }
-    note_refused_image(calls, &image[0..length], refusal(5, 0))
+    note_refused_image(report, &image[0..length], refusal(5, 0))
 }
 
 // Each length up to that of the slice.
-fn lengths(image: &[u8]) -> Calls {
-    let mut calls = Calls::new();
+fn lengths(image: &[u8]) -> Report {
+    let mut report = Report::new();
     for length in 0..image.len() {
-        calls = note_length(calls, image, length);
+        report = note_length(report, image, length);
     }
-    calls
+    report
 }
 
 // The byte at an offset changed to each other value.
-fn note_changed_byte(start: Calls, image: &mut [u8], at: usize) -> Calls {
-    let mut calls = start;
+fn note_changed_byte(mut report: Report, image: &mut [u8], at: usize) -> Report {
     for step in 1..256u32 {
         put(image, at, ((s_byte(at) as u32 + step) % 256) as u8);
-        calls = note_image(calls, image);
+        report = note_image(report, image);
     }
     put(image, at, s_byte(at));
-    calls
+    report
 }
 
-fn changed_bytes(image: &mut [u8]) -> Calls {
-    let mut calls = Calls::new();
+fn changed_bytes(image: &mut [u8]) -> Report {
+    let mut report = Report::new();
     for at in 0..image.len() {
-        calls = note_changed_byte(calls, image, at);
+        report = note_changed_byte(report, image, at);
     }
-    calls
+    report
 }
 
 pub fn run() {
-    let mut image = S_IMAGE;
+    let mut image = [0u8; 84];
     changed_fields(&CHANGED_FIELDS, &mut image).print(b"changed fields");
     let mut longer = [0u8; 120];
-    restore(&mut longer);
+    lay_out_s(&mut longer);
     lengths(&longer).print(b"other lengths");
-    let mut again = S_IMAGE;
-    changed_bytes(&mut again).print(b"changed bytes");
+    let mut changing = [0u8; 84];
+    lay_out_s(&mut changing);
+    changed_bytes(&mut changing).print(b"changed bytes");
 }

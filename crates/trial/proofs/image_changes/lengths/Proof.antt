@@ -1,8 +1,8 @@
--- `trial::changed_images::lengths` is safe and ends.
+-- `trial::image_changes::lengths` is safe and ends.
 use Prim.Native.Nat.{_-_}
 use borrow.Author.Needs.{needs}
-use Rattle.trial.proofs.changed_images.lengths.Statement.{statement}
-use Rattle.trial.proofs.changed_images.lengths.Tie as tie
+use Rattle.trial.proofs.image_changes.lengths.Statement.{statement}
+use Rattle.trial.proofs.image_changes.lengths.Tie as tie
 
 abbrev Inv-loop : tie.InvT-loop
 Inv-loop image calls₀ length₀ length-end calls length = Unit

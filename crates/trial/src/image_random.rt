@@ -1,50 +1,46 @@
-// Random networks, and random networks with something changed: the lists, their image, and the calls on
-// both.
-use super::image_calls::Calls;
+// Random networks, and random networks with something changed: the calls on their lists and their image.
 use super::image_calls::build_agrees;
 use super::image_calls::note_image;
 use super::image_networks::note_network;
-use super::networks::Drawn;
 use super::networks::draw_network;
 use super::networks::number_at;
-use super::plain_image::build_answer;
+use super::plain_answers::build_answer;
 use super::plain_image::encode;
 use super::plain_image::total;
 use super::random::Random;
 use super::random::draw;
-
-const NETWORKS: u32 = 3000;
+use super::report::Report;
 
 // The calls on a sound network.
 fn note_sound(
-    calls: Calls,
+    report: Report,
     n: u32,
     k: u32,
     nodes: &[u16],
     costs: &[u32],
     image: &mut [u8],
-) -> Calls {
+) -> Report {
     encode(n, k, nodes, costs, image);
-    note_network(calls, n, k, nodes, costs, image)
+    note_network(report, n, k, nodes, costs, image)
 }
 
 // The calls on lists that may be in error, held to the plain answers.
 fn note_lists(
-    calls: Calls,
+    mut report: Report,
     n: u32,
     k: u32,
     nodes: &[u16],
     costs: &[u32],
     image: &mut [u8],
-) -> Calls {
+) -> Report {
     encode(n, k, nodes, costs, image);
     let room = image.len();
     let expected = build_answer(n, k, nodes, costs, room);
-    let imaged = note_image(calls, image);
+    report = note_image(report, image);
     if expected.number != 0 {
-        return imaged.note_build(build_agrees(n, k, nodes, costs, room, expected, &[]));
+        return report.note_build(build_agrees(n, k, nodes, costs, room, expected, &[]));
     }
-    imaged.note_build(build_agrees(n, k, nodes, costs, room, expected, image))
+    report.note_build(build_agrees(n, k, nodes, costs, room, expected, image))
 }
 
 // Changes one node number, to 0 to 9.
@@ -85,87 +81,101 @@ fn change_lists(nodes: &mut [u16], costs: &mut [u32], change: u32, place: u32, n
 
 // The calls after one of five changes, as the drawn numbers have it: n, k, a node, a cost or both.
 fn note_changed(
-    calls: Calls,
+    report: Report,
     n: u32,
     k: u32,
     nodes: &mut [u16],
     costs: &mut [u32],
     numbers: &[u32],
     image: &mut [u8],
-) -> Calls {
+) -> Report {
     let change = number_at(numbers, 4) % 5;
     let place = number_at(numbers, 5);
     let number = number_at(numbers, 6);
     if change == 4 {
-        return note_lists(calls, number % 10, k, nodes, costs, image);
+        return note_lists(report, number % 10, k, nodes, costs, image);
     }
     if change == 3 {
-        return note_lists(calls, n, number % 10, nodes, costs, image);
+        return note_lists(report, n, number % 10, nodes, costs, image);
     }
     change_lists(nodes, costs, change, place, number);
-    note_lists(calls, n, k, nodes, costs, image)
+    note_lists(report, n, k, nodes, costs, image)
 }
 
-// The calls on the network that the numbers give.
+// The calls on a drawn network, or on one that is changed.
 fn note_drawn(
-    calls: Calls,
+    report: Report,
+    changed: bool,
+    n: u32,
+    k: u32,
+    nodes: &mut [u16],
+    costs: &mut [u32],
+    numbers: &[u32],
+    image: &mut [u8],
+) -> Report {
+    if changed {
+        note_changed(report, n, k, nodes, costs, numbers, image)
+    } else {
+        note_sound(report, n, k, nodes, costs, image)
+    }
+}
+
+// Draws a network from numbers, and lends its lists and as much as its image takes.
+fn note_numbers(
+    report: Report,
     changed: bool,
     numbers: &[u32],
     nodes: &mut [u16],
     costs: &mut [u32],
     image: &mut [u8],
-) -> Calls {
+) -> Report {
     let drawn = draw_network(numbers, nodes, costs);
     let node_count = drawn.node_count;
     let cost_count = drawn.cost_count;
     if nodes.len() < node_count {
-        return calls.note_build(false);
+        return report.note_check(false);
     }
     if costs.len() < cost_count {
-        return calls.note_build(false);
+        return report.note_check(false);
     }
     let bytes = total(&nodes[0..node_count], &costs[0..cost_count]) as usize;
     if image.len() < bytes {
-        return calls.note_build(false);
+        return report.note_check(false);
     }
-    if changed {
-        return note_changed(
-            calls,
-            drawn.n,
-            drawn.k,
-            &mut nodes[0..node_count],
-            &mut costs[0..cost_count],
-            numbers,
-            &mut image[0..bytes],
-        );
-    }
-    note_sound(
-        calls,
+    let node_list = &mut nodes[0..node_count];
+    let cost_list = &mut costs[0..cost_count];
+    let image_part = &mut image[0..bytes];
+    note_drawn(
+        report,
+        changed,
         drawn.n,
         drawn.k,
-        &nodes[0..node_count],
-        &costs[0..cost_count],
-        &mut image[0..bytes],
+        node_list,
+        cost_list,
+        numbers,
+        image_part,
     )
 }
 
+// 3,000 networks.
 fn networks_with(
     changed: bool,
     numbers: &mut [u32],
     nodes: &mut [u16],
     costs: &mut [u32],
     image: &mut [u8],
-) -> Calls {
+) -> Report {
     let mut random = Random { state: 1 };
-    let mut calls = Calls::new();
-    for _ in 0..NETWORKS {
+    let mut report = Report::new();
+    for _ in 0..3000u32 {
         random = draw(random, numbers);
-        calls = note_drawn(calls, changed, numbers, nodes, costs, image);
+        report = note_numbers(report, changed, numbers, nodes, costs, image);
     }
-    calls
+    report
 }
 
-fn networks(changed: bool) -> Calls {
+// The most arcs are 56, and the most costs 448.
+fn networks(changed: bool) -> Report {
     let mut numbers = [0u32; 520];
     let mut nodes = [0u16; 112];
     let mut costs = [0u32; 448];
