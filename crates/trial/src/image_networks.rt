@@ -97,37 +97,12 @@ fn network_s() {
     note_s(&image).print(b"network S");
 }
 
-// n = 2, m = 0, k = 1.
+// n = 2, m = 0, k = 1: the image is the header, 24 bytes.
 fn network_without_arcs() {
-    let image = [
-        1,
-        0,
-        2,
-        0,
-        0,
-        0,
-        1,
-        0,
-        24,
-        0,
-        0,
-        0,
-        24,
-        0,
-        0,
-        0,
-        24,
-        0,
-        0,
-        0,
-        0,
-        0,
-        0,
-        0,
-    ];
-    let report = note_network(Report::new(), 2, 1, &[], &[], &image);
+    let image = b"\x01\0\x02\0\0\0\x01\0\x18\0\0\0\x18\0\0\0\x18\0\0\0\0\0\0\0";
+    let report = note_network(Report::new(), 2, 1, &[], &[], image);
     report
-        .note_check(check_agrees(&image, sizes(2, 0, 1)))
+        .note_check(check_agrees(image, sizes(2, 0, 1)))
         .print(b"network without arcs");
 }
 
