@@ -7,8 +7,8 @@ use super::networks::lay_out_s;
 use super::networks::s_byte;
 use super::report::Report;
 
-// Each row: an offset and a number of two bytes that is put there, the same once more, and the number
-// and place of the refusal.
+// Each row: an offset and a number of two bytes that is put there, the same once more, and the
+// number and place of the refusal.
 const CHANGED_FIELDS: [[u16; 6]; 34] = [
     [0, 7, 0, 7, 2, 0], // edition
     [0, 0, 0, 0, 2, 0],
@@ -79,7 +79,8 @@ fn changed_fields() {
     note_changed_rows(&CHANGED_FIELDS, &mut image).print(b"changed fields");
 }
 
-// The first `length` bytes of the image, or the image with zeros behind it; but not the image itself.
+// The first `length` bytes of the image, or the image with zeros behind it; but not the image
+// itself.
 fn note_length(report: Report, image: &[u8], length: usize) -> Report {
     if image.len() < length {
         return report;

@@ -1,5 +1,5 @@
-// Sound networks: Build gives the image of the lists, and Check and Unpack take it. Tried with network S,
-// the network without arcs and the largest network.
+// Sound networks: Build gives the image of the lists, and Check and Unpack take it. Tried with
+// network S, the network without arcs and the largest network.
 use super::answers::Answer;
 use super::answers::length;
 use super::answers::refusal;
