@@ -11,4 +11,4 @@ pub mod NetworkLaws
 pub mod ExitLaws
 pub mod LaidLaws
 pub mod FirstLaws
-pub mod WholeLaws
+pub mod AllLaws
