@@ -21,17 +21,6 @@ pub record Ahead (k goal : ℕ) (used : List ℕ) : Type 0 where
   pub place : goal < k
   pub unmet : getD used goal 0 ≡ 0
 
--- start and goal are nodes, and differ
-pub record Ends (k start goal : ℕ) : Type 0 where
-  pub start-from : 1 ≤ start
-  pub start-place : start < k
-  pub goal-place : goal < k
-  pub apart : start ≡ goal → ⊥
-
--- no node is flagged
-abbrev pub Unflagged : List ℕ → Type 0
-Unflagged flags = (x : ℕ) → getD flags x 0 ≡ 0
-
 -- a beginning of d nodes, one at least, is laid out, and the barred nodes are flagged too
 pub record Begun (k : ℕ) (used barred path : List ℕ) (d : ℕ) : Type 0 where
   pub laid : Laid k used path d

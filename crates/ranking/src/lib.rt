@@ -6,7 +6,6 @@ mod exits;
 mod first;
 mod outs;
 mod walk;
-mod whole;
 
 pub use all::shortest;
 pub use exits::Next;
@@ -14,4 +13,3 @@ pub use exits::least_exit;
 pub use first::Found;
 pub use first::first_path;
 pub use outs::star;
-pub use whole::first_of_all;
