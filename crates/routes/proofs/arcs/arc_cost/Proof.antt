@@ -1,3 +1,4 @@
+-- `arcs::arc_cost` is the weight of the arc that was found, and 0 where there is none. Assumes nothing.
 use native.Mathlib.Omega.{arith}
 use mathlib.Core.Path.{sym}
 use borrow.Author.Needs.{needs}

@@ -1,3 +1,4 @@
+-- `arcs::find_arc` finds an arc from a to b, or that there is none. The loop: no arc before i is one. Assumes nothing.
 use Prim.Native.Nat.{ℕ, _-_, _≤_, _<_}
 use native.Mathlib.Omega.{arith}
 use mathlib.Core.Logic.{⊎-elim}

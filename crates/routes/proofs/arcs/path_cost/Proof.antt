@@ -1,3 +1,4 @@
+-- `arcs::path_cost` sums over the arcs. The loop: the sum and the cost of what is left are the cost of the path. Assumes nothing.
 use Prim.Native.Nat.{ℕ, _+_, _*_, _-_, _≤_}
 use native.Mathlib.Omega.{arith}
 use mathlib.Core.Path.{_≡_}

@@ -1,3 +1,4 @@
+-- `columns::column_best` lends a part of a local array. Assumes nothing.
 use Prim.Native.Nat.{_+_, _≤_}
 use native.Mathlib.Omega.{arith}
 use mathlib.Core.Path.{sym, _∙_, ap}

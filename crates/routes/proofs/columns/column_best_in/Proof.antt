@@ -1,3 +1,4 @@
+-- `columns::column_best_in` reads the label of the start. Assumes nothing.
 use mathlib.Core.Path.{_∙_}
 use borrow.Author.Needs.{needs}
 use Rattle.image.proofs.NetworkLaws.{accepted-network}

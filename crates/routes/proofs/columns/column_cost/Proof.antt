@@ -1,3 +1,4 @@
+-- `columns::column_cost` lends parts of local arrays. Assumes nothing.
 use Prim.Native.Nat.{_≤_}
 use mathlib.Core.Path.{sym}
 use borrow.Author.Needs.{needs}

@@ -1,3 +1,4 @@
+-- `columns::column_cost_in` decodes the column and sums over the arcs of the path. Assumes nothing.
 use mathlib.Core.Path.{_∙_, ap}
 use borrow.Author.Needs.{needs}
 use Rattle.terms.specs.Network.{Graph}

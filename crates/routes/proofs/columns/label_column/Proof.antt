@@ -1,3 +1,4 @@
+-- `columns::label_column` lends parts of local arrays: as many places as there are arcs, or nodes and one more. Assumes nothing.
 use Prim.Native.Nat.{_≤_}
 use native.Mathlib.Omega.{arith}
 use mathlib.Core.Path.{sym}

@@ -1,3 +1,4 @@
+-- `columns::label_column_in` decodes the column, chains its arcs and finds the labels; no node is barred. Assumes nothing.
 use native.Mathlib.Omega.{arith}
 use borrow.Author.Needs.{needs}
 use Rattle.labels.proofs.ArcLaws.{chainable-of}

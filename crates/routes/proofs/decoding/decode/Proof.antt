@@ -1,3 +1,4 @@
+-- `decoding::decode` fills arrays of m places with the arcs and one column of an accepted image. Assumes nothing.
 use native.Mathlib.Omega.{arith}
 use borrow.Author.Needs.{needs}
 use Rattle.routes.proofs.DecodeLaws.{arc-count-is, column-counted, decoded-column}

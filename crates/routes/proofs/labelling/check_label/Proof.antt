@@ -1,3 +1,4 @@
+-- `labelling::check_label`: each return is the first row of Label that applies. Assumes nothing.
 use mathlib.Core.Path.{_≡_, sym, _∙_, ap, ap₂}
 use mathlib.Core.Bool.{true, _&&_}
 use lib.Dec.{leb}

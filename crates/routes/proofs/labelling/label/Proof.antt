@@ -1,3 +1,4 @@
+-- `labelling::label` writes the labels where no row applies, and else nothing. Assumes nothing.
 use Prim.Native.Nat.{ℕ}
 use native.Mathlib.Omega.{arith}
 use mathlib.Core.Path.{_≡_, sym, _∙_, ap}

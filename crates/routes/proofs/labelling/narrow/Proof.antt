@@ -1,3 +1,4 @@
+-- `labelling::narrow`: a label that is not the mark is small. Assumes nothing.
 use native.Mathlib.Omega.{arith}
 use mathlib.Core.Path.{sym}
 use Rattle.routes.proofs.LabelLaws.{narrowed-far, narrowed-near, narrow-fits}

@@ -1,3 +1,4 @@
+-- `labelling::write_labels` lends a part of a local array. Assumes nothing.
 use Prim.Native.Nat.{ℕ, _+_, _≤_}
 use native.Mathlib.Omega.{arith}
 use mathlib.Core.Path.{sym, _∙_, ap}

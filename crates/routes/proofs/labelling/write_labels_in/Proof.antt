@@ -1,3 +1,4 @@
+-- `labelling::write_labels_in` writes the labels of the column as document 01 has them. Assumes nothing.
 use Prim.Native.Nat.{ℕ, _+_, _-_}
 use native.Mathlib.Omega.{arith}
 use mathlib.Core.Path.{_≡_, _∙_, ap₂}

@@ -1,3 +1,4 @@
+-- `labelling::write_narrow` writes the labels from node 1 on. The loop: the first i places hold those of the nodes 1 to i. Assumes nothing.
 use Prim.Native.Nat.{_+_, _-_, _≤_}
 use native.Mathlib.Omega.{arith}
 use mathlib.Core.Path.{_≡_, refl, sym, _∙_}

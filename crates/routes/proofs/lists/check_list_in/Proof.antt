@@ -1,3 +1,4 @@
+-- `lists::check_list_in` gives the place of row 14. The nodes before it are distinct, so it is at most n. Assumes nothing.
 use Prim.Native.Nat.{ℕ, _-_, _≤_}
 use native.Mathlib.Omega.{arith}
 use mathlib.Core.Path.{_≡_, sym, _∙_, ap}

@@ -1,3 +1,4 @@
+-- `lists::first_error` stops at the first error. The outer loop: each node before position at goes on; the inner one: none of the first i nodes is the node at it. Assumes nothing.
 use Prim.Native.Nat.{ℕ, _-_, _≤_, _<_}
 use native.Mathlib.Omega.{arith}
 use mathlib.Core.Path.{_≡_}

@@ -1,3 +1,4 @@
+-- `measuring::check_regret`: each return is the first row of Regret that applies. Assumes nothing.
 use native.Mathlib.Omega.{arith}
 use mathlib.Core.Path.{_≡_, sym, _∙_, ap, ap₂}
 use borrow.Author.Needs.{needs}

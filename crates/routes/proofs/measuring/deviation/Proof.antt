@@ -1,3 +1,4 @@
+-- `measuring::deviation`: the path has a cost in the column that is at least best, and at most 199,000,000. Assumes nothing.
 use Prim.Native.Nat.{ℕ, _-_}
 use native.Mathlib.Omega.{arith}
 use mathlib.Core.Path.{_∙_, ap₂}

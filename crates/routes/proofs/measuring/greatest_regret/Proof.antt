@@ -1,3 +1,4 @@
+-- `measuring::greatest_regret`: the loop keeps the largest deviation of the columns before u, and the first that has it. Assumes nothing.
 use Prim.Native.Nat.{_+_, _-_, _≤_}
 use native.Mathlib.Omega.{arith}
 use mathlib.Core.Path.{_≡_}

@@ -1,3 +1,4 @@
+-- `measuring::regret` gives the figure and the worst column where no row applies. Assumes nothing.
 use Prim.Native.Nat.{ℕ}
 use mathlib.Core.Path.{_≡_, sym, _∙_, ap, ap₂}
 use mathlib.Core.List.{[], _∷_}

@@ -1,3 +1,4 @@
+-- `rows::check_costs`: with at most 200 nodes the test fails. Assumes nothing.
 use native.Mathlib.Omega.{arith}
 use mathlib.Core.Path.{sym}
 use borrow.Author.Needs.{needs}

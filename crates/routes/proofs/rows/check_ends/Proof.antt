@@ -1,3 +1,4 @@
+-- `rows::check_ends`: each return is the first of the rows that applies. Assumes nothing.
 use mathlib.Core.Path.{_≡_, sym, _∙_, ap}
 use mathlib.Core.Bool.{true}
 use borrow.Author.Tests.{not-true, not-false}

@@ -1,3 +1,4 @@
+-- `rows::is_column` is the test of row 11. Assumes nothing.
 use borrow.Author.Tests.{lt-leb, le-leb}
 use Rattle.routes.proofs.rows.is_column.Statement.{statement}
 use Rattle.routes.proofs.rows.is_column.Tie as tie
