@@ -1,9 +1,9 @@
 -- Arcs found in arrays, and the costs of node lists. Assumes nothing.
-use Prim.Native.Nat.{ℕ, zero, suc, _+_, _-_, _≤_, _<_}
+use Prim.Native.Nat.{ℕ, suc, _+_, _-_, _≤_, _<_}
 use native.Mathlib.Omega.{arith}
 use native.Mathlib.Numerals.{add-one}
-use mathlib.Core.Path.{_≡_, refl, sym, _∙_, ap}
-use mathlib.Core.Bool.{true, false, _&&_, cond}
+use mathlib.Core.Path.{_≡_, refl}
+use mathlib.Core.Bool.{_&&_}
 use mathlib.Core.Logic.{⊎-elim}
 use mathlib.Core.List.{List, [], _∷_}
 use lib.Dec.{eqb}
@@ -13,8 +13,8 @@ use borrow.Author.Tests.{eqb-true}
 use Rattle.terms.specs.Network.{Graph, weight}
 use Rattle.terms.specs.Paths.{cost-from, cost}
 use Rattle.terms.proofs.ListLaws.{split, and-both}
-use Rattle.labels.specs.Arcs.{graph, Arcs}
-use Rattle.labels.proofs.ArcLaws.{At, at-weight}
+use Rattle.labels.specs.Arcs.{graph}
+use Rattle.labels.proofs.ArcLaws.{At}
 use Rattle.routes.specs.declared.arcs.Found.{Found}
 use Rattle.routes.specs.declared.arcs.Found.the-variants as found
 use Rattle.routes.specs.Lists.{ArcFound, here, missing}

@@ -1,7 +1,7 @@
 -- No path of an admitted network costs more than 199,000,000, so row 16 never applies. Assumes nothing.
 use Prim.Native.Nat.{ℕ, _*_, _-_, _≤_}
 use native.Mathlib.Omega.{arith}
-use mathlib.Core.Path.{_≡_, refl, sym, _∙_}
+use mathlib.Core.Path.{_≡_}
 use mathlib.Core.List.{List, map, Memᴰ·of-map}
 use lib.ListN.{length}
 use borrow.Author.Tests.{le-ltb}

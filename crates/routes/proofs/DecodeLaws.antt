@@ -1,10 +1,10 @@
 -- The arcs and one column of an admitted network, in three arrays. Assumes nothing.
-use Prim.Native.Nat.{ℕ, zero, suc, _+_, _-_, _≤_, _<_}
+use Prim.Native.Nat.{ℕ, zero, suc, _-_, _≤_, _<_}
 use native.Mathlib.Omega.{arith}
 use native.Mathlib.Nat.{eq-or-lt-of-le}
 use mathlib.Core.Path.{_≡_, refl, sym, _∙_, ap}
-use mathlib.Core.Bool.{true, _&&_, _||_}
-use mathlib.Core.Logic.{_⊎_, inl, inr, ⊎-elim}
+use mathlib.Core.Bool.{true}
+use mathlib.Core.Logic.{⊎-elim}
 use mathlib.Core.List.{List, [], _∷_, _++_, map, append-nil}
 use lib.Dec.{ltb, eqb}
 use lib.ListN.{length, getD, drop, length-map, drop-of-length-le, List·getD-map}
@@ -12,10 +12,10 @@ use borrow.Author.Tests.{ltb-true, eqb-true}
 use Rattle.terms.specs.Lists.{_∈_}
 use Rattle.terms.specs.Network.{Net, weigh, column, below, RisingFrom, no-more, next, ArcOf, Admitted}
 use Rattle.terms.proofs.ListLaws.{or-cases, and-both, getD-mem, le-or-lt}
-use Rattle.labels.specs.Arcs.{graph, Arcs}
 use Rattle.image.specs.Layout.{arc-count, column-count, netOf}
 use Rattle.image.proofs.PartLaws.{length-arcs}
 use Rattle.image.proofs.NetworkLaws.{accepted-network, length-columns}
+use Rattle.labels.specs.Arcs.{graph, Arcs}
 use Rattle.routes.specs.Decoded.{InColumn, Decoded}
 
 -- a slice that is as long as what is written over its beginning

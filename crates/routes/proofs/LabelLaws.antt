@@ -3,21 +3,19 @@ use Prim.Native.Nat.{ℕ, _+_, _-_, _≤_, _<_}
 use native.Mathlib.Omega.{arith}
 use native.Mathlib.Decide.{decLt}
 use mathlib.Core.Path.{_≡_, refl, sym, _∙_, ap}
-use mathlib.Core.Bool.{true, false, cond}
-use mathlib.Core.List.{List, [], _∷_, _++_, map}
-use lib.Dec.{leb, eqb}
+use mathlib.Core.List.{List, [], map}
 use lib.ListN.{length, getD, drop, length-map, length-drop, List·getD-map}
 use lib.Seq.{ext-getD, getD-drop}
 use borrow.Author.Tests.{eq-eqb, ne-eqb, le-leb}
 use Rattle.terms.specs.Lists.{numbers}
 use Rattle.terms.specs.Network.{Graph, Net, column, Admitted}
 use Rattle.terms.specs.Paths.{paths}
-use Rattle.terms.specs.Regret.{best, mark, label, labels}
+use Rattle.terms.specs.Regret.{mark, label, labels}
 use Rattle.terms.proofs.ListLaws.{mem-length, length-numbers, getD-map-numbers}
 use Rattle.labels.specs.Arcs.{graph, Arcs}
 use Rattle.labels.specs.Arrays.{Arrays}
 use Rattle.labels.specs.Chains.{Chains}
-use Rattle.labels.specs.Labels.{far, FreePath, Least}
+use Rattle.labels.specs.Labels.{far, Least}
 use Rattle.labels.proofs.ArcLaws.{arrays-of}
 use Rattle.labels.proofs.LabelLaws as laws
 use Rattle.routes.specs.Decoded.{Decoded}

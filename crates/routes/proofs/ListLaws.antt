@@ -2,24 +2,23 @@
 use Prim.Native.Nat.{ℕ, zero, suc, _+_, _-_, _≤_, _<_}
 use native.Mathlib.Omega.{arith}
 use native.Mathlib.Nat.{eq-or-lt-of-le}
-use native.Mathlib.Numerals.{unary-clauses}
 use mathlib.Core.Path.{_≡_, refl, sym, _∙_, ap}
-use mathlib.Core.Bool.{Bool, true, false, not, _&&_, cond}
+use mathlib.Core.Bool.{true, false, not, _&&_, cond}
 use mathlib.Core.Logic.{⊎-elim}
 use mathlib.Core.List.{List, [], _∷_, List·Memᴰ·head, List·Memᴰ·tail, List·Memᴰ·cases-cons}
-use mathlib.Core.Option.{Option, none, some}
+use mathlib.Core.Option.{none, some}
 use lib.Dec.{eqb}
 use lib.ListN.{length, getD, drop, drop-of-length-le}
 use lib.Seq.{drop-cons}
-use borrow.Author.Tests.{eqb-true, eq-eqb, ne-eqb, not-true}
-use Rattle.terms.specs.Lists.{_∈_, elem, keep, numbers}
+use borrow.Author.Tests.{eq-eqb, ne-eqb, not-true}
+use Rattle.terms.specs.Lists.{_∈_, elem, numbers}
 use Rattle.terms.specs.Network.{Graph, linked}
 use Rattle.terms.specs.Paths.{Loopless, empty, fresh}
 use Rattle.terms.specs.Regret.{fault, fault-after}
-use Rattle.terms.proofs.ListLaws.{split, clash, and-both, elem-mem, outside-cons, cons-outside, keep-length, length-numbers}
+use Rattle.terms.proofs.ListLaws.{split, and-both, outside-cons, cons-outside, keep-length, length-numbers}
 use Rattle.terms.proofs.PathLaws.{unseen, unseen-lt}
 use Rattle.labels.specs.Arcs.{graph, Arcs}
-use Rattle.labels.proofs.ArcLaws.{At, linked-at, at-linked}
+use Rattle.labels.proofs.ArcLaws.{linked-at, at-linked}
 use Rattle.routes.specs.Decoded.{Node}
 use Rattle.routes.specs.Lists.{GoesOn, FirstError}
 

@@ -1,5 +1,5 @@
 -- Deviations of a path of an accepted image, and the largest of them found column by column. Assumes nothing.
-use Prim.Native.Nat.{ℕ, zero, suc, _+_, _-_, _≤_, _<_}
+use Prim.Native.Nat.{ℕ, _+_, _-_, _≤_, _<_}
 use native.Mathlib.Omega.{arith}
 use native.Mathlib.Nat.{eq-or-lt-of-le}
 use mathlib.Core.Path.{_≡_, refl, sym, _∙_, ap}
@@ -8,31 +8,34 @@ use mathlib.Core.List.{List}
 use lib.ListN.{length}
 use borrow.Author.Tests.{le-leb}
 use Rattle.terms.specs.Lists.{_∈_}
-use Rattle.terms.specs.Network.{Net, column}
+use Rattle.terms.specs.Network.{Net, Admitted, column}
 use Rattle.terms.specs.Paths.{Route, Path, cost, paths}
 use Rattle.terms.specs.Regret.{best, deviation, figure, worst}
 use Rattle.terms.proofs.ListLaws.{mem-length}
 use Rattle.terms.proofs.PathLaws.{of-path, at-most-nodes, path-listed, column-within, path-in-column}
-use Rattle.terms.proofs.RegretLaws.{best-le, Worst, figure-is, worst-is}
+use Rattle.terms.proofs.RegretLaws.{best-le, figure-is, worst-is}
 use Rattle.image.specs.Layout.{netOf}
-use Rattle.routes.specs.Decoded.{Accepted, Node}
+use Rattle.image.proofs.NetworkLaws.{accepted-network}
+use Rattle.routes.specs.Decoded.{Node, InColumn}
 use Rattle.routes.specs.Labels.{best-or-far}
 use Rattle.routes.proofs.CostLaws.{column-cost-le}
-use Rattle.routes.proofs.RowLaws.{admitted, column-bounds}
 
 -- ---- a path in one column
-module _ {b nodes : List ℕ} {n m k u s t : ℕ} (a : Accepted b n m k) (from : 1 ≤ u) (upto : u ≤ k) (start : Node (netOf b .nodes) s) (p : Path (column (netOf b) 1) s t nodes) where
+module _ {b nodes : List ℕ} {m u s t : ℕ} (c : InColumn b m u) (start : Node (netOf b .nodes) s) (p : Path (column (netOf b) 1) s t nodes) where
+  ok : Admitted (netOf b)
+  ok = accepted-network b (c .passes)
+
   pub few-steps : length nodes ≤ 200
-  few-steps = omega (arith, at-most-nodes (column-within (admitted a) 1) (start .from) (start .upto) (of-path p), admitted a .nodes-to)
+  few-steps = omega (arith, at-most-nodes (column-within ok 1) (start .from) (start .upto) (of-path p), ok .nodes-to)
 
   in-column : Path (column (netOf b) u) s t nodes
-  in-column = path-in-column 1 u (admitted a) (omega arith) (admitted a .columns-from) from (omega (arith, a .columns-are)) p
+  in-column = path-in-column 1 u ok (omega arith) (ok .columns-from) (c .from) (c .upto) p
 
   pub cost-to : cost (column (netOf b) u) nodes ≤ 199000000
-  cost-to = column-cost-le (admitted a) from (omega (arith, a .columns-are)) in-column
+  cost-to = column-cost-le ok (c .from) (c .upto) in-column
 
   listed : nodes ∈ paths (netOf b .nodes) (column (netOf b) u) s t
-  listed = path-listed (netOf b .nodes) (column-within (admitted a) u) (start .from) (start .upto) in-column
+  listed = path-listed (netOf b .nodes) (column-within ok u) (start .from) (start .upto) in-column
 
   reached : best-or-far (netOf b .nodes) (column (netOf b) u) s t ≡ best (netOf b .nodes) (column (netOf b) u) s t
   unfolding best-or-far

@@ -1,13 +1,13 @@
 -- The rows that calls share, one after another, for an accepted image. Assumes nothing.
-use Prim.Native.Nat.{ℕ, _*_, _-_, _≤_, _<_}
+use Prim.Native.Nat.{ℕ, _≤_, _<_}
 use native.Mathlib.Omega.{arith}
-use mathlib.Core.Path.{_≡_, refl, sym, _∙_, ap}
-use mathlib.Core.Bool.{true, false, not, _&&_, _||_}
-use mathlib.Core.List.{List, [], _∷_, map}
+use mathlib.Core.Path.{_≡_, refl, sym, _∙_}
+use mathlib.Core.Bool.{true, false, not, _&&_}
+use mathlib.Core.List.{List, [], _∷_}
 use mathlib.Core.Option.{Option, none, some}
-use lib.Dec.{leb, ltb, eqb}
+use lib.Dec.{leb, eqb}
 use lib.ListN.{length}
-use borrow.Author.Tests.{lt-ltb, le-ltb, eq-eqb, ne-eqb, leb-true, ltb-false, eqb-false, not-false}
+use borrow.Author.Tests.{lt-ltb, le-ltb, eq-eqb, ne-eqb, leb-true, ltb-false, not-false}
 use Rattle.terms.specs.Network.{Net, Admitted, column}
 use Rattle.terms.specs.Paths.{Path}
 use Rattle.terms.specs.Regret as regret
@@ -16,9 +16,9 @@ use Rattle.terms.proofs.PathLaws.{no-fault-path}
 use Rattle.image.specs.Outcome.{Fault, sound, fault, row, _then_, gives, outcome}
 use Rattle.image.specs.Rows.{is-node}
 use Rattle.image.specs.Layout.{netOf}
-use Rattle.image.specs.Calls.{image-fault, sizes}
+use Rattle.image.specs.Calls.{image-fault, sizes, check-outcome}
 use Rattle.image.proofs.OutcomeLaws.{then-fault, then-next, then-sound, row-sound, gives-sound}
-use Rattle.image.proofs.CheckLaws.{Sized, sized, same-sizes}
+use Rattle.image.proofs.CheckLaws.{sized, same-sizes}
 use Rattle.image.proofs.PartLaws.{length-arcs}
 use Rattle.image.proofs.NetworkLaws.{accepted-network, length-columns}
 use Rattle.routes.specs.Calls.{ends-row, goal-row, column-row, room-row, list-row, cost-row, dearest-anywhere, label-fault, regret-fault}
@@ -31,14 +31,18 @@ unfolding _then_
 then-assoc sound g h = refl
 then-assoc (fault n p) g h = refl
 
--- ---- what an answer that gives sizes says
--- the rows so far are sound, and the sizes are the image's
-pub sized-sound : {b : List ℕ} (f : Fault) {n m k : ℕ} → gives (n ∷ m ∷ k ∷ []) ≡ outcome f (sizes b) → (f ≡ sound) × Sized b n m k
-sized-sound {b} f e = let g = gives-sound f (sizes b) e in (g .0, sized b (g .1))
-
-pub accepted-of : {b : List ℕ} {n m k : ℕ} → image-fault b ≡ sound → Sized b n m k → Accepted b n m k
+-- ---- what an answer that gives sizes says: the rows so far are sound, the image is accepted, and these are its sizes
+pub given-sizes : {b : List ℕ} (f : Fault) {n m k : ℕ} → (f ≡ sound → image-fault b ≡ sound) → gives (n ∷ m ∷ k ∷ []) ≡ outcome f (sizes b) → (f ≡ sound) × Accepted b n m k
 unfolding netOf
-accepted-of {b} ok s = record { passes = ok; nodes-are = s .n-is; arcs-are = s .m-is ∙ sym (length-arcs b ok); columns-are = s .k-is ∙ sym (length-columns b) }
+given-sizes {b} f first e =
+    let g = gives-sound f (sizes b) e in
+    let s = sized b (g .1) in
+    let ok = first (g .0) in
+    (g .0, record { passes = ok; nodes-are = s .n-is; arcs-are = s .m-is ∙ sym (length-arcs b ok); columns-are = s .k-is ∙ sym (length-columns b) })
+
+pub given-network : {b : List ℕ} {n m k : ℕ} → gives (n ∷ m ∷ k ∷ []) ≡ check-outcome b → Accepted b n m k
+unfolding check-outcome
+given-network {b} e = given-sizes (image-fault b) (λ ok. ok) e .1
 
 module _ {b : List ℕ} {n m k : ℕ} (a : Accepted b n m k) where
   pub sizes-of : n ∷ m ∷ k ∷ [] ≡ sizes b

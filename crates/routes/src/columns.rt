@@ -15,7 +15,7 @@ ghost use Rattle.routes.specs.Decoded.{Node, InColumn};
 ghost use Rattle.routes.specs.Labels.{best-or-far};
 
 // The labels of column u, in arrays with a place for each arc or for each node and one more.
-fn label_arrays(
+fn label_column_in(
     image: &[u8],
     m: u32,
     u: u32,
@@ -69,7 +69,7 @@ pub fn label_column(image: &[u8], m: u32, u: u32, goal: u32, labels: &mut [u64])
     let mut queue = [0u16; 201];
     let arcs = m as usize;
     let places = labels.len();
-    label_arrays(
+    label_column_in(
         image,
         m,
         u,
@@ -87,7 +87,7 @@ pub fn label_column(image: &[u8], m: u32, u: u32, goal: u32, labels: &mut [u64])
 }
 
 // The least cost of a path from start to goal in column u, with room for labels.
-fn best_in(image: &[u8], m: u32, u: u32, start: u32, goal: u32, labels: &mut [u64]) -> u64
+fn column_best_in(image: &[u8], m: u32, u: u32, start: u32, goal: u32, labels: &mut [u64]) -> u64
     requires { ⌜ InColumn (now image) m u ⌝ }
     requires { ⌜ Node (netOf (now image) .nodes) start × Node (netOf (now image) .nodes) goal ⌝ }
     requires { ⌜ length (now labels) ≡ netOf (now image) .nodes + 1 ⌝ }
@@ -98,7 +98,7 @@ fn best_in(image: &[u8], m: u32, u: u32, start: u32, goal: u32, labels: &mut [u6
 }
 
 // best(u): the least cost of a path from start to goal in column u, or FAR if there is none.
-pub fn best_cost(image: &[u8], n: u32, m: u32, u: u32, start: u32, goal: u32) -> u64
+pub fn column_best(image: &[u8], n: u32, m: u32, u: u32, start: u32, goal: u32) -> u64
     requires { ⌜ InColumn (now image) m u ⌝ }
     requires { ⌜ n ≡ netOf (now image) .nodes ⌝ }
     requires { ⌜ Node (netOf (now image) .nodes) start × Node (netOf (now image) .nodes) goal ⌝ }
@@ -106,11 +106,11 @@ pub fn best_cost(image: &[u8], n: u32, m: u32, u: u32, start: u32, goal: u32) ->
 {
     let mut labels = [0u64; 201];
     let places = n as usize + 1;
-    best_in(image, m, u, start, goal, &mut labels[..places])
+    column_best_in(image, m, u, start, goal, &mut labels[..places])
 }
 
 // The cost of a path in column u, with room for the column.
-fn cost_in(
+fn column_cost_in(
     image: &[u8],
     m: u32,
     u: u32,
@@ -129,7 +129,7 @@ fn cost_in(
 }
 
 // The cost of a path in column u.
-pub fn list_cost(image: &[u8], m: u32, u: u32, nodes: &[u16]) -> u64
+pub fn column_cost(image: &[u8], m: u32, u: u32, nodes: &[u16]) -> u64
     requires { ⌜ InColumn (now image) m u ⌝ }
     requires { ⌜ length (now nodes) ≤ 65536 ⌝ }
     ensures { λ r. ⌜ r ≡ cost (column (netOf (now (image .entry))) u) (now (nodes .entry)) ⌝ }
@@ -138,7 +138,7 @@ pub fn list_cost(image: &[u8], m: u32, u: u32, nodes: &[u16]) -> u64
     let mut heads = [0u16; 1000];
     let mut weights = [0u32; 1000];
     let arcs = m as usize;
-    cost_in(
+    column_cost_in(
         image,
         m,
         u,

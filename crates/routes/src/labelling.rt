@@ -71,7 +71,14 @@ fn write_narrow(exact: &[u64], labels: &mut [u32])
 }
 
 // Writes the labels of the column, with room for the exact ones.
-fn write_in(image: &[u8], m: u32, column: u32, goal: u32, exact: &mut [u64], labels: &mut [u32])
+fn write_labels_in(
+    image: &[u8],
+    m: u32,
+    column: u32,
+    goal: u32,
+    exact: &mut [u64],
+    labels: &mut [u32],
+)
     requires { ⌜ InColumn (now image) m column ⌝ }
     requires { ⌜ Node (netOf (now image) .nodes) goal ⌝ }
     requires { ⌜ (length (now exact) ≡ netOf (now image) .nodes + 1) × (netOf (now image) .nodes ≤ length (now labels)) ⌝ }
@@ -90,7 +97,7 @@ fn write_labels(image: &[u8], n: u32, m: u32, column: u32, goal: u32, labels: &m
 {
     let mut exact = [0u64; 201];
     let places = n as usize + 1;
-    write_in(image, m, column, goal, &mut exact[..places], labels);
+    write_labels_in(image, m, column, goal, &mut exact[..places], labels);
 }
 
 // Document 01, call 2.

@@ -42,7 +42,7 @@ fn first_error(tails: &[u16], heads: &[u16], nodes: &[u16]) -> usize
 }
 
 // Whether a node list is a path from start to goal, with room for the arcs.
-fn check_nodes(
+fn check_list_in(
     image: &[u8],
     m: u32,
     start: u32,
@@ -82,7 +82,7 @@ pub fn check_list(image: &[u8], m: u32, start: u32, goal: u32, nodes: &[u16]) ->
     let mut tails = [0u16; 1000];
     let mut heads = [0u16; 1000];
     let arcs = m as usize;
-    check_nodes(
+    check_list_in(
         image,
         m,
         start,

@@ -1,6 +1,6 @@
 // Regret: the figure and the worst column of a path.
-use super::columns::best_cost;
-use super::columns::list_cost;
+use super::columns::column_best;
+use super::columns::column_cost;
 use super::lists::NodeList;
 use super::lists::check_list;
 use super::rows::check_costs;
@@ -8,7 +8,6 @@ use super::rows::check_ends;
 use image::Checked;
 use image::Refusal;
 ghost use mathlib.Core.Path.{_≡_};
-ghost use Prim.Native.Nat.{_≤_};
 ghost use Rattle.terms.specs.Network.{column};
 ghost use Rattle.terms.specs.Paths.{Path};
 ghost use Rattle.terms.specs.Regret as terms;
@@ -18,7 +17,7 @@ ghost use Rattle.image.specs.Calls.{sizes};
 ghost use Rattle.image.specs.Answers.{checked};
 ghost use Rattle.routes.specs.Answers.{regretted};
 ghost use Rattle.routes.specs.Calls.{regret-fault, regret-outcome};
-ghost use Rattle.routes.specs.Decoded.{Accepted, Node};
+ghost use Rattle.routes.specs.Decoded.{Accepted, Node, InColumn};
 
 // A path's greatest regret, and the lowest-numbered column that has it.
 pub struct Measure {
@@ -47,23 +46,14 @@ fn check_regret(image: &[u8], start: u32, goal: u32, nodes: &[u16]) -> Checked
     check_costs(sizes)
 }
 
-// The path's deviation in column u: its cost there less the least.
-fn deviation(
-    image: &[u8],
-    n: u32,
-    m: u32,
-    k: u32,
-    u: u32,
-    start: u32,
-    goal: u32,
-    nodes: &[u16],
-) -> u32
-    requires { ⌜ Accepted (now image) n m k ⌝ }
-    requires { ⌜ (1 ≤ u) × (u ≤ k) × Node (netOf (now image) .nodes) start × Node (netOf (now image) .nodes) goal ⌝ }
+// The path's deviation in column u: its cost there less the least. Every column has its arcs.
+fn deviation(image: &[u8], n: u32, m: u32, u: u32, start: u32, goal: u32, nodes: &[u16]) -> u32
+    requires { ⌜ InColumn (now image) m u ⌝ }
+    requires { ⌜ (n ≡ netOf (now image) .nodes) × Node (netOf (now image) .nodes) start × Node (netOf (now image) .nodes) goal ⌝ }
     requires { ⌜ Path (column (netOf (now image)) 1) start goal (now nodes) ⌝ }
     ensures { λ r. ⌜ r ≡ terms.deviation (netOf (now (image .entry))) start goal (now (nodes .entry)) u ⌝ }
 {
-    (list_cost(image, m, u, nodes) - best_cost(image, n, m, u, start, goal)) as u32
+    (column_cost(image, m, u, nodes) - column_best(image, n, m, u, start, goal)) as u32
 }
 
 // The largest deviation over the columns, and the first column that has it.
@@ -85,7 +75,7 @@ fn greatest_regret(
     let mut worst = 1;
     let mut u = 1;
     while u <= k {
-        let over = deviation(image, n, m, k, u, start, goal, nodes);
+        let over = deviation(image, n, m, u, start, goal, nodes);
         if figure < over {
             figure = over;
             worst = u;

@@ -1,27 +1,21 @@
-use mathlib.Core.Path.{sym}
+-- `arcs::arc_cost` is the weight of the arc that was found, and 0 where there is none. Assumes nothing.
 use native.Mathlib.Omega.{arith}
+use mathlib.Core.Path.{sym}
+use borrow.Author.Needs.{needs}
 use Rattle.labels.proofs.ArcLaws.{At, at-weight}
 use Rattle.routes.proofs.ArcLaws.{at-found, none-found, none-weight}
-use borrow.Author.Needs.{needs}
 use Rattle.routes.proofs.arcs.arc_cost.Statement.{statement}
 use Rattle.routes.proofs.arcs.arc_cost.Tie as tie
-use Rattle.routes.proofs.arcs.arc_cost.Reads as reads
-use Rattle.routes.proofs.arcs.arc_cost.Lts as lts
-use Rattle.routes.proofs.arcs.find_arc.Reads as find-arc-reads
 
--- src/arcs.rt:38:9
 find-arc-requires : tie.Need-find-arc-requires
 find-arc-requires c κs = search needs
 
--- src/arcs.rt:39:19
 enum-known-found : tie.Need-enum-known-found
 enum-known-found c = search needs
 
--- src/arcs.rt:40:9
 enum-told : tie.Need-enum-told
 enum-told c = search needs
 
--- src/arcs.rt:40:9
 returns : tie.Need-returns
 returns c = λ n arcs. sym (none-weight _ _ _ _ _ (none-found (c .before .before .find-arc .ensures) (c .enum-told .given .1)))
 
@@ -32,15 +26,12 @@ start c = c .before .before .before .before .before .before .before
 found-at : (c : tie.After-known-told) → At (start c .args .tails .now) (start c .args .heads .now) (start c .args .a) (start c .args .b) (c .before .found .given .0 .0)
 found-at c = at-found (c .before .before .before .find-arc .ensures) (c .before .found .given .1)
 
--- src/arcs.rt:42:5
 mul-result : tie.Need-mul-result
 mul-result c = omega (arith, found-at c .below)
 
--- src/arcs.rt:42:5
 shared-slice-read-result : tie.Need-shared-slice-read-result
 shared-slice-read-result c = omega (arith, found-at (c .before) .below)
 
--- src/arcs.rt:34:1
 returns-2 : tie.Need-returns-2
 returns-2 c = λ n arcs. sym (at-weight arcs (found-at (c .before)))
 

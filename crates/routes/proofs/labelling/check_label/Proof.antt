@@ -1,41 +1,30 @@
-use Prim.Native.Nat.{ℕ}
+-- `labelling::check_label`: each return is the first row of Label that applies. Assumes nothing.
 use mathlib.Core.Path.{_≡_, sym, _∙_, ap, ap₂}
 use mathlib.Core.Bool.{true, _&&_}
-use mathlib.Core.List.{List}
 use lib.Dec.{leb}
 use borrow.Author.Tests.{not-true, not-false}
+use borrow.Author.Needs.{needs}
 use Rattle.image.specs.Outcome.{outcome}
 use Rattle.image.specs.Rows.{is-node}
 use Rattle.image.specs.Answers.{checked}
 use Rattle.image.proofs.OutcomeLaws.{then-fault, outcome-fault}
-use Rattle.image.proofs.CheckLaws.{accepted, rejected}
+use Rattle.image.proofs.CheckLaws.{rejected}
 use Rattle.routes.specs.Calls.{label-fault}
 use Rattle.routes.specs.Decoded.{Accepted}
 use Rattle.routes.proofs.CostLaws.{bound-row-sound}
-use Rattle.routes.proofs.RowLaws.{accepted-of, sizes-of, node-bounds, no-goal, no-column, no-room, label-passes}
-use borrow.Author.Needs.{needs}
+use Rattle.routes.proofs.RowLaws.{given-network, sizes-of, node-bounds, no-goal, no-column, no-room, label-passes}
 use Rattle.routes.proofs.labelling.check_label.Statement.{statement}
 use Rattle.routes.proofs.labelling.check_label.Tie as tie
-use Rattle.routes.proofs.labelling.check_label.Reads as reads
-use Rattle.routes.proofs.labelling.check_label.Lts as lts
-use Rattle.image.proofs.check.Reads as check-reads
-use Rattle.image.proofs.is_node.Reads as is-node-reads
-use Rattle.routes.proofs.rows.check_costs.Reads as check-costs-reads
-use Rattle.routes.proofs.rows.is_column.Reads as is-column-reads
 
--- src/labelling.rt:33:9
 check-requires : tie.Need-check-requires
 check-requires c κs = search needs
 
--- src/labelling.rt:34:26
 enum-known-answer : tie.Need-enum-known-answer
 enum-known-answer c = search needs
 
--- src/labelling.rt:35:9
 enum-told : tie.Need-enum-told
 enum-told c = search needs
 
--- src/labelling.rt:35:9
 returns : tie.Need-returns
 unfolding label-fault
 returns c = let k = c .before .before in
@@ -43,13 +32,8 @@ returns c = let k = c .before .before in
     told ∙ sym (outcome-fault _ (then-fault _ (rejected (k .before .before .args .image .now) (sym told ∙ k .check .ensures))))
 
 -- where Check gives sizes, the image is accepted and they are its own
-abbrev image : tie.After-answer → List ℕ
-image c = c .before .before .before .before .args .image .now
-
-known : (c : tie.After-answer) → Accepted (image c) (c .answer .given .0 .0 .n) (c .answer .given .0 .0 .m) (c .answer .given .0 .0 .k)
-known c =
-    let k = accepted (image c) (sym (ap checked (c .answer .given .1)) ∙ c .before .before .check .ensures) in
-    accepted-of (k .0) (k .1)
+known : (c : tie.After-answer) → Accepted (c .before .before .before .before .args .image .now) (c .answer .given .0 .0 .n) (c .answer .given .0 .0 .m) (c .answer .given .0 .0 .k)
+known c = given-network (sym (ap checked (c .answer .given .1)) ∙ c .before .before .check .ensures)
 
 -- what the first two tests showed
 goal-right : (c : tie.Else1) → is-node (c .before .before .before .answer .given .0 .0 .n) (c .before .before .before .before .before .before .before .args .goal) ≡ true
@@ -58,38 +42,30 @@ goal-right c = sym (c .before .is-node .ensures) ∙ not-false _ (c .if1 .left)
 column-right : (c : tie.Else2) → (leb 1 (c .before .before .before .before .before .before .before .before .before .args .column) && leb (c .before .before .before .before .before .before .before .before .before .args .column) (c .before .before .before .before .before .answer .given .0 .0 .k)) ≡ true
 column-right c = sym (c .before .is-column .ensures) ∙ not-false _ (c .if2 .left)
 
--- src/labelling.rt:37:9
 is-node-requires : tie.Need-is-node-requires
 is-node-requires c κs = search needs
 
--- src/labelling.rt:38:9
 returns-2 : tie.Need-returns-2
 returns-2 c = let k = c .before .before .before in
     sym (outcome-fault _ (no-goal (known k) _ _ _ (sym (c .before .is-node .ensures) ∙ not-true _ (c .if1 .taken))))
 
--- src/labelling.rt:40:9
 is-column-requires : tie.Need-is-column-requires
 is-column-requires c κs = search needs
 
--- src/labelling.rt:41:9
 returns-3 : tie.Need-returns-3
 returns-3 c = let e = c .before .before in
     sym (outcome-fault _ (no-column (known (e .before .before .before)) _ _ _ (goal-right e) (sym (c .before .is-column .ensures) ∙ not-true _ (c .if2 .taken))))
 
--- src/labelling.rt:43:15
 cast-if3 : tie.Need-cast-if3
 cast-if3 c = search needs
 
--- src/labelling.rt:44:9
 returns-4 : tie.Need-returns-4
 returns-4 c = let f = c .before .before in
     sym (outcome-fault _ (no-room (known (f .before .before .before .before .before)) _ _ _ (goal-right (f .before .before)) (column-right f) (c .if3 .taken)))
 
--- src/labelling.rt:46:5
 check-costs-requires : tie.Need-check-costs-requires
 check-costs-requires c κs = node-bounds (known (c .before .before .before .before .before .before .before))
 
--- src/labelling.rt:30:1
 returns-5 : tie.Need-returns-5
 returns-5 c = let f = c .before .before .before in
     let k = known (f .before .before .before .before .before) in

@@ -1,8 +1,10 @@
-use Prim.Native.Nat.{ℕ, _≤_}
+-- `labelling::label` writes the labels where no row applies, and else nothing. Assumes nothing.
+use Prim.Native.Nat.{ℕ}
 use native.Mathlib.Omega.{arith}
 use mathlib.Core.Path.{_≡_, sym, _∙_, ap}
-use mathlib.Core.List.{List, [], _++_}
+use mathlib.Core.List.{_++_}
 use lib.ListN.{length, drop}
+use borrow.Author.Needs.{needs}
 use Rattle.image.specs.Outcome.{sound}
 use Rattle.image.specs.Calls.{sizes}
 use Rattle.image.specs.Answers.{checked, refused}
@@ -10,33 +12,22 @@ use Rattle.image.proofs.OutcomeLaws.{refuses-fault, outcome-fault, outcome-soun
 use Rattle.routes.specs.Calls.{label-fault, label-outcome, labels-of}
 use Rattle.routes.specs.Decoded.{Accepted}
 use Rattle.routes.proofs.LabelLaws.{length-labels}
-use Rattle.routes.proofs.RowLaws.{sized-sound, accepted-of, in-column, LabelSound, label-sound}
-use borrow.Author.Needs.{needs}
+use Rattle.routes.proofs.RowLaws.{given-sizes, LabelSound, label-sound}
 use Rattle.routes.proofs.labelling.label.Statement.{statement}
 use Rattle.routes.proofs.labelling.label.Tie as tie
-use Rattle.routes.proofs.labelling.label.Reads as reads
-use Rattle.routes.proofs.labelling.label.Lts as lts
-use Rattle.image.proofs.checking.Checked.refusal.Reads as refusal-reads
-use Rattle.routes.proofs.labelling.check_label.Reads as check-label-reads
-use Rattle.routes.proofs.labelling.write_labels.Reads as write-labels-reads
 
--- src/labelling.rt:101:9
 check-label-requires : tie.Need-check-label-requires
 check-label-requires c κs = search needs
 
--- src/labelling.rt:102:26
 enum-known-answer : tie.Need-enum-known-answer
 enum-known-answer c = search needs
 
--- src/labelling.rt:103:34
 enum-told : tie.Need-enum-told
 enum-told c = search needs
 
--- src/labelling.rt:103:34
 refusal-requires : tie.Need-refusal-requires
 refusal-requires c κs = search needs
 
--- src/labelling.rt:103:9
 returns : tie.Need-returns
 unfolding label-outcome
 returns c = let t = c .before in
@@ -50,9 +41,7 @@ abbrev start : tie.After-answer → tie.Start
 start c = c .before .before .before .before .before
 
 passes : (c : tie.After-answer) → (label-fault (start c .args .image .now) (start c .args .column) (start c .args .goal) (length (start c .args .labels .now)) ≡ sound) × Accepted (start c .args .image .now) (c .answer .given .0 .0 .n) (c .answer .given .0 .0 .m) (c .answer .given .0 .0 .k)
-passes c =
-    let k = sized-sound (label-fault (start c .args .image .now) (start c .args .column) (start c .args .goal) (length (start c .args .labels .now))) (sym (ap checked (c .answer .given .1)) ∙ c .before .before .check-label .ensures) in
-    (k .0, accepted-of (label-sound _ _ _ _ (k .0) .accepted) (k .1))
+passes c = given-sizes _ (λ e. label-sound _ _ _ _ e .accepted) (sym (ap checked (c .answer .given .1)) ∙ c .before .before .check-label .ensures)
 
 given : (c : tie.After-answer) → LabelSound (start c .args .image .now) (start c .args .column) (start c .args .goal) (length (start c .args .labels .now))
 given c = label-sound _ _ _ _ (passes c .0)
@@ -60,18 +49,15 @@ given c = label-sound _ _ _ _ (passes c .0)
 known : (c : tie.After-answer) → Accepted (start c .args .image .now) (c .answer .given .0 .0 .n) (c .answer .given .0 .0 .m) (c .answer .given .0 .0 .k)
 known c = passes c .1
 
--- src/labelling.rt:105:5
 write-labels-requires : tie.Need-write-labels-requires
 write-labels-requires c κs = let a = c .before .before in
     let g = given a in
     let k = known a in
     (record { passes = k .passes; arcs-are = k .arcs-are; from = g .from; upto = g .upto }, ((k .nodes-are, omega (arith, k .nodes-are, g .room-for)), g .goal))
 
--- src/labelling.rt:97:1
 same-length : tie.Need-same-length
 same-length c = search needs
 
--- src/labelling.rt:97:1
 returns-2 : tie.Need-returns-2
 unfolding label-outcome labels-of
 returns-2 c = let w = c .before .before in

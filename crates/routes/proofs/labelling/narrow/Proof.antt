@@ -1,20 +1,16 @@
-use mathlib.Core.Path.{sym}
+-- `labelling::narrow`: a label that is not the mark is small. Assumes nothing.
 use native.Mathlib.Omega.{arith}
+use mathlib.Core.Path.{sym}
 use Rattle.routes.proofs.LabelLaws.{narrowed-far, narrowed-near, narrow-fits}
 use Rattle.routes.proofs.labelling.narrow.Statement.{statement}
 use Rattle.routes.proofs.labelling.narrow.Tie as tie
-use Rattle.routes.proofs.labelling.narrow.Reads as reads
-use Rattle.routes.proofs.labelling.narrow.Lts as lts
 
--- src/labelling.rt:55:9
 returns : tie.Need-returns
 returns c = sym (narrowed-far _ (c .if1 .taken))
 
--- src/labelling.rt:57:5
 cast-result : tie.Need-cast-result
 cast-result c = omega (arith, narrow-fits (c .before .pre) (c .if1 .left))
 
--- src/labelling.rt:50:1
 returns-2 : tie.Need-returns-2
 returns-2 c = sym (narrowed-near _ (c .if1 .left))
 

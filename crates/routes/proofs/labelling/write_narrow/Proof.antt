@@ -1,17 +1,15 @@
-use Prim.Native.Nat.{ℕ, _+_, _-_, _≤_}
+-- `labelling::write_narrow` writes the labels from node 1 on. The loop: the first i places hold those of the nodes 1 to i. Assumes nothing.
+use Prim.Native.Nat.{_+_, _-_, _≤_}
+use native.Mathlib.Omega.{arith}
 use mathlib.Core.Path.{_≡_, refl, sym, _∙_}
-use mathlib.Core.List.{List, _++_, map}
+use mathlib.Core.List.{_++_, map}
 use lib.ListN.{length, getD, take, drop, length-set}
 use lib.Seq.{take-all}
 use Rattle.image.proofs.SliceLaws.{copy-more}
 use Rattle.routes.specs.Labels.{narrowed}
 use Rattle.routes.proofs.LabelLaws.{narrowed-at, length-narrowed}
-use native.Mathlib.Omega.{arith}
 use Rattle.routes.proofs.labelling.write_narrow.Statement.{statement}
 use Rattle.routes.proofs.labelling.write_narrow.Tie as tie
-use Rattle.routes.proofs.labelling.write_narrow.Reads as reads
-use Rattle.routes.proofs.labelling.write_narrow.Lts as lts
-use Rattle.routes.proofs.labelling.narrow.Reads as narrow-reads
 
 abbrev Inv-loop : tie.InvT-loop
 Inv-loop exact labels₀ i₀ labels i = (i ≤ length exact - 1) × (length labels ≡ length labels₀) × (labels ≡ take i (map narrowed (drop 1 exact)) ++ drop i labels₀)
@@ -19,48 +17,37 @@ Inv-loop exact labels₀ i₀ labels i = (i ≤ length exact - 1) × (length lab
 abbrev μ-loop : tie.MeasureT-loop
 μ-loop exact labels₀ i₀ labels i = length exact - i
 
--- src/labelling.rt:67:5
 loop-holds : tie.Need-loop-holds Inv-loop μ-loop
 loop-holds c = (omega arith, refl, refl)
 
--- src/labelling.rt:67:11
 add-loop : tie.Need-add-loop Inv-loop μ-loop
 add-loop c = omega arith
 
--- src/labelling.rt:68:34
 add-narrow : tie.Need-add-narrow Inv-loop μ-loop
 add-narrow c = omega arith
 
--- src/labelling.rt:68:28
 mul-narrow : tie.Need-mul-narrow Inv-loop μ-loop
 mul-narrow c = omega arith
 
--- src/labelling.rt:68:28
 shared-slice-read-narrow : tie.Need-shared-slice-read-narrow Inv-loop μ-loop
 shared-slice-read-narrow c = omega arith
 
--- src/labelling.rt:68:21
 narrow-requires : tie.Need-narrow-requires Inv-loop μ-loop
 narrow-requires c κs = let h = c .before .before in
     h .before .before .before .pre .1 (h .loop .i + 1) (c .before .loop-test .taken)
 
--- src/labelling.rt:68:9
 mul-labels : tie.Need-mul-labels Inv-loop μ-loop
 mul-labels c = omega arith
 
--- src/labelling.rt:68:9
 slice-write-labels : tie.Need-slice-write-labels Inv-loop μ-loop
 slice-write-labels c = omega arith
 
--- src/labelling.rt:69:9
 add-i : tie.Need-add-i Inv-loop μ-loop
 add-i c = omega arith
 
--- src/labelling.rt:67:5
 loop-less : tie.Need-loop-less Inv-loop μ-loop
 loop-less c = omega arith
 
--- src/labelling.rt:67:5
 loop-again : tie.Need-loop-again Inv-loop μ-loop
 loop-again c = let h = c .before .before .before in
     let a = h .before .before .before .args in
@@ -69,11 +56,9 @@ loop-again c = let h = c .before .before .before in
     let long = length-narrowed (a .exact .now) in
     (omega arith, simp length-set (omega arith), rw (h .loop .inv .2, new) (copy-more s (a .labels .now) (h .loop .i) (omega arith) (omega arith)))
 
--- src/labelling.rt:61:1
 same-length : tie.Need-same-length Inv-loop μ-loop
 same-length c = omega arith
 
--- src/labelling.rt:61:1
 returns : tie.Need-returns Inv-loop μ-loop
 returns c = let h = c .before in
     let a = h .before .before .before .args in

@@ -1,7 +1,7 @@
-use Prim.Native.Nat.{ℕ}
+-- `measuring::check_regret`: each return is the first row of Regret that applies. Assumes nothing.
 use native.Mathlib.Omega.{arith}
 use mathlib.Core.Path.{_≡_, sym, _∙_, ap, ap₂}
-use mathlib.Core.List.{List}
+use borrow.Author.Needs.{needs}
 use Rattle.image.specs.Outcome.{sound, _then_, outcome}
 use Rattle.image.specs.Layout.{netOf}
 use Rattle.image.specs.Calls.{image-fault, sizes}
@@ -11,29 +11,19 @@ use Rattle.routes.specs.Calls.{ends-row}
 use Rattle.routes.specs.Decoded.{Accepted}
 use Rattle.routes.specs.Lists.{list-fault}
 use Rattle.routes.proofs.CostLaws.{bound-row-sound}
-use Rattle.routes.proofs.RowLaws.{sized-sound, accepted-of, sizes-of, node-bounds, column-bounds, in-column, ends-sound, first-rows, no-path-at, regret-passes}
-use borrow.Author.Needs.{needs}
+use Rattle.routes.proofs.RowLaws.{given-sizes, sizes-of, node-bounds, column-bounds, in-column, ends-sound, first-rows, no-path-at, regret-passes}
 use Rattle.routes.proofs.measuring.check_regret.Statement.{statement}
 use Rattle.routes.proofs.measuring.check_regret.Tie as tie
-use Rattle.routes.proofs.measuring.check_regret.Reads as reads
-use Rattle.routes.proofs.measuring.check_regret.Lts as lts
-use Rattle.routes.proofs.lists.check_list.Reads as check-list-reads
-use Rattle.routes.proofs.rows.check_costs.Reads as check-costs-reads
-use Rattle.routes.proofs.rows.check_ends.Reads as check-ends-reads
 
--- src/measuring.rt:39:9
 check-ends-requires : tie.Need-check-ends-requires
 check-ends-requires c κs = search needs
 
--- src/measuring.rt:40:26
 enum-known-answer : tie.Need-enum-known-answer
 enum-known-answer c = search needs
 
--- src/measuring.rt:41:9
 enum-told : tie.Need-enum-told
 enum-told c = search needs
 
--- src/measuring.rt:41:9
 returns : tie.Need-returns
 returns c = let k = c .before .before in
     let a = k .before .before .before .args in
@@ -45,24 +35,19 @@ abbrev start : tie.After-answer → tie.Start
 start c = c .before .before .before .before .before
 
 passes : (c : tie.After-answer) → ((image-fault (start c .args .image .now) then ends-row (netOf (start c .args .image .now)) (start c .args .start) (start c .args .goal)) ≡ sound) × Accepted (start c .args .image .now) (c .answer .given .0 .0 .n) (c .answer .given .0 .0 .m) (c .answer .given .0 .0 .k)
-passes c =
-    let k = sized-sound (image-fault (start c .args .image .now) then ends-row (netOf (start c .args .image .now)) (start c .args .start) (start c .args .goal)) (sym (ap checked (c .answer .given .1)) ∙ c .before .before .check-ends .ensures) in
-    (k .0, accepted-of (then-sound _ _ (k .0) .0) (k .1))
+passes c = given-sizes _ (λ e. then-sound _ _ e .0) (sym (ap checked (c .answer .given .1)) ∙ c .before .before .check-ends .ensures)
 
 known : (c : tie.After-answer) → Accepted (start c .args .image .now) (c .answer .given .0 .0 .n) (c .answer .given .0 .0 .m) (c .answer .given .0 .0 .k)
 known c = passes c .1
 
--- src/measuring.rt:43:9
 check-list-requires : tie.Need-check-list-requires
 check-list-requires c κs = let a = c .before in
     let k = known a in
     (in-column k (omega arith) (column-bounds k .0), ends-sound _ _ _ (then-sound _ _ (passes a .0) .1) .0)
 
--- src/measuring.rt:44:28
 enum-known-list : tie.Need-enum-known-list
 enum-known-list c = search needs
 
--- src/measuring.rt:45:9
 returns-2 : tie.Need-returns-2
 returns-2 c = let l = c .before .before .before in
     sym (outcome-fault _ (no-path-at _ _ _ _ (passes (l .before .before) .0) (sym (ap list-fault (c .before .list .given .1)) ∙ l .check-list .ensures)))
@@ -70,11 +55,9 @@ returns-2 c = let l = c .before .before .before in
 enum-told-2 : tie.Need-enum-told-2
 enum-told-2 c = search needs
 
--- src/measuring.rt:47:5
 check-costs-requires : tie.Need-check-costs-requires
 check-costs-requires c κs = node-bounds (known (c .before .before .before .before))
 
--- src/measuring.rt:36:1
 returns-3 : tie.Need-returns-3
 returns-3 c = let l = c .before .before .before in
     let a = l .before .before in

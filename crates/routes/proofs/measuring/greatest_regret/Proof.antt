@@ -1,16 +1,14 @@
-use Rattle.routes.proofs.RegretLaws.{SoFar, none-so-far, raised, kept, greatest}
-use Prim.Native.Nat.{ℕ, _+_, _-_, _≤_}
-use mathlib.Core.Path.{_≡_, sym, _∙_, ap}
+-- `measuring::greatest_regret`: the loop keeps the largest deviation of the columns before u, and the first that has it. Assumes nothing.
+use Prim.Native.Nat.{_+_, _-_, _≤_}
+use native.Mathlib.Omega.{arith}
+use mathlib.Core.Path.{_≡_}
 use mathlib.Core.Logic.{⊎-elim}
 use Rattle.terms.specs.Regret.{deviation}
 use Rattle.image.specs.Layout.{netOf}
-use Rattle.routes.proofs.RowLaws.{column-bounds}
-use native.Mathlib.Omega.{arith}
+use Rattle.routes.proofs.RegretLaws.{SoFar, none-so-far, raised, kept, greatest}
+use Rattle.routes.proofs.RowLaws.{column-bounds, in-column}
 use Rattle.routes.proofs.measuring.greatest_regret.Statement.{statement}
 use Rattle.routes.proofs.measuring.greatest_regret.Tie as tie
-use Rattle.routes.proofs.measuring.greatest_regret.Reads as reads
-use Rattle.routes.proofs.measuring.greatest_regret.Lts as lts
-use Rattle.routes.proofs.measuring.deviation.Reads as deviation-reads
 
 abbrev Inv-loop : tie.InvT-loop
 Inv-loop image n m k start goal nodes figure₀ worst₀ u₀ figure worst u =
@@ -19,31 +17,24 @@ Inv-loop image n m k start goal nodes figure₀ worst₀ u₀ figure worst u =
 abbrev μ-loop : tie.MeasureT-loop
 μ-loop image n m k start goal nodes figure₀ worst₀ u₀ figure worst u = k + 1 - u
 
--- src/measuring.rt:87:5
 loop-holds : tie.Need-loop-holds Inv-loop μ-loop
 loop-holds c = (omega arith, omega arith, none-so-far _)
 
--- src/measuring.rt:88:13
 deviation-requires : tie.Need-deviation-requires Inv-loop μ-loop
-deviation-requires c κs = let s = c .before .before .before .before in
-    let p = s .pre in
-    (p .0, ((c .before .loop .inv .0, c .loop-test .taken, p .1 .0 .0, p .1 .0 .1), p .1 .1))
+deviation-requires c κs = let p = c .before .before .before .before .pre in
+    (in-column (p .0) (c .before .loop .inv .0) (c .loop-test .taken), ((p .0 .nodes-are, p .1 .0 .0, p .1 .0 .1), p .1 .1))
 
--- src/measuring.rt:93:9
 add-u : tie.Need-add-u Inv-loop μ-loop
 add-u c = omega (arith, column-bounds (c .before .before .before .before .before .before .pre .0))
 
--- src/measuring.rt:87:5
 loop-less : tie.Need-loop-less Inv-loop μ-loop
 loop-less c = omega (arith, column-bounds (c .before .before .before .before .before .before .pre .0))
 
--- src/measuring.rt:87:5
 loop-again : tie.Need-loop-again Inv-loop μ-loop
 loop-again c = let d = c .before in
     let i = d .before .before .loop .inv in
     (omega arith, omega arith, ⊎-elim (λ w. raised (i .0) (i .2) (d .deviation .ensures) (w .0 .taken) (w .1) (w .2)) (λ w. kept (i .0) (i .2) (d .deviation .ensures) (w .0 .left) (w .1) (w .2)) (c .if1 .came))
 
--- src/measuring.rt:70:1
 returns : tie.Need-returns Inv-loop μ-loop
 returns c = let h = c .before in
     let s = h .before .before .before in

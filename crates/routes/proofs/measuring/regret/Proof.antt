@@ -1,40 +1,30 @@
-use Rattle.image.proofs.CheckLaws.{Sized}
+-- `measuring::regret` gives the figure and the worst column where no row applies. Assumes nothing.
 use Prim.Native.Nat.{ℕ}
 use mathlib.Core.Path.{_≡_, sym, _∙_, ap, ap₂}
-use mathlib.Core.List.{List, [], _∷_}
+use mathlib.Core.List.{[], _∷_}
+use borrow.Author.Needs.{needs}
 use Rattle.image.specs.Outcome.{sound, gives}
 use Rattle.image.specs.Calls.{sizes}
 use Rattle.image.specs.Answers.{checked, refused}
 use Rattle.image.proofs.OutcomeLaws.{refuses-fault, outcome-fault, outcome-sound}
 use Rattle.routes.specs.Calls.{regret-fault, regret-outcome}
 use Rattle.routes.specs.Decoded.{Accepted}
-use Rattle.routes.proofs.RowLaws.{sized-sound, accepted-of, RegretSound, regret-sound}
-use borrow.Author.Needs.{needs}
+use Rattle.routes.proofs.RowLaws.{given-sizes, RegretSound, regret-sound}
 use Rattle.routes.proofs.measuring.regret.Statement.{statement}
 use Rattle.routes.proofs.measuring.regret.Tie as tie
-use Rattle.routes.proofs.measuring.regret.Reads as reads
-use Rattle.routes.proofs.measuring.regret.Lts as lts
-use Rattle.image.proofs.checking.Checked.refusal.Reads as refusal-reads
-use Rattle.routes.proofs.measuring.check_regret.Reads as check-regret-reads
-use Rattle.routes.proofs.measuring.greatest_regret.Reads as greatest-regret-reads
 
--- src/measuring.rt:102:9
 check-regret-requires : tie.Need-check-regret-requires
 check-regret-requires c κs = search needs
 
--- src/measuring.rt:103:26
 enum-known-answer : tie.Need-enum-known-answer
 enum-known-answer c = search needs
 
--- src/measuring.rt:104:35
 enum-told : tie.Need-enum-told
 enum-told c = search needs
 
--- src/measuring.rt:104:35
 refusal-requires : tie.Need-refusal-requires
 refusal-requires c κs = search needs
 
--- src/measuring.rt:104:9
 returns : tie.Need-returns
 unfolding regret-outcome
 returns c = let t = c .before in
@@ -47,20 +37,17 @@ returns c = let t = c .before in
 abbrev start : tie.After-answer → tie.Start
 start c = c .before .before .before .before .before
 
-passes : (c : tie.After-answer) → (regret-fault (start c .args .image .now) (start c .args .start) (start c .args .goal) (start c .args .nodes .now) ≡ sound) × Sized (start c .args .image .now) (c .answer .given .0 .0 .n) (c .answer .given .0 .0 .m) (c .answer .given .0 .0 .k)
-passes c =
-    sized-sound (regret-fault (start c .args .image .now) (start c .args .start) (start c .args .goal) (start c .args .nodes .now)) (sym (ap checked (c .answer .given .1)) ∙ c .before .before .check-regret .ensures)
+passes : (c : tie.After-answer) → (regret-fault (start c .args .image .now) (start c .args .start) (start c .args .goal) (start c .args .nodes .now) ≡ sound) × Accepted (start c .args .image .now) (c .answer .given .0 .0 .n) (c .answer .given .0 .0 .m) (c .answer .given .0 .0 .k)
+passes c = given-sizes _ (λ e. regret-sound _ _ _ _ e .accepted) (sym (ap checked (c .answer .given .1)) ∙ c .before .before .check-regret .ensures)
 
 given : (c : tie.After-answer) → RegretSound (start c .args .image .now) (start c .args .start) (start c .args .goal) (start c .args .nodes .now)
 given c = regret-sound _ _ _ _ (passes c .0)
 
--- src/measuring.rt:106:25
 greatest-regret-requires : tie.Need-greatest-regret-requires
 greatest-regret-requires c κs = let a = c .before in
     let g = given a in
-    (accepted-of (g .accepted) (passes a .1), (g .ends, g .path))
+    (passes a .1, (g .ends, g .path))
 
--- src/measuring.rt:99:1
 returns-2 : tie.Need-returns-2
 unfolding regret-outcome
 returns-2 c = let e = c .greatest-regret .ensures in

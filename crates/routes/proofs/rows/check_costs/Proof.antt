@@ -1,26 +1,21 @@
-use mathlib.Core.Path.{sym}
+-- `rows::check_costs`: with at most 200 nodes the test fails. Assumes nothing.
 use native.Mathlib.Omega.{arith}
+use mathlib.Core.Path.{sym}
+use borrow.Author.Needs.{needs}
 use Rattle.image.proofs.OutcomeLaws.{outcome-sound}
 use Rattle.routes.proofs.CostLaws.{bound-row-sound}
-use borrow.Author.Needs.{needs}
 use Rattle.routes.proofs.rows.check_costs.Statement.{statement}
 use Rattle.routes.proofs.rows.check_costs.Tie as tie
-use Rattle.routes.proofs.rows.check_costs.Reads as reads
-use Rattle.routes.proofs.rows.check_costs.Lts as lts
 
--- src/rows.rt:53:22
 sub-if1 : tie.Need-sub-if1
 sub-if1 c = search needs
 
--- src/rows.rt:53:21
 mul-if1 : tie.Need-mul-if1
 mul-if1 c = search needs
 
--- src/rows.rt:54:9
 returns : tie.Need-returns
 returns c = absurd (omega arith)
 
--- src/rows.rt:49:1
 returns-2 : tie.Need-returns-2
 returns-2 c = sym (outcome-sound _ (bound-row-sound (c .before .before .pre .1)))
 

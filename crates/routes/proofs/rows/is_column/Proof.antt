@@ -1,14 +1,11 @@
+-- `rows::is_column` is the test of row 11. Assumes nothing.
 use borrow.Author.Tests.{lt-leb, le-leb}
 use Rattle.routes.proofs.rows.is_column.Statement.{statement}
 use Rattle.routes.proofs.rows.is_column.Tie as tie
-use Rattle.routes.proofs.rows.is_column.Reads as reads
-use Rattle.routes.proofs.rows.is_column.Lts as lts
 
--- src/rows.rt:23:9
 returns : tie.Need-returns
 returns c = simp (lt-leb 1 _ (c .if1 .taken))
 
--- src/rows.rt:19:1
 returns-2 : tie.Need-returns-2
 returns-2 c = simp (le-leb 1 _ (c .if1 .left))
 

@@ -1,9 +1,11 @@
-use lib.ListN.{getD}
+-- `lists::check_list_in` gives the place of row 14. The nodes before it are distinct, so it is at most n. Assumes nothing.
 use Prim.Native.Nat.{ℕ, _-_, _≤_}
 use native.Mathlib.Omega.{arith}
 use mathlib.Core.Path.{_≡_, sym, _∙_, ap}
 use mathlib.Core.List.{List}
 use mathlib.Core.Option.{Option}
+use lib.ListN.{getD}
+use borrow.Author.Needs.{needs}
 use Rattle.terms.specs.Network.{Graph, column}
 use Rattle.terms.specs.Regret.{fault}
 use Rattle.image.specs.Layout.{netOf}
@@ -11,36 +13,25 @@ use Rattle.labels.specs.Arcs.{graph}
 use Rattle.routes.specs.Decoded.{Decoded}
 use Rattle.routes.proofs.DecodeLaws.{costs-of, arc-count-is, few-nodes, decoded-arcs}
 use Rattle.routes.proofs.ListLaws.{no-nodes, wrong-first, place-to, error-found, wrong-last, right-last}
-use borrow.Author.Needs.{needs}
-use Rattle.routes.proofs.lists.check_nodes.Statement.{statement}
-use Rattle.routes.proofs.lists.check_nodes.Tie as tie
-use Rattle.routes.proofs.lists.check_nodes.Reads as reads
-use Rattle.routes.proofs.lists.check_nodes.Lts as lts
-use Rattle.image.proofs.read_arcs.Reads as read-arcs-reads
-use Rattle.routes.proofs.lists.first_error.Reads as first-error-reads
+use Rattle.routes.proofs.lists.check_list_in.Statement.{statement}
+use Rattle.routes.proofs.lists.check_list_in.Tie as tie
 
--- src/lists.rt:60:9
 returns : tie.Need-returns
 returns c = sym (no-nodes _ _ _ _ (c .if1 .taken))
 
--- src/lists.rt:62:8
 shared-slice-read-if2 : tie.Need-shared-slice-read-if2
 shared-slice-read-if2 c = search needs
 
--- src/lists.rt:62:8
 cast-if2 : tie.Need-cast-if2
 cast-if2 c = omega (arith, c .shared-slice-known3 .given 0)
 
--- src/lists.rt:63:9
 returns-2 : tie.Need-returns-2
 returns-2 c = sym (wrong-first _ _ _ _ (c .if2 .taken))
 
--- src/lists.rt:65:5
 read-arcs-requires : tie.Need-read-arcs-requires
 read-arcs-requires c κs = let s = c .before .before .before .before .before .before .before .before .before in
     (s .pre .0 .passes, arc-count-is (s .pre .0), omega arith, omega arith)
 
--- src/lists.rt:66:9
 first-error-requires : tie.Need-first-error-requires
 first-error-requires c κs = search needs
 
@@ -75,71 +66,56 @@ shown : (c : tie.After-first-error) {o : Option ℕ} → fault (graph (tails c) 
     → o ≡ fault (column (netOf (start c .args .image .now)) 1) (start c .args .start) (start c .args .goal) (start c .args .nodes .now)
 shown c e = sym e ∙ ap (λ (g : Graph). fault g (start c .args .start) (start c .args .goal) (start c .args .nodes .now)) (held c .graph-is)
 
--- src/lists.rt:68:32
 cast-t23 : tie.Need-cast-t23
 cast-t23 c = omega (arith, few (c .before))
 
--- src/lists.rt:68:9
 same-length : tie.Need-same-length
 same-length c = search needs
 
--- src/lists.rt:68:9
 same-length-2 : tie.Need-same-length-2
 same-length-2 c = search needs
 
--- src/lists.rt:68:9
 returns-3 : tie.Need-returns-3
 returns-3 c = let f = c .before in
     shown f (error-found (held f .arcs) (start f .pre .1 .0) (begins f) (f .first-error .ensures) _ (c .if3 .taken))
 
--- src/lists.rt:70:14
 sub-if4 : tie.Need-sub-if4
 sub-if4 c = search needs
 
--- src/lists.rt:70:8
 mul-if4 : tie.Need-mul-if4
 mul-if4 c = search needs
 
--- src/lists.rt:70:8
 shared-slice-read-if4 : tie.Need-shared-slice-read-if4
 shared-slice-read-if4 c = search needs
 
--- src/lists.rt:70:8
 cast-if4 : tie.Need-cast-if4
 cast-if4 c = omega (arith, c .shared-slice-known4 .given (c .before .before .first-error .result - 1))
 
--- src/lists.rt:71:32
 cast-t26 : tie.Need-cast-t26
 cast-t26 c = omega (arith, few (c .before .before .before))
 
--- src/lists.rt:71:9
 same-length-3 : tie.Need-same-length-3
 same-length-3 c = search needs
 
--- src/lists.rt:71:9
 same-length-4 : tie.Need-same-length-4
 same-length-4 c = search needs
 
--- src/lists.rt:71:9
 returns-4 : tie.Need-returns-4
 returns-4 c = let f = c .before .before .before in
     shown f (wrong-last (held f .arcs) (start f .pre .1 .0) (begins f) (f .first-error .ensures) _ (c .before .before .if3 .left) (c .if4 .taken))
 
--- src/lists.rt:45:1
 same-length-5 : tie.Need-same-length-5
 same-length-5 c = search needs
 
--- src/lists.rt:45:1
 same-length-6 : tie.Need-same-length-6
 same-length-6 c = search needs
 
--- src/lists.rt:45:1
 returns-5 : tie.Need-returns-5
 returns-5 c = let f = c .before .before .before in
     shown f (right-last (held f .arcs) (start f .pre .1 .0) (begins f) (f .first-error .ensures) _ (c .before .before .if3 .left) (c .if4 .left))
 
-pub check-nodes-spec : {M : Type 1} → statement M
-check-nodes-spec =
+pub check-list-in-spec : {M : Type 1} → statement M
+check-list-in-spec =
     tie.close
     (tie.spec
     returns
