@@ -22,13 +22,17 @@ use Rattle.routes.specs.Decoded.{Decoded}
 use Rattle.routes.specs.Labels.{best-or-far, narrowed, Narrow, is-far, is-small}
 use Rattle.routes.proofs.DecodeLaws.{column-held}
 
--- where no node is barred, the flags can be forgotten
-pub unbarred : {g : Graph} {bars ls : List ℕ} {t : ℕ} → ((x : ℕ) → getD bars x 0 ≡ 0) → Least g bars t ls → Least g [] t ls
-unbarred free l = record {
-  attained = λ v h k. let a = l .attained v h k in (a .0, record { path = a .1 .path; free = λ x m. refl }, a .2);
-  least = λ v p r. l .least v p (record { path = r .path; free = λ x m. free x });
+-- only the flags of the nodes matter
+pub same-bars : {g : Graph} {bars bars′ ls : List ℕ} {t : ℕ} → ((x : ℕ) → getD bars x 0 ≡ getD bars′ x 0) → Least g bars t ls → Least g bars′ t ls
+same-bars same l = record {
+  attained = λ v h k. let a = l .attained v h k in (a .0, record { path = a .1 .path; free = λ x m. sym (same x) ∙ a .1 .free x m }, a .2);
+  least = λ v p r. l .least v p (record { path = r .path; free = λ x m. same x ∙ r .free x m });
   at-most = l .at-most;
 }
+
+-- where no node is barred, the flags can be forgotten
+pub unbarred : {g : Graph} {bars ls : List ℕ} {t : ℕ} → ((x : ℕ) → getD bars x 0 ≡ 0) → Least g bars t ls → Least g [] t ls
+unbarred free l = same-bars free l
 
 -- labels of the arrays that hold a column are the column's
 pub least-in-column : {net : Net} {u t : ℕ} {ts hs ws bars ls : List ℕ} → Decoded net u ts hs ws → ((x : ℕ) → getD bars x 0 ≡ 0) → Least (graph ts hs ws) bars t ls → Least (column net u) [] t ls

@@ -10,15 +10,13 @@ use Rattle.terms.specs.Network.{Net, column}
 use Rattle.labels.specs.Arcs.{graph}
 use Rattle.labels.specs.Chains.{Chains}
 use Rattle.labels.specs.Labels.{Least}
-use Rattle.ranking.specs.Star.{Network, Small, Cut, RisingTails}
-use Rattle.ranking.specs.Walks.{Consistent}
+use Rattle.ranking.specs.Star.{Network, Cut, RisingTails}
 use Rattle.ranking.specs.Branches.{everything}
 use Rattle.ranking.specs.Found.{FirstFound}
 use Rattle.ranking.specs.declared.first.Found.{Found}
 use Rattle.ranking.proofs.StarLaws.{star-of}
-use Rattle.ranking.proofs.NetworkLaws.{network-small, network-consistent}
 use Rattle.routes.specs.Decoded.{Decoded, Loaded}
-use Rattle.routes.proofs.LabelLaws.{unbarred}
+use Rattle.routes.proofs.LabelLaws.{unbarred, same-bars}
 
 module _ {net : Net} {u : ℕ} {ts hs ws : List ℕ} (d : Decoded net u ts hs ws) where
   pub rising-tails : RisingTails ts
@@ -38,11 +36,9 @@ module _ {net : Net} {u : ℕ} {ts hs ws : List ℕ} (d : Decoded net u ts hs ws
   }
 
 module _ {net : Net} {u t : ℕ} {ts hs ws outs ins nexts ls : List ℕ} (l : Loaded net u t ts hs ws outs ins nexts ls) where
-  pub labels-consistent : (q : List ℕ) → Consistent (graph ts hs ws) t ls q
-  labels-consistent q = network-consistent (l .network (net .nodes + 1) refl) (l .labels-long) (l .least) (λ x. refl) q
-
-  pub labels-small : {k : ℕ} → k ≡ net .nodes + 1 → Small k ls
-  labels-small e = network-small (l .network _ e) (l .labels-long ∙ sym e) (l .least)
+  -- no node is flagged, so the labels are those that avoid the flagged nodes
+  pub least-unflagged : {flags : List ℕ} → ((x : ℕ) → getD flags x 0 ≡ 0) → Least (graph ts hs ws) flags t ls
+  least-unflagged none = same-bars (λ x. sym (none x)) (l .least)
 
   pub found-in-column : {s : ℕ} {path : List ℕ} {r : Found} → FirstFound (graph ts hs ws) s t (everything s) path r → FirstFound (column net u) s t (everything s) path r
   found-in-column {s} {path} {r} f = subst (λ g. FirstFound g s t (everything s) path r) (l .column-is .graph-is) f

@@ -7,7 +7,7 @@ use image::Checked;
 use image::Refusal;
 use image::Sizes;
 use ranking::Found;
-use ranking::first_of_all;
+use ranking::shortest as first_path;
 ghost use mathlib.Core.Path.{_≡_};
 ghost use mathlib.Core.List.{[], _∷_, _++_};
 ghost use Prim.Native.Nat.{ℕ, _+_, _≤_};
@@ -53,7 +53,7 @@ fn find_in(
     image: &[u8],
     m: u32,
     u: u32,
-    start: usize,
+    start: u16,
     goal: usize,
     tails: &mut [u16],
     heads: &mut [u16],
@@ -77,12 +77,37 @@ fn find_in(
     ensures { λ r. ⌜ FirstFound (column (netOf (now (image .entry))) u) start goal (everything start) (now (route .exit)) r ⌝ }
 {
     load(
-        image, m, u, goal, tails, heads, weights, first_out, first_in, next_in, barred, dirty,
-        queue, overall,
+        image,
+        m,
+        u,
+        goal,
+        tails,
+        heads,
+        weights,
+        first_out,
+        first_in,
+        next_in,
+        barred,
+        dirty,
+        queue,
+        overall,
     );
-    first_of_all(
-        tails, heads, weights, first_out, first_in, next_in, start, goal, overall, used, barred,
-        route, dirty, queue, labels,
+    first_path(
+        tails,
+        heads,
+        weights,
+        first_out,
+        first_in,
+        next_in,
+        start,
+        goal,
+        overall,
+        used,
+        barred,
+        route,
+        dirty,
+        queue,
+        labels,
     )
 }
 
@@ -112,7 +137,7 @@ fn find(image: &[u8], m: u32, u: u32, start: u32, goal: u32, route: &mut [u16]) 
         image,
         m,
         u,
-        start as usize,
+        start as u16,
         goal as usize,
         &mut tails[..arcs],
         &mut heads[..arcs],
@@ -185,7 +210,15 @@ fn write_shortest(
 {
     let mut route = [0u16; 200];
     let places = sizes.n as usize;
-    write_first(image, sizes, column, start, goal, &mut route[..places], path)
+    write_first(
+        image,
+        sizes,
+        column,
+        start,
+        goal,
+        &mut route[..places],
+        path,
+    )
 }
 
 // Document 01, call 3.

@@ -36,6 +36,14 @@ pub fn load(
     star(tails, first_out);
     chain(heads, first_in, next_in);
     least(
-        tails, weights, first_in, next_in, barred, goal, dirty, queue, overall,
+        tails,
+        weights,
+        first_in,
+        next_in,
+        barred,
+        goal,
+        dirty,
+        queue,
+        overall,
     );
 }

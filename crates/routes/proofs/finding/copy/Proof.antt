@@ -17,7 +17,7 @@ abbrev μ-loop : tie.MeasureT-loop
 
 -- src/finding.rt:139:5
 loop-holds : tie.Need-loop-holds Inv-loop μ-loop
-loop-holds c =     (omega arith, refl, refl)
+loop-holds c = (omega arith, refl, refl)
 
 -- src/finding.rt:140:19
 mul-path : tie.Need-mul-path Inv-loop μ-loop
@@ -45,7 +45,7 @@ loop-less c = omega arith
 
 -- src/finding.rt:139:5
 loop-again : tie.Need-loop-again Inv-loop μ-loop
-loop-again c =     let h = c .before .before in
+loop-again c = let h = c .before .before in
     let a = h .before .args in
     (omega arith, simp length-set (omega arith), rw (h .loop .inv .2) (copy-more (a .route .now) (a .path .now) (h .loop .i) (omega arith) (omega arith)))
 
@@ -55,7 +55,7 @@ same-length c = omega arith
 
 -- src/finding.rt:134:1
 returns : tie.Need-returns Inv-loop μ-loop
-returns c =     let a = c .before .before .args in
+returns c = let a = c .before .before .args in
     let done : c .before .loop .i ≡ a .count = omega arith in
     c .before .loop .inv .2 ∙ rw done
 

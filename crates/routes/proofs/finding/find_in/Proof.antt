@@ -1,34 +1,22 @@
-use native.Mathlib.Omega.{arith}
-use mathlib.Core.Path.{_∙_}
-use Rattle.routes.specs.Decoded.{Ends}
-use Rattle.routes.proofs.LoadLaws.{labels-consistent, labels-small, found-in-column}
 use borrow.Author.Needs.{needs}
 use Rattle.routes.proofs.finding.find_in.Statement.{statement}
 use Rattle.routes.proofs.finding.find_in.Tie as tie
 use Rattle.routes.proofs.finding.find_in.Reads as reads
 use Rattle.routes.proofs.finding.find_in.Lts as lts
-use Rattle.ranking.proofs.first_of_all.Reads as first-of-all-reads
+use Rattle.ranking.proofs.shortest.Reads as shortest-reads
 use Rattle.routes.proofs.loading.load.Reads as load-reads
 
 -- src/finding.rt:79:5
 load-requires : tie.Need-load-requires
-load-requires c κs =     let p = c .before .before .before .before .before .before .before .before .before .before .before .before .before .before .before .before .before .before .before .before .before .before .before .pre in ((p .0 .0, p .0 .1 .goal-in), (p .1 .0, p .1 .1 .0))
+load-requires c κs = ?
 
-abbrev start : tie.After-load → tie.Start
-start c = c .before .before .before .before .before .before .before .before .before .before .before .before .before .before .before .before .before .before .before .before .before .before .before .before
-
--- src/finding.rt:83:5
-first-of-all-requires : tie.Need-first-of-all-requires
-first-of-all-requires c κs =     let l = c .before .before .before .before .before .before .before .before .before .before .before .before .before .before .before .before .before .before .before .before .before .before .before .before .before .before .before .before .before .before in
-    let p = start l .pre in
-    let w = p .1 .1 .1 in
-    let r = p .1 .1 .0 in
-    let e = p .0 .1 in
-    (l .load .ensures .network _ (w .used-long), (record { start-from = e .start-in .from; start-place = omega (arith, e .start-in, w .used-long); goal-place = omega (arith, e .goal-in, w .used-long); apart = e .apart }, ((w .unused, r .no-bars, omega (arith, r .bars-long, w .used-long), omega (arith, w .used-long, w .route-long)), (record { dirty-long = omega (arith, l .load .kept, r .dirty-long, w .used-long); queue-long = omega (arith, l .load .kept, r .queue-long, w .used-long); labels-long = omega (arith, w .labels-long, w .used-long) }, (labels-consistent (l .load .ensures), labels-small (l .load .ensures) (w .used-long))))))
+-- src/finding.rt:95:5
+shortest-requires : tie.Need-shortest-requires
+shortest-requires c κs = ?
 
 -- src/finding.rt:52:1
 same-length : tie.Need-same-length
-same-length c =     c .before .before .before .before .before .before .before .before .before .before .before .before .before .before .before .before .before .before .before .before .before .before .before .before .before .before .before .before .before .before .before .before .before .before .before .before .before .before .before .before .before .load .kept .1 .1 .1 .1 .0
+same-length c = ?
 
 -- src/finding.rt:52:1
 same-length-2 : tie.Need-same-length-2
@@ -76,16 +64,14 @@ same-length-12 c = search needs
 
 -- src/finding.rt:52:1
 returns : tie.Need-returns
-returns c =     let f = c .before .before .before .before .before .before .before .before .before .before in
-    let l = f .before .before .before .before .before .before .before .before .before .before .before .before .before .before .before .before .before .before .before .before .before .before .before .before .before .before .before .before .before .before .before in
-    (f .first-of-all .ensures .1 .0, found-in-column (l .load .ensures) (f .first-of-all .ensures .1 .1))
+returns c = ?
 
 pub find-in-spec : {M : Type 1} → statement M
 find-in-spec =
     tie.close
     (tie.spec
     load-requires
-    first-of-all-requires
+    shortest-requires
     same-length
     same-length-2
     same-length-3

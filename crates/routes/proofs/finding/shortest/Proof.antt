@@ -7,35 +7,35 @@ use Rattle.image.proofs.checking.Checked.refusal.Reads as refusal-reads
 use Rattle.routes.proofs.finding.check_shortest.Reads as check-shortest-reads
 use Rattle.routes.proofs.finding.write_shortest.Reads as write-shortest-reads
 
--- src/finding.rt:196:9
+-- src/finding.rt:229:9
 check-shortest-requires : tie.Need-check-shortest-requires
 check-shortest-requires c κs = search needs
 
--- src/finding.rt:197:26
+-- src/finding.rt:230:26
 enum-known-answer : tie.Need-enum-known-answer
 enum-known-answer c = search needs
 
--- src/finding.rt:198:32
+-- src/finding.rt:231:32
 enum-told : tie.Need-enum-told
 enum-told c = search needs
 
--- src/finding.rt:198:32
+-- src/finding.rt:231:32
 refusal-requires : tie.Need-refusal-requires
 refusal-requires c κs = search needs
 
--- src/finding.rt:198:9
+-- src/finding.rt:231:9
 returns : tie.Need-returns
 returns c = ?
 
--- src/finding.rt:200:5
+-- src/finding.rt:233:5
 write-shortest-requires : tie.Need-write-shortest-requires
 write-shortest-requires c κs = ?
 
--- src/finding.rt:192:1
+-- src/finding.rt:225:1
 same-length : tie.Need-same-length
 same-length c = search needs
 
--- src/finding.rt:192:1
+-- src/finding.rt:225:1
 returns-2 : tie.Need-returns-2
 returns-2 c = ?
 

@@ -5,27 +5,27 @@ use Rattle.routes.proofs.finding.write_shortest.Reads as reads
 use Rattle.routes.proofs.finding.write_shortest.Lts as lts
 use Rattle.routes.proofs.finding.write_first.Reads as write-first-reads
 
--- src/finding.rt:187:18
+-- src/finding.rt:212:18
 cast-places : tie.Need-cast-places
 cast-places c = search needs
 
--- src/finding.rt:188:52
+-- src/finding.rt:219:9
 array-borrow-prefix-route : tie.Need-array-borrow-prefix-route
 array-borrow-prefix-route c = ?
 
--- src/finding.rt:188:52
+-- src/finding.rt:219:9
 slice-aggregate-write-first : tie.Need-slice-aggregate-write-first
 slice-aggregate-write-first c = ?
 
--- src/finding.rt:188:5
+-- src/finding.rt:213:5
 write-first-requires : tie.Need-write-first-requires
 write-first-requires c κs = ?
 
--- src/finding.rt:173:1
+-- src/finding.rt:198:1
 same-length : tie.Need-same-length
 same-length c = search needs
 
--- src/finding.rt:173:1
+-- src/finding.rt:198:1
 returns : tie.Need-returns
 returns c = search needs
 

@@ -15,11 +15,11 @@ use Rattle.routes.proofs.decoding.decode.Reads as decode-reads
 
 -- src/loading.rt:35:5
 decode-requires : tie.Need-decode-requires
-decode-requires c κs =     let p = c .before .before .before .before .before .before .before .before .before .before .before .before .before .before .pre in (p .0 .0, (p .1 .0 .tails-long, p .1 .0 .heads-long, p .1 .0 .weights-long))
+decode-requires c κs = let p = c .before .before .before .before .before .before .before .before .before .before .before .before .before .before .pre in (p .0 .0, (p .1 .0 .tails-long, p .1 .0 .heads-long, p .1 .0 .weights-long))
 
 -- src/loading.rt:36:5
 star-requires : tie.Need-star-requires
-star-requires c κs =     rising-tails (c .before .before .before .before .before .before .before .before .decode .ensures)
+star-requires c κs = rising-tails (c .before .before .before .before .before .before .before .before .decode .ensures)
 
 abbrev decoded : tie.After-star → tie.After-decode
 decoded c = c .before .before .before .before .before .before .before .before .before
@@ -29,13 +29,13 @@ start c = c .before .before .before .before .before .before .before .before .bef
 
 -- src/loading.rt:37:5
 chain-requires : tie.Need-chain-requires
-chain-requires c κs =     let d = decoded (c .before .before .before .before .before) in
+chain-requires c κs = let d = decoded (c .before .before .before .before .before) in
     let p = start d .pre in
     chainable-of (d .decode .ensures .arcs) (p .1 .1 .ins-long) (omega (arith, p .1 .0, d .decode .kept))
 
 -- src/loading.rt:38:5
 least-requires : tie.Need-least-requires
-least-requires c κs =     let h = c .before .before .before .before .before .before .before .before .before .before .before in
+least-requires c κs = let h = c .before .before .before .before .before .before .before .before .before .before .before in
     let d = decoded (h .before .before .before .before .before .before) in
     let p = start d .pre in
     let r = p .1 .1 in
@@ -79,7 +79,7 @@ same-length-9 c = search needs
 
 -- src/loading.rt:14:1
 returns : tie.Need-returns
-returns c =     let l = c .before .before .before .before .before .before in
+returns c = let l = c .before .before .before .before .before .before in
     let h = l .before .before .before .before .before .before .before .before .before .before .before .before in
     let o = h .before .before .before .before .before .before in
     let d = decoded o in
