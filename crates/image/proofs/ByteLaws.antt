@@ -1,9 +1,11 @@
 -- Numbers and their bytes: reading and writing one, and lists of them, at any width. Assumes nothing.
+-- ---- one number
+-- a field of one byte more: its low byte, and the field that starts one byte later
 use Prim.Native.Nat.{ℕ, zero, suc, _+_, _*_, _/_, _%_, _^_, _≤_, _<_}
 use native.Mathlib.Omega.{arith}
 use native.Mathlib.Numerals.{add-one}
 use native.Mathlib.Nat.{mul-zero, mul-suc, zero-add, add-zero, add-assoc, add-comm, pow-zero, pow-suc, mod-add-div, mod-eq-of-lt, div-eq-of-lt, div-lt-iff-lt-mul, add-mul-mod-self-left, add-mul-div-left}
-use mathlib.Core.Path.{_≡_, refl, sym, _∙_, ap, ap₂}
+use mathlib.Core.Path.{_≡_, refl, sym, _∙_, ap}
 use mathlib.Core.List.{List, [], _∷_, _++_, append-assoc, append-nil, List·Memᴰ·head, List·Memᴰ·tail, List·Memᴰ·cases-cons}
 use mathlib.Core.Logic.{⊎-elim}
 use lib.ListN.{length, getD, take, drop, set, length-append, length-drop, take-append-drop}
@@ -12,8 +14,6 @@ use Rattle.terms.specs.Lists.{_∈_}
 use Rattle.terms.proofs.ListLaws.{take-mem}
 use Rattle.image.specs.Bytes.{number, bytes, field, decode, encode}
 
--- ---- one number
--- a field of one byte more: its low byte, and the field that starts one byte later
 field-suc : (w : ℕ) (b : List ℕ) (i : ℕ) → i < length b → field (suc w) b i ≡ getD b i 0 + 256 * field w b (i + 1)
 unfolding field number
 field-suc w b i h = rw (add-one, drop-cons b i 0 h)

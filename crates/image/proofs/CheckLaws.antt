@@ -1,13 +1,14 @@
 -- Check, row by row: which row of an image's header applies, and what is known where none does. Assumes nothing.
+-- ---- sizes
 use Prim.Native.Nat.{ℕ, _+_, _*_, _≤_, _<_}
 use native.Mathlib.Omega.{arith}
 use native.Mathlib.Nat.{mul-le-mul}
-use mathlib.Core.Path.{_≡_, refl, sym, _∙_, ap}
-use mathlib.Core.Bool.{Bool, true, false, not, _&&_}
+use mathlib.Core.Path.{_≡_, refl}
+use mathlib.Core.Bool.{true, false}
 use mathlib.Core.List.{List, [], _∷_}
-use lib.Dec.{leb, ltb, eqb}
+use lib.Dec.{leb}
 use lib.ListN.{length}
-use borrow.Author.Tests.{lt-ltb, le-ltb, ltb-false, leb-true, le-leb, eq-eqb, ne-eqb, eqb-true, not-true, not-false}
+use borrow.Author.Tests.{lt-ltb, le-ltb, ltb-false, leb-true, le-leb, eq-eqb, ne-eqb, eqb-true, not-false}
 use Rattle.terms.proofs.ListLaws.{and-both}
 use Rattle.image.specs.Outcome.{sound, fault, row, _then_, gives, refuses, outcome}
 use Rattle.image.specs.Rows.{in-range, pairs, lists-fault}
@@ -15,7 +16,6 @@ use Rattle.image.specs.Layout.{edition, node-count, arc-count, column-co
 use Rattle.image.specs.Calls.{header-fault, image-fault, sizes, check-outcome}
 use Rattle.image.proofs.OutcomeLaws.{then-next, then-sound, row-sound, gives-sound, refuses-fault}
 
--- ---- sizes
 pub record InRange (n m k : ℕ) : Type 0 where
   pub nodes-from : 2 ≤ n
   pub nodes-to : n ≤ 200

@@ -1,19 +1,20 @@
 -- What an accepted image promises to the layers above: its network is one that document 01 admits. Assumes nothing.
-use Prim.Native.Nat.{ℕ, zero, suc, _+_, _*_, _≤_, _<_}
+-- ---- arcs
+use Prim.Native.Nat.{ℕ, zero, suc, _+_, _*_, _≤_}
 use native.Mathlib.Omega.{arith}
 use native.Mathlib.Nat.{suc-mul, mul-comm}
 use mathlib.Core.Path.{_≡_, refl, sym, _∙_, ap}
-use mathlib.Core.Bool.{Bool, true, false, not, _&&_}
-use mathlib.Core.List.{List, [], _∷_, List·Memᴰ·head, List·Memᴰ·tail, List·Memᴰ·cases-cons}
+use mathlib.Core.Bool.{true}
+use mathlib.Core.List.{List, [], _∷_, List·Memᴰ·cases-cons}
 use mathlib.Core.Logic.{⊎-elim}
-use lib.Dec.{leb, ltb, eqb}
+use lib.Dec.{leb}
 use lib.ListN.{length, take, drop, length-drop}
 use lib.Seq.{length-take-le}
 use borrow.Author.Tests.{ltb-false, leb-true, eqb-false, not-false}
 use Rattle.terms.specs.Lists.{_∈_}
-use Rattle.terms.specs.Network.{Net, below, RisingFrom, no-more, next, ArcOf, Admitted}
+use Rattle.terms.specs.Network.{below, RisingFrom, no-more, next, ArcOf, Admitted}
 use Rattle.terms.proofs.ListLaws.{and-both, take-mem}
-use Rattle.image.specs.Outcome.{sound, row, _then_}
+use Rattle.image.specs.Outcome.{sound}
 use Rattle.image.specs.Rows.{is-node, pairs, arc-fault, arcs-fault, costs-fault, lists-fault}
 use Rattle.image.specs.Layout.{node-count, arc-count, column-count, node-list, cost-list, costs-in, costs-start, cut, netOf}
 use Rattle.image.specs.Calls.{image-fault}
@@ -22,7 +23,6 @@ use Rattle.image.proofs.ByteLaws.{length-decode, drop-mem}
 use Rattle.image.proofs.RowLaws.{length-pairs}
 use Rattle.image.proofs.CheckLaws.{HeaderSound, accepted-header, header-sound}
 
--- ---- arcs
 is-node-true : (n v : ℕ) → is-node n v ≡ true → (1 ≤ v) × (v ≤ n)
 unfolding is-node
 is-node-true n v e = let f = and-both (leb 1 v) (leb v n) e in (leb-true _ _ (f .0), leb-true _ _ (f .1))

@@ -1,21 +1,20 @@
 -- Where the arcs and the columns of an accepted image's network stand among its bytes. Assumes nothing.
+-- ---- parts of decoded lists
 use Prim.Native.Nat.{ℕ, zero, suc, _+_, _*_, _-_, _≤_, _<_}
 use native.Mathlib.Omega.{arith}
 use native.Mathlib.Nat.{mul-le-mul, mul-le-mul-right, mul-comm, mul-suc, suc-mul, mul-zero, zero-mul, zero-add, suc-add, add-comm, le-add-right}
 use mathlib.Core.Path.{_≡_, refl, sym, _∙_, ap, ap₂}
 use mathlib.Core.List.{List, [], _∷_, map}
-use lib.ListN.{length, getD, take, drop, length-map, length-drop, List·getD-map}
+use lib.ListN.{length, getD, take, drop, List·getD-map}
 use lib.Seq.{drop-drop, take-take, take-nil}
 use Rattle.image.specs.Bytes.{number, field, decode}
 use Rattle.image.specs.Outcome.{sound}
-use Rattle.image.specs.Rows.{pairs}
 use Rattle.image.specs.Layout.{arc-count, column-count, costs-start, nodes-in, costs-in, node-list, cost-list, cut, netOf}
 use Rattle.image.specs.Calls.{image-fault}
-use Rattle.image.proofs.ByteLaws.{decode-at, length-decode}
+use Rattle.image.proofs.ByteLaws.{decode-at}
 use Rattle.image.proofs.RowLaws.{pairs-at, length-pairs}
 use Rattle.image.proofs.CheckLaws.{HeaderSound, header-sound, accepted-header, total-is, costs-start-is}
 
--- ---- parts of decoded lists
 field-drop : (w : ℕ) (b : List ℕ) (s i : ℕ) → field w (drop s b) i ≡ field w b (s + i)
 unfolding field
 field-drop w b s i = rw (drop-drop i s b)

@@ -1,9 +1,10 @@
 -- Images written from lists read back as those lists, and an accepted image's lists write that image again. Assumes nothing.
-use Prim.Native.Nat.{ℕ, zero, suc, _+_, _*_, _%_, _/_, _^_, _≤_, _<_}
+-- ---- from lists to an image and back
+-- the header's numbers read back from whatever follows it
+use Prim.Native.Nat.{ℕ, zero, suc, _+_, _*_, _%_, _^_, _≤_, _<_}
 use native.Mathlib.Omega.{arith}
-use native.Mathlib.Nat.{mul-le-mul, mul-div-cancel-left, mul-mod-right}
-use mathlib.Core.Path.{_≡_, refl, sym, _∙_, ap, ap₂}
-use mathlib.Core.Bool.{true, false, _&&_}
+use mathlib.Core.Path.{_≡_, refl, sym, _∙_, ap}
+use mathlib.Core.Bool.{true}
 use mathlib.Core.Logic.{_⊎_, inl, inr, ⊎-elim}
 use mathlib.Core.List.{List, [], _∷_, _++_, append-assoc, append-nil, List·Memᴰ·head, List·Memᴰ·tail, List·Memᴰ·cases-cons}
 use lib.Dec.{eqb}
@@ -14,19 +15,17 @@ use Rattle.terms.specs.Lists.{_∈_}
 use Rattle.terms.specs.Network.{ArcOf}
 use Rattle.terms.proofs.ListLaws.{and-both}
 use Rattle.image.specs.Bytes.{number, bytes, field, decode, encode}
-use Rattle.image.specs.Outcome.{sound, row, _then_, gives, outcome}
-use Rattle.image.specs.Rows.{in-range, pairs, arcs-fault, costs-fault, lists-fault}
+use Rattle.image.specs.Outcome.{sound, row, gives}
+use Rattle.image.specs.Rows.{pairs, arcs-fault, costs-fault, lists-fault}
 use Rattle.image.specs.Layout.{edition, node-count, arc-count, column-count, costs-start, total, fields-right, nodes-in, costs-in, node-list, cost-list, header, half, image-of}
-use Rattle.image.specs.Calls.{header-fault, image-fault, sizes, check-outcome, build-fault, build-outcome}
+use Rattle.image.specs.Calls.{header-fault, image-fault, check-outcome, build-fault, build-outcome}
 use Rattle.image.specs.RoundTrip.{ReadsBack, WritesAgain}
 use Rattle.image.proofs.OutcomeLaws.{then-next, then-sound, outcome-sound}
 use Rattle.image.proofs.ByteLaws.{AllBytes, number-bytes, drop-bytes, field-bytes, decode-encode, encode-decode, length-encode, length-decode}
-use Rattle.image.proofs.CheckLaws.{InRange, HeaderSound, header-sound, accepted-header, rows-pass, Sized, same-sizes, range-in, total-to, total-is, costs-start-is}
+use Rattle.image.proofs.CheckLaws.{InRange, HeaderSound, header-sound, accepted-header, rows-pass, same-sizes, range-in, total-to, total-is, costs-start-is}
 use Rattle.image.proofs.BuildLaws.{BuildSound, lists-decide, length-header, length-image, twice-half}
 use Rattle.image.proofs.NetworkLaws.{sound-arcs, sound-costs}
 
--- ---- from lists to an image and back
--- the header's numbers read back from whatever follows it
 module _ (n m k : ℕ) (r : List ℕ) (n-fits : n < 65536) (m-fits : m < 65536) (k-fits : k < 65536) where
   edition-back : edition (header n m k ++ r) ≡ 1
   unfolding edition field number header encode bytes

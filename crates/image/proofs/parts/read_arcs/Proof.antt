@@ -1,17 +1,15 @@
-use Prim.Native.Nat.{ℕ, _+_, _*_, _-_, _≤_, _<_}
+-- `image::parts::read_arcs` meets its contract. Assumes nothing.
+use Prim.Native.Nat.{ℕ, _+_, _-_, _≤_}
 use mathlib.Core.Path.{_≡_, refl, sym, _∙_}
-use mathlib.Core.List.{List, _++_, map}
+use mathlib.Core.List.{_++_, map}
 use lib.ListN.{length, getD, take, drop, length-set, length-map}
 use lib.Seq.{take-all}
-use Rattle.image.specs.Layout.{arc-count, column-count, netOf}
+use Rattle.image.specs.Layout.{netOf}
 use Rattle.image.proofs.SliceLaws.{copy-more}
 use Rattle.image.proofs.PartLaws.{arcs-to, length-is, length-arcs, tail-at, head-at}
 use native.Mathlib.Omega.{arith}
 use Rattle.image.proofs.parts.read_arcs.Statement.{statement}
 use Rattle.image.proofs.parts.read_arcs.Tie as tie
-use Rattle.image.proofs.parts.read_arcs.Reads as reads
-use Rattle.image.proofs.parts.read_arcs.Lts as lts
-use Rattle.image.proofs.bytes.read16.Reads as read16-reads
 
 abbrev Inv-loop : tie.InvT-loop
 Inv-loop image m tails₀ heads₀ i₀ tails heads i =
@@ -23,71 +21,55 @@ abbrev μ-loop : tie.MeasureT-loop
 abbrev start : tie.At-loop Inv-loop μ-loop → tie.Start Inv-loop μ-loop
 start c = c .before .before .before .before
 
--- src/parts.rt:21:5
 loop-holds : tie.Need-loop-holds Inv-loop μ-loop
 loop-holds c = (omega arith, refl, refl, refl, refl)
 
--- src/parts.rt:22:39
 mul-read16 : tie.Need-mul-read16 Inv-loop μ-loop
 mul-read16 c = omega arith
 
--- src/parts.rt:22:34
 add-read16 : tie.Need-add-read16 Inv-loop μ-loop
 add-read16 c = let s = start (c .before) in
     omega (arith, arcs-to (s .args .image .now) (s .pre .0))
 
--- src/parts.rt:22:20
 read16-requires : tie.Need-read16-requires Inv-loop μ-loop
 read16-requires c κs = let s = start (c .before) in
     omega (arith, length-is (s .args .image .now) (s .pre .0))
 
--- src/parts.rt:22:20
 cast-tails : tie.Need-cast-tails Inv-loop μ-loop
 cast-tails c = omega arith
 
--- src/parts.rt:22:9
 mul-tails : tie.Need-mul-tails Inv-loop μ-loop
 mul-tails c = omega arith
 
--- src/parts.rt:22:9
 slice-write-tails : tie.Need-slice-write-tails Inv-loop μ-loop
 slice-write-tails c = omega arith
 
--- src/parts.rt:23:39
 mul-read16-2 : tie.Need-mul-read16-2 Inv-loop μ-loop
 mul-read16-2 c = omega arith
 
--- src/parts.rt:23:34
 add-read16-2 : tie.Need-add-read16-2 Inv-loop μ-loop
 add-read16-2 c = let s = start (c .before .before) in
     omega (arith, arcs-to (s .args .image .now) (s .pre .0))
 
--- src/parts.rt:23:20
 read16-requires-2 : tie.Need-read16-requires-2 Inv-loop μ-loop
 read16-requires-2 c κs = let s = start (c .before .before) in
     omega (arith, length-is (s .args .image .now) (s .pre .0))
 
--- src/parts.rt:23:20
 cast-heads : tie.Need-cast-heads Inv-loop μ-loop
 cast-heads c = omega arith
 
--- src/parts.rt:23:9
 mul-heads : tie.Need-mul-heads Inv-loop μ-loop
 mul-heads c = omega arith
 
--- src/parts.rt:23:9
 slice-write-heads : tie.Need-slice-write-heads Inv-loop μ-loop
 slice-write-heads c = omega arith
 
--- src/parts.rt:24:9
 add-i : tie.Need-add-i Inv-loop μ-loop
 add-i c = omega arith
 
--- src/parts.rt:21:5
 loop-less : tie.Need-loop-less Inv-loop μ-loop
 loop-less c = omega arith
 
--- src/parts.rt:21:5
 loop-again : tie.Need-loop-again Inv-loop μ-loop
 loop-again c = let h = c .before .before .before in
     let s = start h in
@@ -99,15 +81,12 @@ loop-again c = let h = c .before .before .before in
     let long = length-arcs b (s .pre .0) in
     (omega arith, simp length-set (omega arith), simp length-set (omega arith), rw (h .loop .inv .3, tail) (copy-more _ (a .tails .now) i (simp length-map (omega arith)) (omega arith)), rw (h .loop .inv .4, head) (copy-more _ (a .heads .now) i (simp length-map (omega arith)) (omega arith)))
 
--- src/parts.rt:15:1
 same-length : tie.Need-same-length Inv-loop μ-loop
 same-length c = omega arith
 
--- src/parts.rt:15:1
 same-length-2 : tie.Need-same-length-2 Inv-loop μ-loop
 same-length-2 c = omega arith
 
--- src/parts.rt:15:1
 returns : tie.Need-returns Inv-loop μ-loop
 returns c = let s = start (c .before) in
     let b = s .args .image .now in
