@@ -13,12 +13,12 @@ use Rattle.terms.specs.Paths.{Path}
 use Rattle.terms.specs.Regret as regret
 use Rattle.terms.proofs.ListLaws.{and-both, or-false}
 use Rattle.terms.proofs.PathLaws.{no-fault-path}
-use Rattle.image.specs.Outcome.{Fault, sound, fault, row, _then_, gives, outcome}
+use Rattle.image.specs.Outcome.{Fault, sound, fault, row, _then_, Outcome, gives, refuses, outcome}
 use Rattle.image.specs.Rows.{is-node}
 use Rattle.image.specs.Layout.{netOf}
 use Rattle.image.specs.Calls.{image-fault, sizes, check-outcome}
-use Rattle.image.proofs.OutcomeLaws.{then-fault, then-next, then-sound, row-sound, gives-sound}
-use Rattle.image.proofs.CheckLaws.{sized, same-sizes}
+use Rattle.image.proofs.OutcomeLaws.{outcome-fault, then-fault, then-next, then-sound, row-sound, gives-sound}
+use Rattle.image.proofs.CheckLaws.{sized, same-sizes, rejected}
 use Rattle.image.proofs.PartLaws.{length-arcs}
 use Rattle.image.proofs.NetworkLaws.{accepted-network, length-columns}
 use Rattle.routes.specs.Calls.{ends-row, goal-row, column-row, room-row, list-row, cost-row, dearest-anywhere, label-fault, regret-fault}
@@ -30,6 +30,10 @@ pub then-assoc : (f g h : Fault) → ((f then g) then h) ≡ (f then (g then h))
 unfolding _then_
 then-assoc sound g h = refl
 then-assoc (fault n p) g h = refl
+
+-- Check's refusal is the call's
+pub refused-first : (b : List ℕ) {o : Outcome} {number place : ℕ} (g : Fault) (values : List ℕ) → o ≡ refuses number place → o ≡ check-outcome b → o ≡ outcome (image-fault b then g) values
+refused-first b g values e f = e ∙ sym (outcome-fault values (then-fault g (rejected b (sym e ∙ f))))
 
 -- ---- what an answer that gives sizes says: the rows so far are sound, the image is accepted, and these are its sizes
 pub given-sizes : {b : List ℕ} (f : Fault) {n m k : ℕ} → (f ≡ sound → image-fault b ≡ sound) → gives (n ∷ m ∷ k ∷ []) ≡ outcome f (sizes b) → (f ≡ sound) × Accepted b n m k

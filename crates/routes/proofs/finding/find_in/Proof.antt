@@ -1,3 +1,6 @@
+use native.Mathlib.Omega.{arith}
+use mathlib.Core.Path.{_∙_, sym}
+use Rattle.routes.proofs.LoadLaws.{least-unflagged, found-in-column}
 use borrow.Author.Needs.{needs}
 use Rattle.routes.proofs.finding.find_in.Statement.{statement}
 use Rattle.routes.proofs.finding.find_in.Tie as tie
@@ -8,15 +11,25 @@ use Rattle.routes.proofs.loading.load.Reads as load-reads
 
 -- src/finding.rt:79:5
 load-requires : tie.Need-load-requires
-load-requires c κs = ?
+load-requires c κs =     let p = c .before .before .before .before .before .before .before .before .before .before .before .before .before .before .before .before .before .before .before .before .before .before .before .pre in ((p .0 .0, p .0 .1 .goal-in), (p .1 .0, p .1 .1 .0))
+
+abbrev start : tie.After-load → tie.Start
+start c = c .before .before .before .before .before .before .before .before .before .before .before .before .before .before .before .before .before .before .before .before .before .before .before .before
 
 -- src/finding.rt:95:5
 shortest-requires : tie.Need-shortest-requires
-shortest-requires c κs = ?
+shortest-requires c κs =     let l = c .before .before .before .before .before .before .before .before .before .before .before .before .before .before .before .before .before .before .before .before .before .before .before .before .before .before .before .before .before .before in
+    let p = start l .pre in
+    let w = p .1 .1 .1 in
+    let r = p .1 .1 .0 in
+    let e = p .0 .1 in
+    let ends = record { start-from = e .start-in .from; start-place = omega (arith, e .start-in, w .used-long); goal-place = omega (arith, e .goal-in, w .used-long); apart = e .apart } in
+    let room = record { dirty-long = omega (arith, l .load .kept, r .dirty-long, w .used-long); queue-long = omega (arith, l .load .kept, r .queue-long, w .used-long); labels-long = w .labels-long ∙ sym (w .used-long) } in
+    (l .load .ensures .network _ (w .used-long), ((record { barred-long = r .bars-long ∙ sym (w .used-long); none-used = w .unused; none-barred = r .no-bars }, omega (arith, w .used-long, w .route-long)), (ends, (room, (least-unflagged (l .load .ensures) (w .unused), l .load .ensures .labels-long ∙ sym (w .used-long))))))
 
 -- src/finding.rt:52:1
 same-length : tie.Need-same-length
-same-length c = ?
+same-length c =     c .before .before .before .before .before .before .before .before .before .before .before .before .before .before .before .before .before .before .before .before .before .before .before .before .before .before .before .before .before .before .before .before .before .before .before .before .before .before .before .before .before .load .kept .1 .1 .1 .1 .0
 
 -- src/finding.rt:52:1
 same-length-2 : tie.Need-same-length-2
@@ -64,7 +77,8 @@ same-length-12 c = search needs
 
 -- src/finding.rt:52:1
 returns : tie.Need-returns
-returns c = ?
+returns c =     let f = c .before .before .before .before .before .before .before .before .before .before in
+    (f .shortest .ensures .1 .0, found-in-column (f .before .before .before .before .before .before .before .before .before .before .before .before .before .before .before .before .before .before .before .before .before .before .before .before .before .before .before .before .before .before .before .load .ensures) (f .shortest .ensures .1 .1))
 
 pub find-in-spec : {M : Type 1} → statement M
 find-in-spec =

@@ -7,12 +7,11 @@ use borrow.Author.Needs.{needs}
 use Rattle.image.specs.Outcome.{outcome}
 use Rattle.image.specs.Rows.{is-node}
 use Rattle.image.specs.Answers.{checked}
-use Rattle.image.proofs.OutcomeLaws.{then-fault, outcome-fault}
-use Rattle.image.proofs.CheckLaws.{rejected}
+use Rattle.image.proofs.OutcomeLaws.{outcome-fault}
 use Rattle.routes.specs.Calls.{label-fault}
 use Rattle.routes.specs.Decoded.{Accepted}
 use Rattle.routes.proofs.CostLaws.{bound-row-sound}
-use Rattle.routes.proofs.RowLaws.{given-network, sizes-of, node-bounds, no-goal, no-column, no-room, label-passes}
+use Rattle.routes.proofs.RowLaws.{refused-first, given-network, sizes-of, node-bounds, no-goal, no-column, no-room, label-passes}
 use Rattle.routes.proofs.labelling.check_label.Statement.{statement}
 use Rattle.routes.proofs.labelling.check_label.Tie as tie
 
@@ -27,9 +26,7 @@ enum-told c = search needs
 
 returns : tie.Need-returns
 unfolding label-fault
-returns c = let k = c .before .before in
-    let told = ap checked (c .enum-told .given .1) in
-    told ∙ sym (outcome-fault _ (then-fault _ (rejected (k .before .before .args .image .now) (sym told ∙ k .check .ensures))))
+returns c = refused-first _ _ _ (ap checked (c .enum-told .given .1)) (c .before .before .check .ensures)
 
 -- where Check gives sizes, the image is accepted and they are its own
 known : (c : tie.After-answer) → Accepted (c .before .before .before .before .args .image .now) (c .answer .given .0 .0 .n) (c .answer .given .0 .0 .m) (c .answer .given .0 .0 .k)
