@@ -1,4 +1,6 @@
 -- Arcs found in arrays, and the costs of node lists. Assumes nothing.
+-- ---- one arc
+-- what a search has found
 use Prim.Native.Nat.{ℕ, suc, _+_, _-_, _≤_, _<_}
 use native.Mathlib.Omega.{arith}
 use native.Mathlib.Numerals.{add-one}
@@ -16,11 +18,9 @@ use Rattle.terms.proofs.ListLaws.{split, and-both}
 use Rattle.labels.specs.Arcs.{graph}
 use Rattle.labels.proofs.ArcLaws.{At}
 use Rattle.routes.specs.declared.arcs.Found.{Found}
-use Rattle.routes.specs.declared.arcs.Found.the-variants as found
 use Rattle.routes.specs.Lists.{ArcFound, here, missing}
+use Rattle.routes.specs.declared.arcs.Found.the-variants as found
 
--- ---- one arc
--- what a search has found
 pub at-found : {ts hs : List ℕ} {a b i : ℕ} {f : Found} → ArcFound ts hs a b f → f ≡ found.At i → At ts hs a b i
 at-found {i = j} (here {i} p) e = let q : j ≡ i = cc in rw q p
 at-found (missing n) e = let z : _≡_ {A = ℕ} 0 1 = cc in absurd (omega arith)

@@ -1,4 +1,5 @@
 -- The arcs and one column of an admitted network, in three arrays. Assumes nothing.
+-- a slice that is as long as what is written over its beginning
 use Prim.Native.Nat.{ℕ, zero, suc, _-_, _≤_, _<_}
 use native.Mathlib.Omega.{arith}
 use native.Mathlib.Nat.{eq-or-lt-of-le}
@@ -18,7 +19,6 @@ use Rattle.image.proofs.NetworkLaws.{accepted-network, length-columns}
 use Rattle.labels.specs.Arcs.{graph, Arcs}
 use Rattle.routes.specs.Decoded.{InColumn, Decoded}
 
--- a slice that is as long as what is written over its beginning
 pub whole : (l d : List ℕ) {m : ℕ} → length d ≡ m → l ++ drop m d ≡ l
 whole l d {m} e = ap (λ (r : List ℕ). l ++ r) (drop-of-length-le d {i = m} (omega arith)) ∙ append-nil l
 

@@ -1,4 +1,5 @@
 -- The exact labels of a column, as document 01's, and in 32 bits. Assumes nothing.
+-- only the flags of the nodes matter
 use Prim.Native.Nat.{ℕ, _+_, _-_, _≤_, _<_}
 use native.Mathlib.Omega.{arith}
 use native.Mathlib.Decide.{decLt}
@@ -17,12 +18,11 @@ use Rattle.labels.specs.Arrays.{Arrays}
 use Rattle.labels.specs.Chains.{Chains}
 use Rattle.labels.specs.Labels.{far, Least}
 use Rattle.labels.proofs.ArcLaws.{arrays-of}
-use Rattle.labels.proofs.LabelLaws as laws
 use Rattle.routes.specs.Decoded.{Decoded}
 use Rattle.routes.specs.Labels.{best-or-far, narrowed, Narrow, is-far, is-small}
 use Rattle.routes.proofs.DecodeLaws.{column-held}
+use Rattle.labels.proofs.LabelLaws as laws
 
--- only the flags of the nodes matter
 pub same-bars : {g : Graph} {bars bars′ ls : List ℕ} {t : ℕ} → ((x : ℕ) → getD bars x 0 ≡ getD bars′ x 0) → Least g bars t ls → Least g bars′ t ls
 same-bars same l = record {
   attained = λ v h k. let a = l .attained v h k in (a .0, record { path = a .1 .path; free = λ x m. sym (same x) ∙ a .1 .free x m }, a .2);

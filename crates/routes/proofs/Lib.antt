@@ -7,3 +7,4 @@ pub mod RoomLaws
 pub mod ListLaws
 pub mod RegretLaws
 pub mod LoadLaws
+pub mod ShortestLaws

@@ -1,4 +1,5 @@
 -- Row 14's place, from the first error of a node list. Assumes nothing.
+-- ---- distinct nodes of 1 to n are at most n
 use Prim.Native.Nat.{ℕ, zero, suc, _+_, _-_, _≤_, _<_}
 use native.Mathlib.Omega.{arith}
 use native.Mathlib.Nat.{eq-or-lt-of-le}
@@ -22,7 +23,6 @@ use Rattle.labels.proofs.ArcLaws.{linked-at, at-linked}
 use Rattle.routes.specs.Decoded.{Node}
 use Rattle.routes.specs.Lists.{GoesOn, FirstError}
 
--- ---- distinct nodes of 1 to n are at most n
 distinct-le : (n : ℕ) {p : List ℕ} → Loopless p → ((x : ℕ) → x ∈ p → Node n x) → length p + length (unseen n p) ≤ n
 unfolding unseen
 distinct-le n empty h = omega (arith, keep-length (λ (x : ℕ). not (elem x [])) (numbers 1 n), length-numbers 1 n)

@@ -1,16 +1,16 @@
 -- A loaded column: the network that the search of paths asks for. Assumes nothing.
-use Prim.Native.Nat.{ℕ, _+_, _≤_, _<_}
+use Prim.Native.Nat.{ℕ, _+_, _<_}
 use native.Mathlib.Omega.{arith}
 use native.Mathlib.Nat.{eq-or-lt-of-le}
-use mathlib.Core.Path.{_≡_, refl, sym, _∙_, ap, subst}
+use mathlib.Core.Path.{_≡_, sym, _∙_, subst}
 use mathlib.Core.Logic.{⊎-elim}
-use mathlib.Core.List.{List, []}
+use mathlib.Core.List.{List}
 use lib.ListN.{length, getD}
 use Rattle.terms.specs.Network.{Net, column}
 use Rattle.labels.specs.Arcs.{graph}
 use Rattle.labels.specs.Chains.{Chains}
 use Rattle.labels.specs.Labels.{Least}
-use Rattle.ranking.specs.Star.{Network, Cut, RisingTails}
+use Rattle.ranking.specs.Star.{Cut, RisingTails}
 use Rattle.ranking.specs.Branches.{everything}
 use Rattle.ranking.specs.Found.{FirstFound}
 use Rattle.ranking.specs.declared.first.Found.{Found}

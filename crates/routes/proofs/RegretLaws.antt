@@ -1,4 +1,5 @@
 -- Deviations of a path of an accepted image, and the largest of them found column by column. Assumes nothing.
+-- ---- a path in one column
 use Prim.Native.Nat.{ℕ, _+_, _-_, _≤_, _<_}
 use native.Mathlib.Omega.{arith}
 use native.Mathlib.Nat.{eq-or-lt-of-le}
@@ -20,7 +21,6 @@ use Rattle.routes.specs.Decoded.{Node, InColumn}
 use Rattle.routes.specs.Labels.{best-or-far}
 use Rattle.routes.proofs.CostLaws.{column-cost-le}
 
--- ---- a path in one column
 module _ {b nodes : List ℕ} {m u s t : ℕ} (c : InColumn b m u) (start : Node (netOf b .nodes) s) (p : Path (column (netOf b) 1) s t nodes) where
   ok : Admitted (netOf b)
   ok = accepted-network b (c .passes)

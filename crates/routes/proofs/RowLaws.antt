@@ -1,4 +1,5 @@
 -- The rows that calls share, one after another, for an accepted image. Assumes nothing.
+-- ---- rows
 use Prim.Native.Nat.{ℕ, _≤_, _<_}
 use native.Mathlib.Omega.{arith}
 use mathlib.Core.Path.{_≡_, refl, sym, _∙_}
@@ -10,7 +11,6 @@ use lib.ListN.{length}
 use borrow.Author.Tests.{lt-ltb, le-ltb, eq-eqb, ne-eqb, leb-true, ltb-false, not-false}
 use Rattle.terms.specs.Network.{Net, Admitted, column}
 use Rattle.terms.specs.Paths.{Path}
-use Rattle.terms.specs.Regret as regret
 use Rattle.terms.proofs.ListLaws.{and-both, or-false}
 use Rattle.terms.proofs.PathLaws.{no-fault-path}
 use Rattle.image.specs.Outcome.{Fault, sound, fault, row, _then_, Outcome, gives, refuses, outcome}
@@ -24,8 +24,8 @@ use Rattle.image.proofs.NetworkLaws.{accepted-network, length-columns}
 use Rattle.routes.specs.Calls.{ends-row, goal-row, column-row, room-row, list-row, cost-row, dearest-anywhere, label-fault, regret-fault}
 use Rattle.routes.specs.Decoded.{Accepted, Node, InColumn}
 use Rattle.routes.proofs.CostLaws.{all-nodes-row, all-columns-row}
+use Rattle.terms.specs.Regret as regret
 
--- ---- rows
 pub then-assoc : (f g h : Fault) → ((f then g) then h) ≡ (f then (g then h))
 unfolding _then_
 then-assoc sound g h = refl

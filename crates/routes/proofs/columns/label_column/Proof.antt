@@ -1,4 +1,5 @@
 -- `columns::label_column` lends parts of local arrays: as many places as there are arcs, or nodes and one more. Assumes nothing.
+-- the arrays have room for the arcs and the nodes
 use Prim.Native.Nat.{_≤_}
 use native.Mathlib.Omega.{arith}
 use mathlib.Core.Path.{sym}
@@ -9,7 +10,6 @@ use Rattle.routes.proofs.RoomLaws.{part-long, part-zero}
 use Rattle.routes.proofs.columns.label_column.Statement.{statement}
 use Rattle.routes.proofs.columns.label_column.Tie as tie
 
--- the arrays have room for the arcs and the nodes
 abbrev entry : tie.After-slice-known → tie.Start
 entry c = c .before .before
 

@@ -1,4 +1,5 @@
 -- `columns::label_column_in` decodes the column, chains its arcs and finds the labels; no node is barred. Assumes nothing.
+-- the calls, and the start of the function
 use native.Mathlib.Omega.{arith}
 use borrow.Author.Needs.{needs}
 use Rattle.labels.proofs.ArcLaws.{chainable-of}
@@ -6,7 +7,6 @@ use Rattle.routes.proofs.LabelLaws.{least-in-column, arrays-for}
 use Rattle.routes.proofs.columns.label_column_in.Statement.{statement}
 use Rattle.routes.proofs.columns.label_column_in.Tie as tie
 
--- the calls, and the start of the function
 abbrev start : tie.After-decode → tie.Start
 start c = c .before .before .before .before .before .before .before .before .before .before .before .before .before .before
 

@@ -1,3 +1,4 @@
+-- `routes::finding::copy` meets its contract. Assumes nothing.
 use Prim.Native.Nat.{_-_, _≤_}
 use native.Mathlib.Omega.{arith}
 use mathlib.Core.Path.{_≡_, refl, _∙_}
@@ -6,8 +7,6 @@ use lib.ListN.{length, take, drop, length-set}
 use Rattle.image.proofs.SliceLaws.{copy-more}
 use Rattle.routes.proofs.finding.copy.Statement.{statement}
 use Rattle.routes.proofs.finding.copy.Tie as tie
-use Rattle.routes.proofs.finding.copy.Reads as reads
-use Rattle.routes.proofs.finding.copy.Lts as lts
 
 abbrev Inv-loop : tie.InvT-loop
 Inv-loop route count path₀ i₀ path i = (i ≤ count) × (length path ≡ length path₀) × (path ≡ take i route ++ drop i path₀)
@@ -15,45 +14,35 @@ Inv-loop route count path₀ i₀ path i = (i ≤ count) × (length path ≡ len
 abbrev μ-loop : tie.MeasureT-loop
 μ-loop route count path₀ i₀ path i = count - i
 
--- src/finding.rt:139:5
 loop-holds : tie.Need-loop-holds Inv-loop μ-loop
 loop-holds c = (omega arith, refl, refl)
 
--- src/finding.rt:140:19
 mul-path : tie.Need-mul-path Inv-loop μ-loop
 mul-path c = omega arith
 
--- src/finding.rt:140:19
 shared-slice-read-path : tie.Need-shared-slice-read-path Inv-loop μ-loop
 shared-slice-read-path c = omega arith
 
--- src/finding.rt:140:9
 mul-path-2 : tie.Need-mul-path-2 Inv-loop μ-loop
 mul-path-2 c = omega arith
 
--- src/finding.rt:140:9
 slice-write-path : tie.Need-slice-write-path Inv-loop μ-loop
 slice-write-path c = omega arith
 
--- src/finding.rt:141:9
 add-i : tie.Need-add-i Inv-loop μ-loop
 add-i c = omega arith
 
--- src/finding.rt:139:5
 loop-less : tie.Need-loop-less Inv-loop μ-loop
 loop-less c = omega arith
 
--- src/finding.rt:139:5
 loop-again : tie.Need-loop-again Inv-loop μ-loop
 loop-again c = let h = c .before .before in
     let a = h .before .args in
     (omega arith, simp length-set (omega arith), rw (h .loop .inv .2) (copy-more (a .route .now) (a .path .now) (h .loop .i) (omega arith) (omega arith)))
 
--- src/finding.rt:134:1
 same-length : tie.Need-same-length Inv-loop μ-loop
 same-length c = omega arith
 
--- src/finding.rt:134:1
 returns : tie.Need-returns Inv-loop μ-loop
 returns c = let a = c .before .before .args in
     let done : c .before .loop .i ≡ a .count = omega arith in

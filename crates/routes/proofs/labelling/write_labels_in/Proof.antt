@@ -1,4 +1,5 @@
 -- `labelling::write_labels_in` writes the labels of the column as document 01 has them. Assumes nothing.
+-- the labels keep their number
 use Prim.Native.Nat.{ℕ, _+_, _-_}
 use native.Mathlib.Omega.{arith}
 use mathlib.Core.Path.{_≡_, _∙_, ap₂}
@@ -12,7 +13,6 @@ use Rattle.routes.proofs.LabelLaws.{narrow-at, labels-are}
 use Rattle.routes.proofs.labelling.write_labels_in.Statement.{statement}
 use Rattle.routes.proofs.labelling.write_labels_in.Tie as tie
 
--- the labels keep their number
 exact-long : (c : tie.After-label-column) → length (c .label-column .last .1 .1 .1 .1 .0) ≡ netOf (c .before .before .before .before .before .args .image .now) .nodes + 1
 exact-long c = omega (arith, c .label-column .kept, c .before .before .before .before .before .pre .1 .1 .0)
 

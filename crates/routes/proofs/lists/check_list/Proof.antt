@@ -1,4 +1,5 @@
 -- `lists::check_list` lends parts of local arrays. Assumes nothing.
+-- the arrays have room for the arcs
 use Prim.Native.Nat.{_≤_}
 use mathlib.Core.Path.{sym}
 use borrow.Author.Needs.{needs}
@@ -7,7 +8,6 @@ use Rattle.routes.proofs.RoomLaws.{part-long}
 use Rattle.routes.proofs.lists.check_list.Statement.{statement}
 use Rattle.routes.proofs.lists.check_list.Tie as tie
 
--- the arrays have room for the arcs
 arcs-fit : (c : tie.After-shared-slice-known2) → c .before .before .args .m ≤ 1000
 arcs-fit c = few-arcs (c .before .before .pre .0)
 

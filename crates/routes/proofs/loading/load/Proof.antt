@@ -1,3 +1,4 @@
+-- `routes::loading::load` meets its contract. Assumes nothing.
 use native.Mathlib.Omega.{arith}
 use mathlib.Core.Path.{_∙_}
 use Rattle.labels.proofs.ArcLaws.{chainable-of}
@@ -6,18 +7,10 @@ use Rattle.routes.proofs.LoadLaws.{rising-tails, loaded}
 use borrow.Author.Needs.{needs}
 use Rattle.routes.proofs.loading.load.Statement.{statement}
 use Rattle.routes.proofs.loading.load.Tie as tie
-use Rattle.routes.proofs.loading.load.Reads as reads
-use Rattle.routes.proofs.loading.load.Lts as lts
-use Rattle.labels.proofs.chain.Reads as chain-reads
-use Rattle.labels.proofs.least.Reads as least-reads
-use Rattle.ranking.proofs.star.Reads as star-reads
-use Rattle.routes.proofs.decoding.decode.Reads as decode-reads
 
--- src/loading.rt:35:5
 decode-requires : tie.Need-decode-requires
 decode-requires c κs = let p = c .before .before .before .before .before .before .before .before .before .before .before .before .before .before .pre in (p .0 .0, (p .1 .0 .tails-long, p .1 .0 .heads-long, p .1 .0 .weights-long))
 
--- src/loading.rt:36:5
 star-requires : tie.Need-star-requires
 star-requires c κs = rising-tails (c .before .before .before .before .before .before .before .before .decode .ensures)
 
@@ -27,13 +20,11 @@ decoded c = c .before .before .before .before .before .before .before .before .b
 abbrev start : tie.After-decode → tie.Start
 start c = c .before .before .before .before .before .before .before .before .before .before .before .before .before .before .before
 
--- src/loading.rt:37:5
 chain-requires : tie.Need-chain-requires
 chain-requires c κs = let d = decoded (c .before .before .before .before .before) in
     let p = start d .pre in
     chainable-of (d .decode .ensures .arcs) (p .1 .1 .ins-long) (omega (arith, p .1 .0, d .decode .kept))
 
--- src/loading.rt:38:5
 least-requires : tie.Need-least-requires
 least-requires c κs = let h = c .before .before .before .before .before .before .before .before .before .before .before in
     let d = decoded (h .before .before .before .before .before .before) in
@@ -41,43 +32,33 @@ least-requires c κs = let h = c .before .before .before .before .before .before
     let r = p .1 .1 in
     (arrays-for (d .decode .ensures .arcs) (h .chain .ensures) (r .labels-long) (omega (arith, r .ins-long, r .labels-long, h .chain .kept)) (omega (arith, r .bars-long, r .labels-long)), (record { place = omega (arith, p .0 .1, r .labels-long); free = r .no-bars _ }, record { dirty-long = omega (arith, r .dirty-long, r .labels-long); queue-long = omega (arith, r .queue-long, r .labels-long) }))
 
--- src/loading.rt:14:1
 same-length : tie.Need-same-length
 same-length c = search needs
 
--- src/loading.rt:14:1
 same-length-2 : tie.Need-same-length-2
 same-length-2 c = search needs
 
--- src/loading.rt:14:1
 same-length-3 : tie.Need-same-length-3
 same-length-3 c = search needs
 
--- src/loading.rt:14:1
 same-length-4 : tie.Need-same-length-4
 same-length-4 c = search needs
 
--- src/loading.rt:14:1
 same-length-5 : tie.Need-same-length-5
 same-length-5 c = search needs
 
--- src/loading.rt:14:1
 same-length-6 : tie.Need-same-length-6
 same-length-6 c = search needs
 
--- src/loading.rt:14:1
 same-length-7 : tie.Need-same-length-7
 same-length-7 c = search needs
 
--- src/loading.rt:14:1
 same-length-8 : tie.Need-same-length-8
 same-length-8 c = search needs
 
--- src/loading.rt:14:1
 same-length-9 : tie.Need-same-length-9
 same-length-9 c = search needs
 
--- src/loading.rt:14:1
 returns : tie.Need-returns
 returns c = let l = c .before .before .before .before .before .before in
     let h = l .before .before .before .before .before .before .before .before .before .before .before .before in
