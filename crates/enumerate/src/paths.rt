@@ -52,24 +52,26 @@ fn push(rows: &mut [Row], count: usize, row: Row) -> usize {
     count
 }
 
-// Puts the path with the arc's head as one node more behind the first `count`, if the arc leaves its last
-// node for a node that it does not have.
-fn push_longer(rows: &mut [Row], count: usize, row: Row, tail: u16, head: u16) -> usize {
-    if tail != last(row) || has(row, head) {
+// Puts the path with one node more behind the first `count`, if the path does not have the node.
+fn push_longer(rows: &mut [Row], count: usize, row: Row, node: u16) -> usize {
+    if has(row, node) {
         return count;
     }
-    push(rows, count, with(row, head))
+    push(rows, count, with(row, node))
 }
 
 // Puts the path with one node more behind the first `count`, in every way there is. A path that has come
 // to the goal goes no further.
 fn push_all_longer(arcs: &[u16], goal: u16, rows: &mut [Row], count: usize, row: Row) -> usize {
-    if last(row) == goal {
+    let end = last(row);
+    if end == goal {
         return count;
     }
     let mut longer = count;
     for i in 0..arcs.len() / 2 {
-        longer = push_longer(rows, longer, row, arcs[2 * i], arcs[2 * i + 1]);
+        if arcs[2 * i] == end {
+            longer = push_longer(rows, longer, row, arcs[2 * i + 1]);
+        }
     }
     longer
 }

@@ -68,24 +68,27 @@ pub fn rank(u: u32, rows: &mut [Row], costs: &mut [Costs]) {
     }
 }
 
-// best(u) for each column u, from all paths from start to goal: the cost of the first in the ranking
-// order.
-pub fn bests(rows: &[Row], costs: &[Costs]) -> Costs {
+// best(u) for each of the columns 1 to k, from all paths from start to goal: the cost of the first in the
+// ranking order.
+pub fn bests(k: u32, rows: &[Row], costs: &[Costs]) -> Costs {
     let mut result = [0u64; 8];
     for u in 1..9u32 {
+        if k < u {
+            return result;
+        }
         let least = costs_at(costs, first(u, rows, costs, 0));
         result[u as usize - 1] = in_column(least, u);
     }
     result
 }
 
-// The label of a node in each column, from all paths from it to the goal.
-pub fn labels(node: u16, goal: u16, rows: &[Row], costs: &[Costs]) -> Costs {
+// The label of a node in each of the columns 1 to k, from all paths from it to the goal.
+pub fn labels(k: u32, node: u16, goal: u16, rows: &[Row], costs: &[Costs]) -> Costs {
     if node == goal {
         return [0; 8];
     }
     if rows.len() == 0 {
         return [UNREACHED; 8];
     }
-    bests(rows, costs)
+    bests(k, rows, costs)
 }

@@ -5,6 +5,8 @@ use image::Checked;
 use image::Refusal;
 use image::Sizes;
 use image::Unpacked;
+use routes::Labelled;
+use routes::Regretted;
 
 // A refusal's number and place; or the number 0, the place 0 and the values that the call gave, filled
 // up with 0.
@@ -37,6 +39,20 @@ pub fn sizes(n: u32, m: u32, k: u32) -> Answer {
         number: 0,
         place: 0,
         values: [n, m, k, 0, 0, 0],
+    }
+}
+
+// Label's result, which has no values.
+pub fn written() -> Answer {
+    refusal(0, 0)
+}
+
+// Regret's result.
+pub fn measure(figure: u32, worst: u32) -> Answer {
+    Answer {
+        number: 0,
+        place: 0,
+        values: [figure, worst, 0, 0, 0, 0],
     }
 }
 
@@ -84,6 +100,20 @@ pub fn of_unpack(answer: Unpacked) -> Answer {
     match answer {
         Unpacked::Lists(given) => of_sizes(given),
         Unpacked::Refused(row) => of_refusal(row),
+    }
+}
+
+pub fn of_label(answer: Labelled) -> Answer {
+    match answer {
+        Labelled::Written => written(),
+        Labelled::Refused(row) => of_refusal(row),
+    }
+}
+
+pub fn of_regret(answer: Regretted) -> Answer {
+    match answer {
+        Regretted::Measured(given) => measure(given.figure, given.worst),
+        Regretted::Refused(row) => of_refusal(row),
     }
 }
 

@@ -5,13 +5,17 @@ mod answers;
 mod image_calls;
 mod image_changes;
 mod image_networks;
-mod image_random;
 mod image_refusals;
 mod networks;
 mod numbers;
+mod path_calls;
+mod path_cases;
+mod path_random;
+mod path_refusals;
 mod plain_answers;
 mod plain_image;
 mod random;
+mod random_networks;
 mod report;
 mod slices;
 
@@ -19,5 +23,7 @@ fn main() {
     image_networks::run();
     image_refusals::run();
     image_changes::run();
-    image_random::run();
+    path_cases::run();
+    path_refusals::run();
+    random_networks::run();
 }

@@ -7,10 +7,10 @@ use Rattle.enumerate.proofs.ranking.bests.Statement.{statement}
 use Rattle.enumerate.proofs.ranking.bests.Tie as tie
 
 abbrev Inv-loop : tie.InvT-loop
-Inv-loop rows costs result₀ u₀ result u = (1 ≤ u) × (length result ≡ 8)
+Inv-loop k rows costs result₀ u₀ result u = (1 ≤ u) × (length result ≡ 8)
 
 abbrev μ-loop : tie.MeasureT-loop
-μ-loop rows costs result₀ u₀ result u = 9 - u
+μ-loop k rows costs result₀ u₀ result u = 9 - u
 
 pub bests-spec : {M : Type 1} → statement M
 bests-spec =
@@ -18,6 +18,7 @@ bests-spec =
     (tie.spec
     Inv-loop
     μ-loop
+    (λ c. search needs)
     (λ c. search needs)
     (λ c κs. search needs)
     (λ c κs. search needs)

@@ -1,0 +1,79 @@
+// The calls of the path layer, each held to the answer that it should give and to what the slice that is
+// lent to it should hold after it.
+use super::answers::Answer;
+use super::answers::of_label;
+use super::answers::of_regret;
+use super::answers::refusal;
+use super::answers::same_answer;
+use super::answers::written;
+use super::report::LABEL;
+use super::report::Report;
+use super::slices::NUMBER_PATTERN;
+use super::slices::holds_numbers;
+
+// Places for 200 nodes, and some more.
+const PLACES: usize = 210;
+
+// Label into a slice that holds the pattern.
+fn label_into(
+    image: &[u8],
+    column: u32,
+    goal: u32,
+    labels: &mut [u32],
+    expected: Answer,
+    written: &[u32],
+) -> bool {
+    let answer = of_label(routes::label(image, column, goal, labels));
+    if !same_answer(answer, expected) {
+        return false;
+    }
+    holds_numbers(labels, written)
+}
+
+// Whether Label into a slice of `room` places gives the answer, and writes these labels and no others.
+pub fn label_agrees(
+    image: &[u8],
+    column: u32,
+    goal: u32,
+    room: usize,
+    expected: Answer,
+    written: &[u32],
+) -> bool {
+    let mut places = [NUMBER_PATTERN; PLACES];
+    if PLACES < room {
+        return false;
+    }
+    label_into(image, column, goal, &mut places[0..room], expected, written)
+}
+
+// Label of a network with as many nodes as labels, into a slice that is exactly long enough, into a
+// longer one and into one a place too short.
+pub fn note_label(
+    mut report: Report,
+    image: &[u8],
+    column: u32,
+    goal: u32,
+    labels: &[u32],
+) -> Report {
+    let n = labels.len();
+    if n == 0 {
+        return report.note(LABEL, false);
+    }
+    if 200 < n {
+        return report.note(LABEL, false);
+    }
+    report = report.note(LABEL, label_agrees(image, column, goal, n, written(), labels));
+    report = report.note(LABEL, label_agrees(image, column, goal, n + 9, written(), labels));
+    report.note(LABEL, label_agrees(image, column, goal, n - 1, refusal(13, 0), &[]))
+}
+
+// Whether Regret gives the answer.
+pub fn regret_agrees(
+    image: &[u8],
+    start: u32,
+    goal: u32,
+    nodes: &[u16],
+    expected: Answer,
+) -> bool {
+    same_answer(of_regret(routes::regret(image, start, goal, nodes)), expected)
+}

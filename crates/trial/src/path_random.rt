@@ -1,0 +1,295 @@
+// Random networks: the calls of the path layer, held to the plain enumeration of all paths.
+use super::answers::Answer;
+use super::answers::measure;
+use super::answers::refusal;
+use super::networks::number_at;
+use super::numbers::count;
+use super::numbers::narrow;
+use super::numbers::node;
+use super::path_calls::note_label;
+use super::path_calls::regret_agrees;
+use super::report::LABEL;
+use super::report::REGRET;
+use super::report::Report;
+use enumerate::Costs;
+use enumerate::NodeList;
+use enumerate::Row;
+
+// Regret's answer for a list of up to eight nodes, which is given as a row too.
+fn regret_answer(
+    start: u32,
+    goal: u32,
+    arcs: &[u16],
+    costs: &[u32],
+    bests: Costs,
+    list: &[u16],
+    row: Row,
+) -> Answer {
+    let kind = enumerate::check_list(arcs, node(start), node(goal), list);
+    if let NodeList::Wrong(place) = kind {
+        return refusal(14, count(place));
+    }
+    let own = enumerate::regret(enumerate::path_costs(arcs, costs, row), bests);
+    measure(narrow(own.figure), own.worst)
+}
+
+// A row's node at i, if it is one of the first `size`.
+fn kept(node: u16, i: usize, size: usize) -> u16 {
+    if i < size { node } else { 0 }
+}
+
+// The row of the first `size` nodes.
+fn beginning(mut row: Row, size: usize) -> Row {
+    for i in 0..8usize {
+        row[i] = kept(row[i], i, size);
+    }
+    row
+}
+
+// Regret of the list of a row's first `length` nodes.
+fn note_list(
+    report: Report,
+    start: u32,
+    goal: u32,
+    arcs: &[u16],
+    costs: &[u32],
+    bests: Costs,
+    row: Row,
+    length: usize,
+    image: &[u8],
+) -> Report {
+    if 8 < length {
+        return report.note(REGRET, false);
+    }
+    let first = beginning(row, length);
+    let list = &row[0..length];
+    let expected = regret_answer(start, goal, arcs, costs, bests, list, first);
+    report.note(REGRET, regret_agrees(image, start, goal, list, expected))
+}
+
+// A node from 0 to n + 1.
+fn drawn_node(n: u32, number: u32) -> u16 {
+    if 200 < n {
+        return 0;
+    }
+    node(number % (n + 2))
+}
+
+// A row of nodes from 0 to n + 1, by the numbers from an index on, with the start in front.
+fn drawn_row(n: u32, start: u32, numbers: &[u32], from: u32) -> Row {
+    let mut row = [0u16; 8];
+    for i in 0..8usize {
+        row[i] = drawn_node(n, number_at(numbers, from as usize + i));
+    }
+    row[0] = node(start);
+    row
+}
+
+// The row with another node at a place.
+fn changed_row(mut row: Row, place: u32, other: u16) -> Row {
+    row[(place % 8) as usize] = other;
+    row
+}
+
+// Regret of a path, of the path with one node changed or without its last node, and of a drawn list.
+fn note_lists(
+    mut report: Report,
+    n: u32,
+    start: u32,
+    goal: u32,
+    arcs: &[u16],
+    costs: &[u32],
+    bests: Costs,
+    path: Row,
+    numbers: &[u32],
+    image: &[u8],
+) -> Report {
+    let from = 50 * (goal % 9) + 6 * (start % 9);
+    let place = number_at(numbers, from as usize);
+    let other = drawn_node(n, number_at(numbers, from as usize + 1));
+    let some = number_at(numbers, from as usize + 2) % 9;
+    let length = enumerate::length(path);
+    let drawn = drawn_row(n, start, numbers, from);
+    let changed = changed_row(path, place, other);
+    report = note_list(report, start, goal, arcs, costs, bests, path, length, image);
+    report = note_list(report, start, goal, arcs, costs, bests, changed, length, image);
+    report = note_list(report, start, goal, arcs, costs, bests, drawn, some as usize, image);
+    if length == 0 {
+        return report;
+    }
+    note_list(report, start, goal, arcs, costs, bests, path, length - 1, image)
+}
+
+// One of the paths, or a row of zeros if there is none.
+fn drawn_path(rows: &[Row], number: u32) -> Row {
+    if rows.len() == 0 {
+        return [0; 8];
+    }
+    let at = number as usize % rows.len();
+    if at < rows.len() { rows[at] } else { [0; 8] }
+}
+
+fn put_number(numbers: &mut [u32], i: usize, number: u32) {
+    if i < numbers.len() {
+        numbers[i] = number;
+    }
+}
+
+// Puts the labels of a node into the table, which has eight places for each column.
+fn put_labels(labels: &mut [u32], start: u32, of_node: Costs) {
+    let at = (start % 9) as usize;
+    if at == 0 {
+        return;
+    }
+    for u in 0..8usize {
+        put_number(labels, 8 * u + at - 1, narrow(of_node[u]));
+    }
+}
+
+// All paths from a start to a goal with their costs, and their number.
+fn lay_out_paths(
+    start: u32,
+    goal: u32,
+    arcs: &[u16],
+    costs: &[u32],
+    rows: &mut [Row],
+    prices: &mut [Costs],
+) -> usize {
+    let paths = enumerate::all_paths(arcs, node(start), node(goal), rows);
+    if rows.len() < paths {
+        return paths;
+    }
+    enumerate::all_costs(arcs, costs, &rows[0..paths], prices);
+    paths
+}
+
+// The calls from a start to a goal, by all paths with their costs. Puts the start's labels into the table.
+fn note_pair(
+    report: Report,
+    n: u32,
+    k: u32,
+    start: u32,
+    goal: u32,
+    arcs: &[u16],
+    costs: &[u32],
+    numbers: &[u32],
+    image: &[u8],
+    rows: &[Row],
+    prices: &[Costs],
+    labels: &mut [u32],
+) -> Report {
+    let bests = enumerate::labels(k, node(start), node(goal), rows, prices);
+    put_labels(labels, start, bests);
+    if start == goal {
+        return report;
+    }
+    let path = drawn_path(rows, number_at(numbers, start as usize));
+    note_lists(report, n, start, goal, arcs, costs, bests, path, numbers, image)
+}
+
+// Label with a goal, in each column, held to the table of labels.
+fn note_columns(
+    mut report: Report,
+    n: u32,
+    k: u32,
+    goal: u32,
+    image: &[u8],
+    labels: &[u32],
+) -> Report {
+    for u in 0..k {
+        let from = 8 * (u % 8) as usize;
+        let end = from + (n % 9) as usize;
+        if labels.len() < end {
+            return report.note(LABEL, false);
+        }
+        report = note_label(report, image, u + 1, goal, &labels[from..end]);
+    }
+    report
+}
+
+// The calls for one of the 64 pairs of eight nodes, if the network has both. Label comes with the last
+// start, when the table of labels is full.
+fn note_code(
+    mut report: Report,
+    code: u32,
+    n: u32,
+    k: u32,
+    arcs: &[u16],
+    costs: &[u32],
+    numbers: &[u32],
+    image: &[u8],
+    rows: &mut [Row],
+    prices: &mut [Costs],
+    labels: &mut [u32],
+) -> Report {
+    let start = code % 8 + 1;
+    let goal = code / 8 + 1;
+    if n < start || n < goal {
+        return report;
+    }
+    let paths = lay_out_paths(start, goal, arcs, costs, rows, prices);
+    if rows.len() < paths {
+        return report.note(LABEL, false);
+    }
+    if prices.len() < paths {
+        return report.note(LABEL, false);
+    }
+    let all = &rows[0..paths];
+    let priced = &prices[0..paths];
+    report = note_pair(
+        report, n, k, start, goal, arcs, costs, numbers, image, all, priced, labels,
+    );
+    if start < n {
+        return report;
+    }
+    note_columns(report, n, k, goal, image, labels)
+}
+
+fn note_codes(
+    mut report: Report,
+    n: u32,
+    k: u32,
+    arcs: &[u16],
+    costs: &[u32],
+    numbers: &[u32],
+    image: &[u8],
+    rows: &mut [Row],
+    prices: &mut [Costs],
+    labels: &mut [u32],
+) -> Report {
+    for code in 0..64u32 {
+        report = note_code(
+            report, code, n, k, arcs, costs, numbers, image, rows, prices, labels,
+        );
+    }
+    report
+}
+
+// The calls of the path layer on a network of up to eight nodes, between all of them and in all columns.
+pub fn note_paths(
+    report: Report,
+    n: u32,
+    k: u32,
+    arcs: &[u16],
+    costs: &[u32],
+    numbers: &[u32],
+    image: &[u8],
+) -> Report {
+    let row = [0u16; 8];
+    let price = [0u64; 8];
+    let mut rows = [row; 3914];
+    let mut prices = [price; 1957];
+    let mut labels = [0u32; 64];
+    note_codes(
+        report,
+        n,
+        k,
+        arcs,
+        costs,
+        numbers,
+        image,
+        &mut rows,
+        &mut prices,
+        &mut labels,
+    )
+}
