@@ -8,8 +8,8 @@ use image::Unpacked;
 use routes::Labelled;
 use routes::Regretted;
 
-// A refusal's number and place; or the number 0, the place 0 and the values that the call gave, filled
-// up with 0.
+// A refusal's number and place; or the number 0, the place 0 and the values that the call gave,
+// filled up with 0.
 pub struct Answer {
     pub number: u32,
     pub place: u32,

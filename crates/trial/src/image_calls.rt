@@ -1,5 +1,5 @@
-// The calls of the image layer, each held to the answer that it should give and to what the slices that
-// are lent to it should hold after it.
+// The calls of the image layer, each held to the answer that it should give and to what the slices
+// that are lent to it should hold after it.
 use super::answers::Answer;
 use super::answers::length;
 use super::answers::of_build;
@@ -54,7 +54,8 @@ fn build_into(
     holds_bytes(image, written)
 }
 
-// Whether Build into a slice of `room` bytes gives the answer, and writes these bytes and no others.
+// Whether Build into a slice of `room` bytes gives the answer, and writes these bytes and no
+// others.
 pub fn build_agrees(
     n: u32,
     k: u32,
@@ -90,7 +91,8 @@ fn unpack_into(
     holds_numbers(costs, written_costs)
 }
 
-// Whether Unpack into slices of so many places gives the answer, and writes these lists and nothing else.
+// Whether Unpack into slices of so many places gives the answer, and writes these lists and nothing
+// else.
 pub fn unpack_agrees(
     image: &[u8],
     node_room: usize,
@@ -149,7 +151,8 @@ pub fn rebuild_agrees(image: &[u8]) -> bool {
     rebuild_with(image, &mut nodes, &mut costs)
 }
 
-// Every call with an image refuses it with this answer and writes nothing, whatever else it is given.
+// Every call with an image refuses it with this answer and writes nothing, whatever else it is
+// given.
 pub fn note_refused_image(mut report: Report, image: &[u8], expected: Answer) -> Report {
     report = report.note(CHECK, check_agrees(image, expected));
     report = report.note(UNPACK, unpack_agrees(image, 12, 12, expected, &[], &[]));

@@ -7,8 +7,8 @@ use super::networks::lay_out_s;
 use super::networks::s_byte;
 use super::report::Report;
 
-// Each row: an offset and a number of two bytes that is put there, the same once more, and the number
-// and place of the refusal.
+// Each row: an offset and a number of two bytes that is put there, the same once more, and the
+// number and place of the refusal.
 const CHANGED_FIELDS: [[u16; 6]; 34] = [
     [0, 7, 0, 7, 2, 0], // edition
     [0, 0, 0, 0, 2, 0],
@@ -66,7 +66,7 @@ fn note_changed_fields(report: Report, row: [u16; 6], image: &mut [u8]) -> Repor
     note_refused_image(report, image, refusal(row[4] as u32, row[5] as u32))
 }
 
-fn changed_fields(rows: &[[u16; 6]], image: &mut [u8]) -> Report {
+fn note_changed_rows(rows: &[[u16; 6]], image: &mut [u8]) -> Report {
     let mut report = Report::new();
     for i in 0..rows.len() {
         report = note_changed_fields(report, rows[i], image);
@@ -74,7 +74,13 @@ fn changed_fields(rows: &[[u16; 6]], image: &mut [u8]) -> Report {
     report
 }
 
-// The first `length` bytes of the image, or the image with zeros behind it; but not the image itself.
+fn changed_fields() {
+    let mut image = [0u8; 84];
+    note_changed_rows(&CHANGED_FIELDS, &mut image).print(b"changed fields");
+}
+
+// The first `length` bytes of the image, or the image with zeros behind it; but not the image
+// itself.
 fn note_length(report: Report, image: &[u8], length: usize) -> Report {
     if image.len() < length {
         return report;
@@ -89,12 +95,18 @@ fn note_length(report: Report, image: &[u8], length: usize) -> Report {
 }
 
 // Each length up to that of the slice.
-fn lengths(image: &[u8]) -> Report {
+fn note_lengths(image: &[u8]) -> Report {
     let mut report = Report::new();
     for length in 0..image.len() {
         report = note_length(report, image, length);
     }
     report
+}
+
+fn other_lengths() {
+    let mut image = [0u8; 120];
+    lay_out_s(&mut image);
+    note_lengths(&image).print(b"other lengths");
 }
 
 // The byte at an offset changed to each other value.
@@ -107,7 +119,8 @@ fn note_changed_byte(mut report: Report, image: &mut [u8], at: usize) -> Report 
     report
 }
 
-fn changed_bytes(image: &mut [u8]) -> Report {
+fn note_changed_bytes(image: &mut [u8]) -> Report {
+    lay_out_s(image);
     let mut report = Report::new();
     for at in 0..image.len() {
         report = note_changed_byte(report, image, at);
@@ -115,13 +128,13 @@ fn changed_bytes(image: &mut [u8]) -> Report {
     report
 }
 
-pub fn run() {
+fn changed_bytes() {
     let mut image = [0u8; 84];
-    changed_fields(&CHANGED_FIELDS, &mut image).print(b"changed fields");
-    let mut longer = [0u8; 120];
-    lay_out_s(&mut longer);
-    lengths(&longer).print(b"other lengths");
-    let mut changing = [0u8; 84];
-    lay_out_s(&mut changing);
-    changed_bytes(&mut changing).print(b"changed bytes");
+    note_changed_bytes(&mut image).print(b"changed bytes");
+}
+
+pub fn run() {
+    changed_fields();
+    other_lengths();
+    changed_bytes();
 }

@@ -1,5 +1,5 @@
-// Sound networks: Build gives the image of the lists, and Check and Unpack take it. Tried with network S,
-// the network without arcs and the largest network.
+// Sound networks: Build gives the image of the lists, and Check and Unpack take it. Tried with
+// network S, the network without arcs and the largest network.
 use super::answers::Answer;
 use super::answers::length;
 use super::answers::refusal;
@@ -101,37 +101,12 @@ fn network_s() {
     note_s(&image).print(b"network S");
 }
 
-// n = 2, m = 0, k = 1.
+// n = 2, m = 0, k = 1: the image is the header, 24 bytes.
 fn network_without_arcs() {
-    let image = [
-        1,
-        0,
-        2,
-        0,
-        0,
-        0,
-        1,
-        0,
-        24,
-        0,
-        0,
-        0,
-        24,
-        0,
-        0,
-        0,
-        24,
-        0,
-        0,
-        0,
-        0,
-        0,
-        0,
-        0,
-    ];
-    let report = note_network(Report::new(), 2, 1, &[], &[], &image);
+    let image = b"\x01\0\x02\0\0\0\x01\0\x18\0\0\0\x18\0\0\0\x18\0\0\0\0\0\0\0";
+    let report = note_network(Report::new(), 2, 1, &[], &[], image);
     report
-        .note(CHECK, check_agrees(&image, sizes(2, 0, 1)))
+        .note(CHECK, check_agrees(image, sizes(2, 0, 1)))
         .print(b"network without arcs");
 }
 

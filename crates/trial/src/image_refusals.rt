@@ -1,5 +1,5 @@
-// The refusal table on lists: what Build answers, and what Check and Unpack answer for the image of the
-// same lists.
+// The refusal table on lists: what Build answers, and what Check and Unpack answer for the image of
+// the same lists.
 use super::answers::refusal;
 use super::image_calls::build_agrees;
 use super::image_calls::note_refused_image;
@@ -118,8 +118,8 @@ fn costs_wrong(mut report: Report) -> Report {
     report
 }
 
-// Which row is given where several apply: the first arc in error and for one arc 6, 7, 8; arcs before
-// costs; the slice's length last.
+// Which row is given where several apply: the first arc in error and for one arc 6, 7, 8; arcs
+// before costs; the slice's length last.
 fn several_apply(mut report: Report) -> Report {
     report = all_refuse(report, 4, 1, &[1, 2, 1, 2, 0, 2], &[5, 6, 7], 8, 1);
     report = all_refuse(report, 4, 1, &[1, 2, 3, 3, 2, 5], &[5, 6, 7], 7, 1);

@@ -1,5 +1,5 @@
-// Networks for the tests: network S, networks of up to eight nodes from drawn numbers, the largest and the
-// line.
+// Networks for the tests: network S, networks of up to eight nodes from drawn numbers, the largest
+// and the line.
 use super::numbers::product;
 
 // Network S: its lists, and its image, four bytes to a row.
@@ -56,8 +56,9 @@ fn push(nodes: &mut [u16], count: usize, node: u16) -> usize {
     count
 }
 
-// Puts an arc behind the first `count` nodes, if it is one between n nodes and the number drawn for it is
-// low enough: `density` quarters of such arcs are taken. The arcs between eight nodes have codes 0 to 63.
+// Puts an arc behind the first `count` nodes, if it is one between n nodes and the number drawn for
+// it is low enough: `density` quarters of such arcs are taken. The arcs between eight nodes have
+// codes 0 to 63.
 fn add_arc(nodes: &mut [u16], count: usize, n: u32, code: u32, density: u32, number: u32) -> usize {
     let tail = code / 8 + 1;
     let head = code % 8 + 1;
@@ -71,8 +72,8 @@ fn add_arc(nodes: &mut [u16], count: usize, n: u32, code: u32, density: u32, num
     push(nodes, next, head as u16)
 }
 
-// Takes some of the arcs between n nodes, in rising order, by the numbers from index 8 on, and gives the
-// length of the list.
+// Takes some of the arcs between n nodes, in rising order, by the numbers from index 8 on, and
+// gives the length of the list.
 fn draw_arcs(n: u32, density: u32, numbers: &[u32], nodes: &mut [u16]) -> usize {
     let mut count = 0;
     for code in 0..64u32 {
@@ -108,8 +109,8 @@ pub struct Drawn {
     pub cost_count: usize,
 }
 
-// A network of 2 to 8 nodes and 1 to 8 columns, from 520 drawn numbers. Its lists are the beginnings of
-// the slices, as long as the result says; 112 nodes and 448 costs are the most.
+// A network of 2 to 8 nodes and 1 to 8 columns, from 520 drawn numbers. Its lists are the
+// beginnings of the slices, as long as the result says; 112 nodes and 448 costs are the most.
 pub fn draw_network(numbers: &[u32], nodes: &mut [u16], costs: &mut [u32]) -> Drawn {
     let n = 2 + number_at(numbers, 0) % 7;
     let k = 1 + number_at(numbers, 1) % 8;
@@ -126,8 +127,8 @@ pub fn draw_network(numbers: &[u32], nodes: &mut [u16], costs: &mut [u32]) -> Dr
     }
 }
 
-// The node list of 200 nodes with five arcs each, to the five lowest other nodes: a tail at each even
-// index, and its head behind it.
+// The node list of 200 nodes with five arcs each, to the five lowest other nodes: a tail at each
+// even index, and its head behind it.
 fn largest_node(at: usize) -> usize {
     let tail = at / 10 + 1;
     let head = at % 10 / 2 + 1;

@@ -1,5 +1,5 @@
-// What Check and Build answer by the refusal table of document 01, row by row, written apart from the
-// library.
+// What Check and Build answer by the refusal table of document 01, row by row, written apart from
+// the library.
 use super::answers::Answer;
 use super::answers::length;
 use super::answers::refusal;
@@ -134,8 +134,8 @@ fn header_row(image: &[u8]) -> u32 {
     0
 }
 
-// Check's answer, with slices for the image's lists. Where they are too short, which they are not after
-// rows 1 to 5, the answer is none that a call gives.
+// Check's answer, with slices for the image's lists. Where they are too short, which they are not
+// after rows 1 to 5, the answer is none that a call gives.
 fn check_with(image: &[u8], nodes: &mut [u16], costs: &mut [u32]) -> Answer {
     let row = header_row(image);
     if row != 0 {

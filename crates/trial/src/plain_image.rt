@@ -1,5 +1,5 @@
-// The image of a network as document 01 lays it out, written apart from the library: each byte by its
-// offset, and each number by its bytes.
+// The image of a network as document 01 lays it out, written apart from the library: each byte by
+// its offset, and each number by its bytes.
 use super::numbers::count;
 use super::numbers::wide8;
 use super::numbers::wide16;
@@ -60,7 +60,8 @@ fn image_byte(n: u32, k: u32, nodes: &[u16], costs: &[u32], at: usize) -> u8 {
     0
 }
 
-// Writes the image of two lists, the first of even length, over a slice that is as long as the image.
+// Writes the image of two lists, the first of even length, over a slice that is as long as the
+// image.
 pub fn encode(n: u32, k: u32, nodes: &[u16], costs: &[u32], image: &mut [u8]) {
     for at in 0..image.len() {
         image[at] = image_byte(n, k, nodes, costs, at);

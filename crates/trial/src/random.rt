@@ -1,5 +1,5 @@
-// A generator of numbers that are the same at every run: Lehmer's, with the multiplier 48,271 modulo
-// the prime 2^31 - 1. A state is 1 to 2^31 - 2.
+// A generator of numbers that are the same at every run: Lehmer's, with the multiplier 48,271
+// modulo the prime 2^31 - 1. A state is 1 to 2^31 - 2.
 pub struct Random {
     pub state: u32,
 }

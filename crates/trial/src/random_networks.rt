@@ -1,4 +1,5 @@
-// Random networks, and random networks with something changed: the calls on their lists and their image.
+// Random networks, and random networks with something changed: the calls on their lists and their
+// image.
 use super::image_calls::build_agrees;
 use super::image_calls::note_image;
 use super::image_networks::note_network;

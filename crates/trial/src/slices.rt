@@ -32,7 +32,8 @@ fn number_after(written: &[u32], i: usize) -> u32 {
     }
 }
 
-// Whether a slice holds what was written from its first place on, and the pattern in every other place.
+// Whether a slice holds what was written from its first place on, and the pattern in every other
+// place.
 pub fn holds_bytes(slice: &[u8], written: &[u8]) -> bool {
     if slice.len() < written.len() {
         return false;
