@@ -44,8 +44,8 @@ fn arc_cost(column: &[u32], arc: usize) -> u64
     }
 }
 
-// The arcs of a path, by their index: for each node the arc to it from the node before, or the number
-// of arcs where there is none.
+// The arcs of a path, by their index: for each node the arc to it from the node before, or the
+// number of arcs where there is none.
 fn path_arcs(arcs: &[u16], row: Row) -> [usize; 8] {
     let mut used = [arcs.len() / 2; 8];
     for i in 1..8usize {

@@ -60,8 +60,8 @@ fn push_longer(rows: &mut [Row], count: usize, row: Row, node: u16) -> usize {
     push(rows, count, with(row, node))
 }
 
-// Puts the path with one node more behind the first `count`, in every way there is. A path that has come
-// to the goal goes no further.
+// Puts the path with one node more behind the first `count`, in every way there is. A path that has
+// come to the goal goes no further.
 fn push_all_longer(arcs: &[u16], goal: u16, rows: &mut [Row], count: usize, row: Row) -> usize {
     let end = last(row);
     if end == goal {
@@ -97,8 +97,8 @@ fn push_ending(rows: &mut [Row], count: usize, row: Row, goal: u16) -> usize {
     push(rows, count, row)
 }
 
-// All loopless paths from start to goal, in any order, in the first rows, and their number. Eight nodes
-// have at most 1,957 of them, and as many that end elsewhere: 3,914 rows are enough.
+// All loopless paths from start to goal, in any order, in the first rows, and their number. Eight
+// nodes have at most 1,957 of them, and as many that end elsewhere: 3,914 rows are enough.
 pub fn all_paths(arcs: &[u16], start: u16, goal: u16, rows: &mut [Row]) -> usize {
     let begun = paths_from(arcs, start, goal, rows);
     let mut count = 0;

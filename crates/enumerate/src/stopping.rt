@@ -1,5 +1,5 @@
-// Robust's answer, from the costs of all paths in the ranking order in column r: P1, P2 and so on stand
-// at the indices 0, 1 and so on.
+// Robust's answer, from the costs of all paths in the ranking order in column r: P1, P2 and so on
+// stand at the indices 0, 1 and so on.
 use super::costs::Costs;
 use super::costs::costs_at;
 use super::costs::in_column;

@@ -7,6 +7,7 @@ use image::Sizes;
 use image::Unpacked;
 use routes::Labelled;
 use routes::Regretted;
+use routes::Routed;
 
 // A refusal's number and place; or the number 0, the place 0 and the values that the call gave,
 // filled up with 0.
@@ -42,18 +43,18 @@ pub fn sizes(n: u32, m: u32, k: u32) -> Answer {
     }
 }
 
-// Label's result, which has no values.
-pub fn written() -> Answer {
-    refusal(0, 0)
-}
-
-// Regret's result.
-pub fn measure(figure: u32, worst: u32) -> Answer {
+// Shortest's result, a length and a cost, or Regret's, a figure and a worst column.
+pub fn pair(first: u32, second: u32) -> Answer {
     Answer {
         number: 0,
         place: 0,
-        values: [figure, worst, 0, 0, 0, 0],
+        values: [first, second, 0, 0, 0, 0],
     }
+}
+
+// Label's result, which has no values.
+pub fn written() -> Answer {
+    pair(0, 0)
 }
 
 // The number of a row of the refusal table, and the place that it names.
@@ -110,9 +111,16 @@ pub fn of_label(answer: Labelled) -> Answer {
     }
 }
 
+pub fn of_shortest(answer: Routed) -> Answer {
+    match answer {
+        Routed::Path(length, cost) => pair(length, cost),
+        Routed::Refused(row) => of_refusal(row),
+    }
+}
+
 pub fn of_regret(answer: Regretted) -> Answer {
     match answer {
-        Regretted::Measured(given) => measure(given.figure, given.worst),
+        Regretted::Measured(given) => pair(given.figure, given.worst),
         Regretted::Refused(row) => of_refusal(row),
     }
 }

@@ -10,12 +10,14 @@ use super::numbers::count;
 use super::numbers::product;
 use super::path_calls::label_agrees;
 use super::path_calls::regret_agrees;
+use super::path_calls::shortest_agrees;
 use super::plain_answers::check_answer;
 use super::report::CHECK;
 use super::report::LABEL;
 use super::report::REBUILD;
 use super::report::REGRET;
 use super::report::Report;
+use super::report::SHORTEST;
 use super::report::UNPACK;
 use super::slices::BYTE_PATTERN;
 use super::slices::NODE_PATTERN;
@@ -159,6 +161,8 @@ pub fn note_refused_image(mut report: Report, image: &[u8], expected: Answer) ->
     report = report.note(UNPACK, unpack_agrees(image, 0, 0, expected, &[], &[]));
     report = report.note(LABEL, label_agrees(image, 1, 4, 12, expected, &[]));
     report = report.note(LABEL, label_agrees(image, 0, 0, 0, expected, &[]));
+    report = report.note(SHORTEST, shortest_agrees(image, 1, 1, 4, 12, expected, &[]));
+    report = report.note(SHORTEST, shortest_agrees(image, 0, 0, 0, 0, expected, &[]));
     report = report.note(REGRET, regret_agrees(image, 1, 4, &[1, 3, 4], expected));
     report.note(REGRET, regret_agrees(image, 0, 0, &[], expected))
 }

@@ -1,9 +1,9 @@
 // The tests of the library. Each case holds what a call gave to what document 01 says that it
 // gives, and the program prints, for each kind of case, how many agreed and how many differed.
 //
-// The files image_*.rt test the image layer: image_calls.rt holds one call to its answer, and the
-// others make the cases. The answers come from document 01, or from plain_*.rt, which are written
-// apart from the library.
+// The files image_*.rt test the image layer and path_*.rt the path layer: .._calls.rt holds one
+// call to its answer, and the others make the cases. The answers come from document 01, or from
+// plain_*.rt and the crate enumerate, which are written apart from the library.
 
 mod answers;
 mod image_calls;

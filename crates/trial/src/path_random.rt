@@ -1,6 +1,6 @@
 // Random networks: the calls of the path layer, held to the plain enumeration of all paths.
 use super::answers::Answer;
-use super::answers::measure;
+use super::answers::pair;
 use super::answers::refusal;
 use super::networks::number_at;
 use super::numbers::count;
@@ -8,9 +8,11 @@ use super::numbers::narrow;
 use super::numbers::node;
 use super::path_calls::note_label;
 use super::path_calls::regret_agrees;
+use super::path_calls::shortest_agrees;
 use super::report::LABEL;
 use super::report::REGRET;
 use super::report::Report;
+use super::report::SHORTEST;
 use enumerate::Costs;
 use enumerate::NodeList;
 use enumerate::Row;
@@ -30,7 +32,7 @@ fn regret_answer(
         return refusal(14, count(place));
     }
     let own = enumerate::regret(enumerate::path_costs(arcs, costs, row), bests);
-    measure(narrow(own.figure), own.worst)
+    pair(narrow(own.figure), own.worst)
 }
 
 // A row's node at i, if it is one of the first `size`.
@@ -91,7 +93,8 @@ fn changed_row(mut row: Row, place: u32, other: u16) -> Row {
     row
 }
 
-// Regret of a path, of the path with one node changed or without its last node, and of a drawn list.
+// Regret of a path, of the path with one node changed or without its last node, and of a drawn
+// list.
 fn note_lists(
     mut report: Report,
     n: u32,
@@ -125,8 +128,7 @@ fn drawn_path(rows: &[Row], number: u32) -> Row {
     if rows.len() == 0 {
         return [0; 8];
     }
-    let at = number as usize % rows.len();
-    if at < rows.len() { rows[at] } else { [0; 8] }
+    enumerate::row_at(rows, number as usize % rows.len())
 }
 
 fn put_number(numbers: &mut [u32], i: usize, number: u32) {
@@ -163,9 +165,57 @@ fn lay_out_paths(
     paths
 }
 
-// The calls from a start to a goal, by all paths with their costs. Puts the start's labels into the table.
-fn note_pair(
+// Shortest in column u, by all paths with their costs. The slice is exactly long enough or longer.
+fn note_first(
     report: Report,
+    n: u32,
+    u: u32,
+    start: u32,
+    goal: u32,
+    image: &[u8],
+    rows: &[Row],
+    prices: &[Costs],
+) -> Report {
+    let room = n as usize + 9 * (u % 2) as usize;
+    if rows.len() == 0 {
+        let none = shortest_agrees(image, u, start, goal, room, refusal(15, 0), &[]);
+        return report.note(SHORTEST, none);
+    }
+    let at = enumerate::first(u, rows, prices, 0);
+    let cost = enumerate::in_column(enumerate::costs_at(prices, at), u);
+    let row = enumerate::row_at(rows, at);
+    let length = enumerate::length(row);
+    let found = pair(count(length), narrow(cost));
+    let agrees = shortest_agrees(image, u, start, goal, room, found, &row[0..length]);
+    report.note(SHORTEST, agrees)
+}
+
+// Shortest in each column, and into a slice that is a place too short.
+fn note_firsts(
+    mut report: Report,
+    n: u32,
+    k: u32,
+    start: u32,
+    goal: u32,
+    image: &[u8],
+    rows: &[Row],
+    prices: &[Costs],
+) -> Report {
+    if n == 0 {
+        return report.note(SHORTEST, false);
+    }
+    let short = shortest_agrees(image, 1, start, goal, n as usize - 1, refusal(13, 0), &[]);
+    report = report.note(SHORTEST, short);
+    for u in 1..=k {
+        report = note_first(report, n, u, start, goal, image, rows, prices);
+    }
+    report
+}
+
+// The calls from a start to a goal, by all paths with their costs. Puts the start's labels into the
+// table.
+fn note_pair(
+    mut report: Report,
     n: u32,
     k: u32,
     start: u32,
@@ -183,6 +233,7 @@ fn note_pair(
     if start == goal {
         return report;
     }
+    report = note_firsts(report, n, k, start, goal, image, rows, prices);
     let path = drawn_path(rows, number_at(numbers, start as usize));
     note_lists(report, n, start, goal, arcs, costs, bests, path, numbers, image)
 }
@@ -207,8 +258,8 @@ fn note_columns(
     report
 }
 
-// The calls for one of the 64 pairs of eight nodes, if the network has both. Label comes with the last
-// start, when the table of labels is full.
+// The calls for one of the 64 pairs of eight nodes, if the network has both. Label comes with the
+// last start, when the table of labels is full.
 fn note_code(
     mut report: Report,
     code: u32,
@@ -265,7 +316,8 @@ fn note_codes(
     report
 }
 
-// The calls of the path layer on a network of up to eight nodes, between all of them and in all columns.
+// The calls of the path layer on a network of up to eight nodes, between all of them and in all
+// columns.
 pub fn note_paths(
     report: Report,
     n: u32,

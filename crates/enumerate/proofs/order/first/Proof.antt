@@ -1,8 +1,8 @@
--- `enumerate::ranking::first` is safe and ends.
+-- `enumerate::order::first` is safe and ends.
 use Prim.Native.Nat.{_-_}
 use borrow.Author.Needs.{needs}
-use Rattle.enumerate.proofs.ranking.first.Statement.{statement}
-use Rattle.enumerate.proofs.ranking.first.Tie as tie
+use Rattle.enumerate.proofs.order.first.Statement.{statement}
+use Rattle.enumerate.proofs.order.first.Tie as tie
 
 abbrev Inv-loop : tie.InvT-loop
 Inv-loop u rows costs from least₀ i₀ i-end least i = Unit

@@ -1,8 +1,8 @@
--- `enumerate::ranking::list_before` is safe and ends.
+-- `enumerate::order::list_before` is safe and ends.
 use Prim.Native.Nat.{_-_}
 use borrow.Author.Needs.{needs}
-use Rattle.enumerate.proofs.ranking.list_before.Statement.{statement}
-use Rattle.enumerate.proofs.ranking.list_before.Tie as tie
+use Rattle.enumerate.proofs.order.list_before.Statement.{statement}
+use Rattle.enumerate.proofs.order.list_before.Tie as tie
 
 abbrev Inv-loop : tie.InvT-loop
 Inv-loop a b i₀ i = Unit

@@ -1,5 +1,5 @@
-// The ranking order in a column, and best and labels by it. Paths are rows, with the costs of each in a
-// second slice.
+// The ranking order in a column, and best and labels by it. Paths are rows, with the costs of each
+// in a second slice.
 use super::costs::Costs;
 use super::costs::costs_at;
 use super::costs::in_column;
@@ -19,7 +19,7 @@ fn list_before(a: Row, b: Row) -> bool {
     false
 }
 
-fn row_at(rows: &[Row], i: usize) -> Row {
+pub fn row_at(rows: &[Row], i: usize) -> Row {
     if i < rows.len() { rows[i] } else { [0; 8] }
 }
 
@@ -68,8 +68,8 @@ pub fn rank(u: u32, rows: &mut [Row], costs: &mut [Costs]) {
     }
 }
 
-// best(u) for each of the columns 1 to k, from all paths from start to goal: the cost of the first in the
-// ranking order.
+// best(u) for each of the columns 1 to k, from all paths from start to goal: the cost of the first
+// in the ranking order.
 pub fn bests(k: u32, rows: &[Row], costs: &[Costs]) -> Costs {
     let mut result = [0u64; 8];
     for u in 1..9u32 {

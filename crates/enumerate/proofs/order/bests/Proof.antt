@@ -1,10 +1,10 @@
--- `enumerate::ranking::bests` is safe and ends.
+-- `enumerate::order::bests` is safe and ends.
 use Prim.Native.Nat.{_-_, _≤_}
 use mathlib.Core.Path.{_≡_}
 use borrow.Author.Needs.{needs}
 use lib.ListN.{length}
-use Rattle.enumerate.proofs.ranking.bests.Statement.{statement}
-use Rattle.enumerate.proofs.ranking.bests.Tie as tie
+use Rattle.enumerate.proofs.order.bests.Statement.{statement}
+use Rattle.enumerate.proofs.order.bests.Tie as tie
 
 abbrev Inv-loop : tie.InvT-loop
 Inv-loop k rows costs result₀ u₀ result u = (1 ≤ u) × (length result ≡ 8)

@@ -1,10 +1,10 @@
--- `enumerate::ranking::rank` is safe and ends.
+-- `enumerate::order::rank` is safe and ends.
 use Prim.Native.Nat.{_-_}
 use mathlib.Core.Path.{_≡_}
 use borrow.Author.Needs.{needs}
 use lib.ListN.{length}
-use Rattle.enumerate.proofs.ranking.rank.Statement.{statement}
-use Rattle.enumerate.proofs.ranking.rank.Tie as tie
+use Rattle.enumerate.proofs.order.rank.Statement.{statement}
+use Rattle.enumerate.proofs.order.rank.Tie as tie
 
 abbrev Inv-loop : tie.InvT-loop
 Inv-loop u rows₀ costs₀ i₀ i-end rows costs i = (length rows ≡ length rows₀) × (length costs ≡ length costs₀)
