@@ -23,7 +23,7 @@ use super::report::UNPACK;
 
 // Build into a slice that is exactly long enough, into a longer one and into one a byte too short.
 fn note_builds(
-    mut report: Report,
+    report: Report,
     n: u32,
     k: u32,
     nodes: &[u16],
@@ -31,15 +31,20 @@ fn note_builds(
     image: &[u8],
 ) -> Report {
     let result = length(total(nodes, costs));
+    let short = refusal(13, 0);
     let room = total(nodes, costs) as usize;
-    report = report.note(BUILD, build_agrees(n, k, nodes, costs, room, result, image));
-    report = report.note(BUILD, build_agrees(n, k, nodes, costs, room + 9, result, image));
-    report.note(BUILD, build_agrees(n, k, nodes, costs, room - 1, refusal(13, 0), &[]))
+    let exact = build_agrees(n, k, nodes, costs, room, result, image);
+    let longer = build_agrees(n, k, nodes, costs, room + 9, result, image);
+    let shorter = build_agrees(n, k, nodes, costs, room - 1, short, &[]);
+    report
+        .note(BUILD, exact)
+        .note(BUILD, longer)
+        .note(BUILD, shorter)
 }
 
 // Unpack into slices that are exactly long enough, and into longer ones.
 fn note_unpacks(
-    mut report: Report,
+    report: Report,
     image: &[u8],
     result: Answer,
     nodes: &[u16],
@@ -47,17 +52,13 @@ fn note_unpacks(
 ) -> Report {
     let node_room = nodes.len();
     let cost_room = costs.len();
-    report = report.note(UNPACK, unpack_agrees(image, node_room, cost_room, result, nodes, costs));
-    report.note(UNPACK, unpack_agrees(image, node_room + 9, cost_room + 9, result, nodes, costs))
+    let exact = unpack_agrees(image, node_room, cost_room, result, nodes, costs);
+    let longer = unpack_agrees(image, node_room + 9, cost_room + 9, result, nodes, costs);
+    report.note(UNPACK, exact).note(UNPACK, longer)
 }
 
 // Unpack into slices of which one is a place too short, where the network has arcs.
-fn note_short_unpacks(
-    mut report: Report,
-    image: &[u8],
-    node_room: usize,
-    cost_room: usize,
-) -> Report {
+fn note_short_unpacks(report: Report, image: &[u8], node_room: usize, cost_room: usize) -> Report {
     if node_room == 0 {
         return report;
     }
@@ -65,8 +66,9 @@ fn note_short_unpacks(
         return report;
     }
     let short = refusal(13, 0);
-    report = report.note(UNPACK, unpack_agrees(image, node_room - 1, cost_room, short, &[], &[]));
-    report.note(UNPACK, unpack_agrees(image, node_room, cost_room - 1, short, &[], &[]))
+    let short_nodes = unpack_agrees(image, node_room - 1, cost_room, short, &[], &[]);
+    let short_costs = unpack_agrees(image, node_room, cost_room - 1, short, &[], &[]);
+    report.note(UNPACK, short_nodes).note(UNPACK, short_costs)
 }
 
 // All calls of the image layer, on a network's lists and its image.

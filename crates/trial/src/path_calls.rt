@@ -55,13 +55,7 @@ pub fn label_agrees(
 
 // Label of a network with as many nodes as labels, into a slice that is exactly long enough, into a
 // longer one and into one a place too short.
-pub fn note_label(
-    mut report: Report,
-    image: &[u8],
-    column: u32,
-    goal: u32,
-    labels: &[u32],
-) -> Report {
+pub fn note_label(report: Report, image: &[u8], column: u32, goal: u32, labels: &[u32]) -> Report {
     let n = labels.len();
     if n == 0 {
         return report.note(LABEL, false);
@@ -69,9 +63,13 @@ pub fn note_label(
     if 200 < n {
         return report.note(LABEL, false);
     }
-    report = report.note(LABEL, label_agrees(image, column, goal, n, written(), labels));
-    report = report.note(LABEL, label_agrees(image, column, goal, n + 9, written(), labels));
-    report.note(LABEL, label_agrees(image, column, goal, n - 1, refusal(13, 0), &[]))
+    let exact = label_agrees(image, column, goal, n, written(), labels);
+    let longer = label_agrees(image, column, goal, n + 9, written(), labels);
+    let shorter = label_agrees(image, column, goal, n - 1, refusal(13, 0), &[]);
+    report
+        .note(LABEL, exact)
+        .note(LABEL, longer)
+        .note(LABEL, shorter)
 }
 
 // Shortest into a slice that holds the pattern.
@@ -120,7 +118,7 @@ pub fn shortest_agrees(
 // Shortest of a network of n nodes, into a slice that is exactly long enough, into a longer one and
 // into one a place too short.
 pub fn note_shortest(
-    mut report: Report,
+    report: Report,
     image: &[u8],
     column: u32,
     start: u32,
@@ -140,18 +138,14 @@ pub fn note_shortest(
     let exact = shortest_agrees(image, column, start, goal, n, found, nodes);
     let longer = shortest_agrees(image, column, start, goal, n + 9, found, nodes);
     let shorter = shortest_agrees(image, column, start, goal, n - 1, short, &[]);
-    report = report.note(SHORTEST, exact);
-    report = report.note(SHORTEST, longer);
-    report.note(SHORTEST, shorter)
+    report
+        .note(SHORTEST, exact)
+        .note(SHORTEST, longer)
+        .note(SHORTEST, shorter)
 }
 
 // Whether Regret gives the answer.
-pub fn regret_agrees(
-    image: &[u8],
-    start: u32,
-    goal: u32,
-    nodes: &[u16],
-    expected: Answer,
-) -> bool {
-    same_answer(of_regret(routes::regret(image, start, goal, nodes)), expected)
+pub fn regret_agrees(image: &[u8], start: u32, goal: u32, nodes: &[u16], expected: Answer) -> bool {
+    let answer = of_regret(routes::regret(image, start, goal, nodes));
+    same_answer(answer, expected)
 }

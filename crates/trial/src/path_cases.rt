@@ -112,7 +112,13 @@ fn note_zero_costs(mut report: Report, image: &[u8]) -> Report {
 // n = 4, k = 1, arcs 1→3, 2→3, 2→4, 3→2, 3→4, all cost 0.
 fn zero_costs() {
     let mut image = [0u8; 64];
-    encode(4, 1, &[1, 3, 2, 3, 2, 4, 3, 2, 3, 4], &[0, 0, 0, 0, 0], &mut image);
+    encode(
+        4,
+        1,
+        &[1, 3, 2, 3, 2, 4, 3, 2, 3, 4],
+        &[0, 0, 0, 0, 0],
+        &mut image,
+    );
     note_zero_costs(Report::new(), &image).print(b"network of zero costs");
 }
 

@@ -93,8 +93,40 @@ fn changed_row(mut row: Row, place: u32, other: u16) -> Row {
     row
 }
 
-// Regret of a path, of the path with one node changed or without its last node, and of a drawn
-// list.
+// The list of a row's first `length` nodes.
+struct List {
+    row: Row,
+    length: usize,
+}
+
+// A list of one of four kinds: a path, the path without its last node, the path with one node
+// changed, and drawn nodes.
+fn drawn_list(kind: u32, n: u32, start: u32, path: Row, numbers: &[u32], from: u32) -> List {
+    let place = number_at(numbers, from as usize);
+    let other = drawn_node(n, number_at(numbers, from as usize + 1));
+    let some = number_at(numbers, from as usize + 2) % 9;
+    let length = enumerate::length(path);
+    if kind == 0 {
+        return List { row: path, length };
+    }
+    if kind == 1 && 0 < length {
+        return List {
+            row: path,
+            length: length - 1,
+        };
+    }
+    if kind == 2 {
+        let row = changed_row(path, place, other);
+        return List { row, length };
+    }
+    let row = drawn_row(n, start, numbers, from);
+    List {
+        row,
+        length: some as usize,
+    }
+}
+
+// Regret of four lists, of which the first is a path if there is one.
 fn note_lists(
     mut report: Report,
     n: u32,
@@ -108,19 +140,13 @@ fn note_lists(
     image: &[u8],
 ) -> Report {
     let from = 50 * (goal % 9) + 6 * (start % 9);
-    let place = number_at(numbers, from as usize);
-    let other = drawn_node(n, number_at(numbers, from as usize + 1));
-    let some = number_at(numbers, from as usize + 2) % 9;
-    let length = enumerate::length(path);
-    let drawn = drawn_row(n, start, numbers, from);
-    let changed = changed_row(path, place, other);
-    report = note_list(report, start, goal, arcs, costs, bests, path, length, image);
-    report = note_list(report, start, goal, arcs, costs, bests, changed, length, image);
-    report = note_list(report, start, goal, arcs, costs, bests, drawn, some as usize, image);
-    if length == 0 {
-        return report;
+    for kind in 0..4u32 {
+        let list = drawn_list(kind, n, start, path, numbers, from);
+        let row = list.row;
+        let length = list.length;
+        report = note_list(report, start, goal, arcs, costs, bests, row, length, image);
     }
-    note_list(report, start, goal, arcs, costs, bests, path, length - 1, image)
+    report
 }
 
 // One of the paths, or a row of zeros if there is none.
@@ -235,7 +261,18 @@ fn note_pair(
     }
     report = note_firsts(report, n, k, start, goal, image, rows, prices);
     let path = drawn_path(rows, number_at(numbers, start as usize));
-    note_lists(report, n, start, goal, arcs, costs, bests, path, numbers, image)
+    note_lists(
+        report,
+        n,
+        start,
+        goal,
+        arcs,
+        costs,
+        bests,
+        path,
+        numbers,
+        image,
+    )
 }
 
 // Label with a goal, in each column, held to the table of labels.
@@ -288,7 +325,18 @@ fn note_code(
     let all = &rows[0..paths];
     let priced = &prices[0..paths];
     report = note_pair(
-        report, n, k, start, goal, arcs, costs, numbers, image, all, priced, labels,
+        report,
+        n,
+        k,
+        start,
+        goal,
+        arcs,
+        costs,
+        numbers,
+        image,
+        all,
+        priced,
+        labels,
     );
     if start < n {
         return report;
@@ -310,7 +358,17 @@ fn note_codes(
 ) -> Report {
     for code in 0..64u32 {
         report = note_code(
-            report, code, n, k, arcs, costs, numbers, image, rows, prices, labels,
+            report,
+            code,
+            n,
+            k,
+            arcs,
+            costs,
+            numbers,
+            image,
+            rows,
+            prices,
+            labels,
         );
     }
     report

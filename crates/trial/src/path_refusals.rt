@@ -46,14 +46,20 @@ fn note_row(mut report: Report, image: &[u8], row: [u32; 7]) -> Report {
     let by_shortest = refusal(row[5], 0);
     let by_regret = refusal(row[6], 0);
     if row[4] != 0 {
-        report = report.note(LABEL, label_agrees(image, column, goal, room, by_label, &[]));
+        report = report.note(
+            LABEL,
+            label_agrees(image, column, goal, room, by_label, &[]),
+        );
     }
     if row[5] != 0 {
         let agrees = shortest_agrees(image, column, start, goal, room, by_shortest, &[]);
         report = report.note(SHORTEST, agrees);
     }
     if row[6] != 0 {
-        report = report.note(REGRET, regret_agrees(image, start, goal, &[1, 3, 4], by_regret));
+        report = report.note(
+            REGRET,
+            regret_agrees(image, start, goal, &[1, 3, 4], by_regret),
+        );
     }
     report
 }

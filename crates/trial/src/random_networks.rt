@@ -46,7 +46,10 @@ fn note_lists(
     if expected.number != 0 {
         return report.note(BUILD, build_agrees(n, k, nodes, costs, room, expected, &[]));
     }
-    report.note(BUILD, build_agrees(n, k, nodes, costs, room, expected, image))
+    report.note(
+        BUILD,
+        build_agrees(n, k, nodes, costs, room, expected, image),
+    )
 }
 
 // Changes one node number, to 0 to 9.

@@ -63,7 +63,12 @@ impl Report {
         print_line(title, b"unpack", self.agree[UNPACK], self.differ[UNPACK]);
         print_line(title, b"rebuild", self.agree[REBUILD], self.differ[REBUILD]);
         print_line(title, b"label", self.agree[LABEL], self.differ[LABEL]);
-        print_line(title, b"shortest", self.agree[SHORTEST], self.differ[SHORTEST]);
+        print_line(
+            title,
+            b"shortest",
+            self.agree[SHORTEST],
+            self.differ[SHORTEST],
+        );
         print_line(title, b"regret", self.agree[REGRET], self.differ[REGRET]);
     }
 }
