@@ -1,0 +1,14 @@
+pub mod PartLaws
+pub mod BranchLaws
+pub mod SplitLaws
+pub mod PoolLaws
+pub mod SearchLaws
+pub mod LateLaws
+pub mod WalkLaws
+pub mod FlagLaws
+pub mod StarLaws
+pub mod NetworkLaws
+pub mod ExitLaws
+pub mod LaidLaws
+pub mod FirstLaws
+pub mod AllLaws

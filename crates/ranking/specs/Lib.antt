@@ -1,0 +1,10 @@
+pub mod Branches
+pub mod Exits
+pub mod Flags
+pub mod Found
+pub mod Laid
+pub mod Parts
+pub mod Pool
+pub mod Search
+pub mod Star
+pub mod Walks
