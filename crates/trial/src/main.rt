@@ -14,6 +14,7 @@ mod networks;
 mod numbers;
 mod path_calls;
 mod path_cases;
+mod path_lists;
 mod path_random;
 mod path_refusals;
 mod plain_answers;

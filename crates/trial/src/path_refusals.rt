@@ -42,24 +42,17 @@ fn note_row(mut report: Report, image: &[u8], row: [u32; 7]) -> Report {
     let start = row[1];
     let goal = row[2];
     let room = row[3] as usize;
-    let by_label = refusal(row[4], 0);
-    let by_shortest = refusal(row[5], 0);
-    let by_regret = refusal(row[6], 0);
+    let label = label_agrees(image, column, goal, room, refusal(row[4], 0), &[]);
+    let shortest = shortest_agrees(image, column, start, goal, room, refusal(row[5], 0), &[]);
+    let regret = regret_agrees(image, start, goal, &[1, 3, 4], refusal(row[6], 0));
     if row[4] != 0 {
-        report = report.note(
-            LABEL,
-            label_agrees(image, column, goal, room, by_label, &[]),
-        );
+        report = report.note(LABEL, label);
     }
     if row[5] != 0 {
-        let agrees = shortest_agrees(image, column, start, goal, room, by_shortest, &[]);
-        report = report.note(SHORTEST, agrees);
+        report = report.note(SHORTEST, shortest);
     }
     if row[6] != 0 {
-        report = report.note(
-            REGRET,
-            regret_agrees(image, start, goal, &[1, 3, 4], by_regret),
-        );
+        report = report.note(REGRET, regret);
     }
     report
 }

@@ -1,10 +1,10 @@
--- `trial::path_random::drawn_row` is safe and ends.
+-- `trial::path_lists::drawn_row` is safe and ends.
 use Prim.Native.Nat.{_-_}
 use mathlib.Core.Path.{_≡_}
 use borrow.Author.Needs.{needs}
 use lib.ListN.{length}
-use Rattle.trial.proofs.path_random.drawn_row.Statement.{statement}
-use Rattle.trial.proofs.path_random.drawn_row.Tie as tie
+use Rattle.trial.proofs.path_lists.drawn_row.Statement.{statement}
+use Rattle.trial.proofs.path_lists.drawn_row.Tie as tie
 
 abbrev Inv-loop : tie.InvT-loop
 Inv-loop n start numbers from row₀ i₀ row i = length row ≡ 8

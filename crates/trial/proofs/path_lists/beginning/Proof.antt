@@ -1,10 +1,10 @@
--- `trial::path_random::beginning` is safe and ends.
+-- `trial::path_lists::beginning` is safe and ends.
 use Prim.Native.Nat.{_-_}
 use mathlib.Core.Path.{_≡_}
 use borrow.Author.Needs.{needs}
 use lib.ListN.{length}
-use Rattle.trial.proofs.path_random.beginning.Statement.{statement}
-use Rattle.trial.proofs.path_random.beginning.Tie as tie
+use Rattle.trial.proofs.path_lists.beginning.Statement.{statement}
+use Rattle.trial.proofs.path_lists.beginning.Tie as tie
 
 abbrev Inv-loop : tie.InvT-loop
 Inv-loop size row₀ i₀ row i = length row ≡ 8
