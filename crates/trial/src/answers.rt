@@ -5,6 +5,9 @@ use image::Checked;
 use image::Refusal;
 use image::Sizes;
 use image::Unpacked;
+use routes::Labelled;
+use routes::Regretted;
+use routes::Routed;
 
 // A refusal's number and place; or the number 0, the place 0 and the values that the call gave,
 // filled up with 0.
@@ -38,6 +41,20 @@ pub fn sizes(n: u32, m: u32, k: u32) -> Answer {
         place: 0,
         values: [n, m, k, 0, 0, 0],
     }
+}
+
+// Shortest's result, a length and a cost, or Regret's, a figure and a worst column.
+pub fn pair(first: u32, second: u32) -> Answer {
+    Answer {
+        number: 0,
+        place: 0,
+        values: [first, second, 0, 0, 0, 0],
+    }
+}
+
+// Label's result, which has no values.
+pub fn written() -> Answer {
+    pair(0, 0)
 }
 
 // The number of a row of the refusal table, and the place that it names.
@@ -84,6 +101,27 @@ pub fn of_unpack(answer: Unpacked) -> Answer {
     match answer {
         Unpacked::Lists(given) => of_sizes(given),
         Unpacked::Refused(row) => of_refusal(row),
+    }
+}
+
+pub fn of_label(answer: Labelled) -> Answer {
+    match answer {
+        Labelled::Written => written(),
+        Labelled::Refused(row) => of_refusal(row),
+    }
+}
+
+pub fn of_shortest(answer: Routed) -> Answer {
+    match answer {
+        Routed::Path(length, cost) => pair(length, cost),
+        Routed::Refused(row) => of_refusal(row),
+    }
+}
+
+pub fn of_regret(answer: Regretted) -> Answer {
+    match answer {
+        Regretted::Measured(given) => pair(given.figure, given.worst),
+        Regretted::Refused(row) => of_refusal(row),
     }
 }
 

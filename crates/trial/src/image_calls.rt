@@ -8,8 +8,17 @@ use super::answers::of_unpack;
 use super::answers::same_answer;
 use super::numbers::count;
 use super::numbers::product;
+use super::path_calls::label_agrees;
+use super::path_calls::regret_agrees;
+use super::path_calls::shortest_agrees;
 use super::plain_answers::check_answer;
+use super::report::CHECK;
+use super::report::LABEL;
+use super::report::REBUILD;
+use super::report::REGRET;
 use super::report::Report;
+use super::report::SHORTEST;
+use super::report::UNPACK;
 use super::slices::BYTE_PATTERN;
 use super::slices::NODE_PATTERN;
 use super::slices::NUMBER_PATTERN;
@@ -144,12 +153,18 @@ pub fn rebuild_agrees(image: &[u8]) -> bool {
     rebuild_with(image, &mut nodes, &mut costs)
 }
 
-// Check and Unpack refuse an image with this answer. Unpack writes nothing, and its slices, be they
-// empty or not, do not matter.
+// Every call with an image refuses it with this answer and writes nothing, whatever else it is
+// given.
 pub fn note_refused_image(mut report: Report, image: &[u8], expected: Answer) -> Report {
-    report = report.note_check(check_agrees(image, expected));
-    report = report.note_unpack(unpack_agrees(image, 12, 12, expected, &[], &[]));
-    report.note_unpack(unpack_agrees(image, 0, 0, expected, &[], &[]))
+    report = report.note(CHECK, check_agrees(image, expected));
+    report = report.note(UNPACK, unpack_agrees(image, 12, 12, expected, &[], &[]));
+    report = report.note(UNPACK, unpack_agrees(image, 0, 0, expected, &[], &[]));
+    report = report.note(LABEL, label_agrees(image, 1, 4, 12, expected, &[]));
+    report = report.note(LABEL, label_agrees(image, 0, 0, 0, expected, &[]));
+    report = report.note(SHORTEST, shortest_agrees(image, 1, 1, 4, 12, expected, &[]));
+    report = report.note(SHORTEST, shortest_agrees(image, 0, 0, 0, 0, expected, &[]));
+    report = report.note(REGRET, regret_agrees(image, 1, 4, &[1, 3, 4], expected));
+    report.note(REGRET, regret_agrees(image, 0, 0, &[], expected))
 }
 
 // An image is refused as the plain check says, or else Unpack and Build give it back.
@@ -158,6 +173,6 @@ pub fn note_image(mut report: Report, image: &[u8]) -> Report {
     if expected.number != 0 {
         return note_refused_image(report, image, expected);
     }
-    report = report.note_check(check_agrees(image, expected));
-    report.note_rebuild(rebuild_agrees(image))
+    report = report.note(CHECK, check_agrees(image, expected));
+    report.note(REBUILD, rebuild_agrees(image))
 }

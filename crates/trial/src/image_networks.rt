@@ -15,11 +15,15 @@ use super::networks::lay_out_s;
 use super::plain_image::arc_count;
 use super::plain_image::encode;
 use super::plain_image::total;
+use super::report::BUILD;
+use super::report::CHECK;
+use super::report::REBUILD;
 use super::report::Report;
+use super::report::UNPACK;
 
 // Build into a slice that is exactly long enough, into a longer one and into one a byte too short.
 fn note_builds(
-    mut report: Report,
+    report: Report,
     n: u32,
     k: u32,
     nodes: &[u16],
@@ -27,15 +31,20 @@ fn note_builds(
     image: &[u8],
 ) -> Report {
     let result = length(total(nodes, costs));
+    let short = refusal(13, 0);
     let room = total(nodes, costs) as usize;
-    report = report.note_build(build_agrees(n, k, nodes, costs, room, result, image));
-    report = report.note_build(build_agrees(n, k, nodes, costs, room + 9, result, image));
-    report.note_build(build_agrees(n, k, nodes, costs, room - 1, refusal(13, 0), &[]))
+    let exact = build_agrees(n, k, nodes, costs, room, result, image);
+    let longer = build_agrees(n, k, nodes, costs, room + 9, result, image);
+    let shorter = build_agrees(n, k, nodes, costs, room - 1, short, &[]);
+    report
+        .note(BUILD, exact)
+        .note(BUILD, longer)
+        .note(BUILD, shorter)
 }
 
 // Unpack into slices that are exactly long enough, and into longer ones.
 fn note_unpacks(
-    mut report: Report,
+    report: Report,
     image: &[u8],
     result: Answer,
     nodes: &[u16],
@@ -43,17 +52,13 @@ fn note_unpacks(
 ) -> Report {
     let node_room = nodes.len();
     let cost_room = costs.len();
-    report = report.note_unpack(unpack_agrees(image, node_room, cost_room, result, nodes, costs));
-    report.note_unpack(unpack_agrees(image, node_room + 9, cost_room + 9, result, nodes, costs))
+    let exact = unpack_agrees(image, node_room, cost_room, result, nodes, costs);
+    let longer = unpack_agrees(image, node_room + 9, cost_room + 9, result, nodes, costs);
+    report.note(UNPACK, exact).note(UNPACK, longer)
 }
 
 // Unpack into slices of which one is a place too short, where the network has arcs.
-fn note_short_unpacks(
-    mut report: Report,
-    image: &[u8],
-    node_room: usize,
-    cost_room: usize,
-) -> Report {
+fn note_short_unpacks(report: Report, image: &[u8], node_room: usize, cost_room: usize) -> Report {
     if node_room == 0 {
         return report;
     }
@@ -61,8 +66,9 @@ fn note_short_unpacks(
         return report;
     }
     let short = refusal(13, 0);
-    report = report.note_unpack(unpack_agrees(image, node_room - 1, cost_room, short, &[], &[]));
-    report.note_unpack(unpack_agrees(image, node_room, cost_room - 1, short, &[], &[]))
+    let short_nodes = unpack_agrees(image, node_room - 1, cost_room, short, &[], &[]);
+    let short_costs = unpack_agrees(image, node_room, cost_room - 1, short, &[], &[]);
+    report.note(UNPACK, short_nodes).note(UNPACK, short_costs)
 }
 
 // All calls of the image layer, on a network's lists and its image.
@@ -76,10 +82,10 @@ pub fn note_network(
 ) -> Report {
     let result = sizes(n, arc_count(nodes), k);
     report = note_builds(report, n, k, nodes, costs, image);
-    report = report.note_check(check_agrees(image, result));
+    report = report.note(CHECK, check_agrees(image, result));
     report = note_unpacks(report, image, result, nodes, costs);
     report = note_short_unpacks(report, image, nodes.len(), costs.len());
-    report.note_rebuild(rebuild_agrees(image))
+    report.note(REBUILD, rebuild_agrees(image))
 }
 
 // Network S's image, with document 01's numbers.
@@ -87,8 +93,8 @@ fn note_s(image: &[u8]) -> Report {
     let report = note_network(Report::new(), 4, 2, &S_NODES, &S_COSTS, image);
     let built = build_agrees(4, 2, &S_NODES, &S_COSTS, 84, length(84), image);
     report
-        .note_build(built)
-        .note_check(check_agrees(image, sizes(4, 5, 2)))
+        .note(BUILD, built)
+        .note(CHECK, check_agrees(image, sizes(4, 5, 2)))
 }
 
 fn network_s() {
@@ -102,7 +108,7 @@ fn network_without_arcs() {
     let image = b"\x01\0\x02\0\0\0\x01\0\x18\0\0\0\x18\0\0\0\x18\0\0\0\0\0\0\0";
     let report = note_network(Report::new(), 2, 1, &[], &[], image);
     report
-        .note_check(check_agrees(image, sizes(2, 0, 1)))
+        .note(CHECK, check_agrees(image, sizes(2, 0, 1)))
         .print(b"network without arcs");
 }
 

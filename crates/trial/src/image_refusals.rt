@@ -5,6 +5,8 @@ use super::image_calls::build_agrees;
 use super::image_calls::note_refused_image;
 use super::plain_image::encode;
 use super::plain_image::total;
+use super::report::BUILD;
+use super::report::CHECK;
 use super::report::Report;
 
 // Build into a slice of `room` bytes refuses with this number and place, and writes nothing.
@@ -19,7 +21,7 @@ fn build_refuses(
     place: u32,
 ) -> Report {
     let agrees = build_agrees(n, k, nodes, costs, room, refusal(number, place), &[]);
-    report.note_build(agrees)
+    report.note(BUILD, agrees)
 }
 
 // All calls, with a slice for the image.
@@ -51,7 +53,7 @@ fn all_refuse(
     let mut image = [0u8; 200];
     let bytes = total(nodes, costs) as usize;
     if 200 < bytes {
-        return report.note_check(false);
+        return report.note(CHECK, false);
     }
     all_refuse_with(
         report,

@@ -1,5 +1,5 @@
-// Networks for the tests: network S, networks of up to eight nodes from drawn numbers, and the
-// largest.
+// Networks for the tests: network S, networks of up to eight nodes from drawn numbers, the largest
+// and the line.
 use super::numbers::product;
 
 // Network S: its lists, and its image, four bytes to a row.
@@ -145,5 +145,19 @@ fn largest_node(at: usize) -> usize {
 pub fn largest_nodes(nodes: &mut [u16]) {
     for i in 0..nodes.len() {
         nodes[i] = (largest_node(i) % 65536) as u16;
+    }
+}
+
+// The node list of the arcs from 1 to 2, from 2 to 3 and so on.
+pub fn line_arcs(arcs: &mut [u16]) {
+    for i in 0..arcs.len() {
+        arcs[i] = ((i / 2 + i % 2 + 1) % 65536) as u16;
+    }
+}
+
+// The nodes 1, 2, 3 and so on.
+pub fn line_nodes(nodes: &mut [u16]) {
+    for i in 0..nodes.len() {
+        nodes[i] = ((i + 1) % 65536) as u16;
     }
 }

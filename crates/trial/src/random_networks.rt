@@ -5,24 +5,29 @@ use super::image_calls::note_image;
 use super::image_networks::note_network;
 use super::networks::draw_network;
 use super::networks::number_at;
+use super::path_random::note_paths;
 use super::plain_answers::build_answer;
 use super::plain_image::encode;
 use super::plain_image::total;
 use super::random::Random;
 use super::random::draw;
+use super::report::BUILD;
+use super::report::CHECK;
 use super::report::Report;
 
 // The calls on a sound network.
 fn note_sound(
-    report: Report,
+    mut report: Report,
     n: u32,
     k: u32,
     nodes: &[u16],
     costs: &[u32],
+    numbers: &[u32],
     image: &mut [u8],
 ) -> Report {
     encode(n, k, nodes, costs, image);
-    note_network(report, n, k, nodes, costs, image)
+    report = note_network(report, n, k, nodes, costs, image);
+    note_paths(report, n, k, nodes, costs, numbers, image)
 }
 
 // The calls on lists that may be in error, held to the plain answers.
@@ -39,9 +44,12 @@ fn note_lists(
     let expected = build_answer(n, k, nodes, costs, room);
     report = note_image(report, image);
     if expected.number != 0 {
-        return report.note_build(build_agrees(n, k, nodes, costs, room, expected, &[]));
+        return report.note(BUILD, build_agrees(n, k, nodes, costs, room, expected, &[]));
     }
-    report.note_build(build_agrees(n, k, nodes, costs, room, expected, image))
+    report.note(
+        BUILD,
+        build_agrees(n, k, nodes, costs, room, expected, image),
+    )
 }
 
 // Changes one node number, to 0 to 9.
@@ -117,7 +125,7 @@ fn note_drawn(
     if changed {
         note_changed(report, n, k, nodes, costs, numbers, image)
     } else {
-        note_sound(report, n, k, nodes, costs, image)
+        note_sound(report, n, k, nodes, costs, numbers, image)
     }
 }
 
@@ -134,14 +142,14 @@ fn note_numbers(
     let node_count = drawn.node_count;
     let cost_count = drawn.cost_count;
     if nodes.len() < node_count {
-        return report.note_check(false);
+        return report.note(CHECK, false);
     }
     if costs.len() < cost_count {
-        return report.note_check(false);
+        return report.note(CHECK, false);
     }
     let bytes = total(&nodes[0..node_count], &costs[0..cost_count]) as usize;
     if image.len() < bytes {
-        return report.note_check(false);
+        return report.note(CHECK, false);
     }
     let node_list = &mut nodes[0..node_count];
     let cost_list = &mut costs[0..cost_count];

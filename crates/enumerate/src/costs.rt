@@ -1,0 +1,87 @@
+// What paths cost.
+use super::arcs::arc_index;
+use super::paths::Row;
+ghost use Prim.Native.Nat.{_≤_};
+
+// A number for each column, from column 1 on, filled up with 0.
+pub type Costs = [u64; 8];
+
+// What stands for column u.
+pub fn in_column(numbers: Costs, u: u32) -> u64 {
+    if u < 1 {
+        return 0;
+    }
+    if 8 < u {
+        return 0;
+    }
+    numbers[u as usize - 1]
+}
+
+pub fn costs_at(costs: &[Costs], i: usize) -> Costs {
+    if i < costs.len() { costs[i] } else { [0; 8] }
+}
+
+pub fn put_costs(costs: &mut [Costs], i: usize, numbers: Costs) {
+    if i < costs.len() {
+        costs[i] = numbers;
+    }
+}
+
+fn wide(number: u32) -> u64
+    ensures { λ r. ⌜ r ≤ 4294967295 ⌝ }
+{
+    number as u64
+}
+
+// The cost of an arc in one column, and 0 behind the last arc.
+fn arc_cost(column: &[u32], arc: usize) -> u64
+    ensures { λ r. ⌜ r ≤ 4294967295 ⌝ }
+{
+    if arc < column.len() {
+        wide(column[arc])
+    } else {
+        0
+    }
+}
+
+// The arcs of a path, by their index: for each node the arc to it from the node before, or the
+// number of arcs where there is none.
+fn path_arcs(arcs: &[u16], row: Row) -> [usize; 8] {
+    let mut used = [arcs.len() / 2; 8];
+    for i in 1..8usize {
+        used[i] = arc_index(arcs, row[i - 1], row[i]);
+    }
+    used
+}
+
+// The sum over the arcs of a path, in one column.
+fn sum(column: &[u32], used: [usize; 8]) -> u64 {
+    let mut total = 0;
+    for i in 1..8usize {
+        total += arc_cost(column, used[i]);
+    }
+    total
+}
+
+// The cost of a path in each column.
+pub fn path_costs(arcs: &[u16], costs: &[u32], row: Row) -> Costs {
+    let m = arcs.len() / 2;
+    let used = path_arcs(arcs, row);
+    let mut result = [0u64; 8];
+    let mut rest = costs;
+    for u in 0..8usize {
+        if rest.len() < m {
+            return result;
+        }
+        result[u] = sum(&rest[0..m], used);
+        rest = &rest[m..];
+    }
+    result
+}
+
+// The cost of each path in each column, for as many paths as there is room.
+pub fn all_costs(arcs: &[u16], costs: &[u32], rows: &[Row], table: &mut [Costs]) {
+    for i in 0..rows.len() {
+        put_costs(table, i, path_costs(arcs, costs, rows[i]));
+    }
+}

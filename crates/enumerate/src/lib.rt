@@ -1,0 +1,35 @@
+// A plain enumeration of all loopless paths in a network of 2 to 8 nodes, and what document 01 says
+// of them. The tests hold the library to it. It shares no code with the library and has no
+// cleverness: every path is written down with its cost in every column, and each answer is read off
+// these rows.
+//
+// A network is given by Build's two lists: its arcs, tail and head in turn, and its costs, column
+// by column.
+
+mod arcs;
+mod costs;
+mod deviations;
+mod order;
+mod paths;
+mod stopping;
+
+pub use arcs::NodeList;
+pub use arcs::check_list;
+pub use costs::Costs;
+pub use costs::all_costs;
+pub use costs::costs_at;
+pub use costs::in_column;
+pub use costs::path_costs;
+pub use deviations::Measure;
+pub use deviations::regret;
+pub use order::UNREACHED;
+pub use order::bests;
+pub use order::first;
+pub use order::labels;
+pub use order::rank;
+pub use order::row_at;
+pub use paths::Row;
+pub use paths::all_paths;
+pub use paths::length;
+pub use stopping::Choice;
+pub use stopping::robust;
