@@ -1,14 +1,15 @@
 -- Build, row by row; the header, number after number; and the whole image. Assumes nothing.
+-- ---- rows
 use Prim.Native.Nat.{ℕ, _+_, _*_, _%_, _≤_, _<_}
 use native.Mathlib.Omega.{arith}
 use native.Mathlib.Nat.{div-add-mod}
 use mathlib.Core.Path.{_≡_, refl, _∙_, ap₂}
-use mathlib.Core.Bool.{Bool, true, false, not, _&&_}
-use mathlib.Core.List.{List, [], _∷_, _++_, append-assoc}
+use mathlib.Core.Bool.{Bool, true, false, _&&_}
+use mathlib.Core.List.{List, [], _++_, append-assoc}
 use lib.Dec.{leb, ltb, eqb}
 use lib.ListN.{length, take, drop, length-append}
-use borrow.Author.Tests.{lt-ltb, le-ltb, ltb-false, lt-leb, eq-eqb, ne-eqb, eqb-true, not-false}
-use Rattle.terms.proofs.ListLaws.{and-both, clash, split}
+use borrow.Author.Tests.{ltb-false, lt-leb, eq-eqb, ne-eqb, eqb-true, not-false}
+use Rattle.terms.proofs.ListLaws.{and-both}
 use Rattle.image.specs.Bytes.{bytes, encode}
 use Rattle.image.specs.Outcome.{sound, fault, row, _then_}
 use Rattle.image.specs.Rows.{in-range, pairs, lists-fault}
@@ -18,7 +19,6 @@ use Rattle.image.proofs.OutcomeLaws.{then-sound, row-sound}
 use Rattle.image.proofs.ByteLaws.{length-encode, write-next}
 use Rattle.image.proofs.CheckLaws.{InRange, in-range-true, total-is, costs-start-is}
 
--- ---- rows
 and-false : (a : Bool) {b : Bool} → b ≡ false → (a && b) ≡ false
 and-false true e = e
 and-false false e = refl

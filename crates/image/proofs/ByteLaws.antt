@@ -1,16 +1,19 @@
 -- Numbers and their bytes: reading and writing one, and lists of them, at any width. Assumes nothing.
+-- ---- one number
+-- a field of one byte more: its low byte, and the field that starts one byte later
 use Prim.Native.Nat.{ℕ, zero, suc, _+_, _*_, _/_, _%_, _^_, _≤_, _<_}
 use native.Mathlib.Omega.{arith}
 use native.Mathlib.Numerals.{add-one}
-use native.Mathlib.Nat.{mul-zero, mul-suc, add-zero, add-assoc, add-comm}
-use mathlib.Core.Path.{_≡_, refl, sym, _∙_, ap, ap₂}
-use mathlib.Core.List.{List, [], _∷_, _++_, append-assoc, append-nil}
-use lib.ListN.{length, getD, take, drop, set, length-append, take-append-drop}
-use lib.Seq.{drop-cons, take-suc, take-at, take-length, drop-at, drop-drop, length-take-le, sets, sets-eq}
+use native.Mathlib.Nat.{mul-zero, mul-suc, zero-add, add-zero, add-assoc, add-comm, pow-zero, pow-suc, mod-add-div, mod-eq-of-lt, div-eq-of-lt, div-lt-iff-lt-mul, add-mul-mod-self-left, add-mul-div-left}
+use mathlib.Core.Path.{_≡_, refl, sym, _∙_, ap}
+use mathlib.Core.List.{List, [], _∷_, _++_, append-assoc, append-nil, List·Memᴰ·head, List·Memᴰ·tail, List·Memᴰ·cases-cons}
+use mathlib.Core.Logic.{⊎-elim}
+use lib.ListN.{length, getD, take, drop, set, length-append, length-drop, take-append-drop}
+use lib.Seq.{drop-cons, take-suc, take-at, take-add, take-length, drop-at, drop-drop, length-take-le, sets, sets-eq}
+use Rattle.terms.specs.Lists.{_∈_}
+use Rattle.terms.proofs.ListLaws.{take-mem}
 use Rattle.image.specs.Bytes.{number, bytes, field, decode, encode}
 
--- ---- one number
--- a field of one byte more: its low byte, and the field that starts one byte later
 field-suc : (w : ℕ) (b : List ℕ) (i : ℕ) → i < length b → field (suc w) b i ≡ getD b i 0 + 256 * field w b (i + 1)
 unfolding field number
 field-suc w b i h = rw (add-one, drop-cons b i 0 h)
@@ -102,3 +105,61 @@ pub write-all : (w : ℕ) (l t t₀ : List ℕ) (s i : ℕ) → i ≡ length l �
     → t ≡ take s t₀ ++ (encode w l ++ drop (s + w * length l) t₀)
 write-all w l t t₀ s i done e =
     e ∙ rw (done, take-length l) (append-assoc (take s t₀) (encode w l) (drop (s + w * length l) t₀))
+
+-- ---- there and back
+-- numbers of w bytes are those below 256 ^ w, and each is the number of its bytes
+pub number-bytes : (w x : ℕ) → x < 256 ^ w → number (bytes w x) ≡ x
+unfolding number bytes
+number-bytes zero x h = let e = (rw pow-zero at h) in omega arith
+number-bytes (suc w) x h =
+    let h′ : x / 256 < 256 ^ w = div-lt-iff-lt-mul {k = 256} {x = x} {y = 256 ^ w} (omega arith) .1 (rw pow-suc at h) in
+    omega (arith, number-bytes w (x / 256) h′, mod-add-div x 256)
+
+-- a list of bytes
+abbrev pub AllBytes : List ℕ → Type 0
+AllBytes l = (x : ℕ) → x ∈ l → x < 256
+
+-- of a list whose places all hold bytes
+pub all-bytes : (l : List ℕ) → ((i : ℕ) → getD l i 0 < 256) → AllBytes l
+all-bytes [] at x m = elim m [ ]
+all-bytes (y ∷ l) at x m = ⊎-elim (λ (e : x ≡ y). rw e (at 0)) (all-bytes l (λ i. at (suc i)) x) (List·Memᴰ·cases-cons m)
+
+pub bytes-number : (l : List ℕ) → AllBytes l → bytes (length l) (number l) ≡ l
+unfolding number bytes
+bytes-number [] all = refl
+bytes-number (b ∷ l) all =
+    let low : b < 256 = all b (List·Memᴰ·head refl) in
+    rw (add-mul-mod-self-left b 256 (number l), mod-eq-of-lt low, add-mul-div-left b (number l) {y = 256} (omega arith), div-eq-of-lt low, zero-add) (ap (λ (t : List ℕ). b ∷ t) (bytes-number l (λ x m. all x (List·Memᴰ·tail m))))
+
+pub drop-mem : (i : ℕ) (l : List ℕ) {x : ℕ} → x ∈ drop i l → x ∈ l
+drop-mem zero l m = m
+drop-mem (suc i) [] m = m
+drop-mem (suc i) (y ∷ l) m = List·Memᴰ·tail (drop-mem i l m)
+
+pub drop-bytes : (i : ℕ) (l : List ℕ) → AllBytes l → AllBytes (drop i l)
+drop-bytes i l all x m = all x (drop-mem i l m)
+
+-- the bytes of the number that w bytes stand for
+first-bytes : (w : ℕ) (b : List ℕ) → AllBytes b → w ≤ length b → bytes w (number (take w b)) ≡ take w b
+first-bytes w b all h = rw (length-take-le w b h) at (bytes-number (take w b) (λ x m. all x (take-mem w b m)))
+
+pub field-bytes : (w : ℕ) (b : List ℕ) (i : ℕ) → AllBytes b → i + w ≤ length b → bytes w (field w b i) ≡ take w (drop i b)
+unfolding field
+field-bytes w b i all h = first-bytes w (drop i b) (drop-bytes i b all) (omega (arith, length-drop i b))
+
+-- lists of numbers that fit in w bytes
+pub decode-encode : (w : ℕ) (l r : List ℕ) → ((x : ℕ) → x ∈ l → x < 256 ^ w) → decode w (length l) (encode w l ++ r) ≡ l
+unfolding decode encode
+decode-encode w [] r fit = refl
+decode-encode w (x ∷ l) r fit =
+    rw (append-assoc (bytes w x) (encode w l) r, take-at (bytes w x) (encode w l ++ r) w (length-bytes w x), drop-at (bytes w x) (encode w l ++ r) w (length-bytes w x), number-bytes w x (fit x (List·Memᴰ·head refl)))
+    (ap (λ (t : List ℕ). x ∷ t) (decode-encode w l r (λ y m. fit y (List·Memᴰ·tail m))))
+
+pub encode-decode : (w c : ℕ) (b : List ℕ) → AllBytes b → w * c ≤ length b → encode w (decode w c b) ≡ take (w * c) b
+unfolding decode encode
+encode-decode w zero b all h = rw mul-zero
+encode-decode w (suc c) b all h =
+    let e : w * suc c ≡ w + w * c = mul-suc w c ∙ add-comm (w * c) w in
+    let k : w + w * c ≤ length b = rw e at h in
+    rw (e, take-add w (w * c) b, encode-decode w c (drop w b) (drop-bytes w b all) (omega (arith, length-drop w b)))
+    (ap (λ (t : List ℕ). t ++ take (w * c) (drop w b)) (first-bytes w b all (omega arith)))

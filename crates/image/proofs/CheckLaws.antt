@@ -1,12 +1,14 @@
 -- Check, row by row: which row of an image's header applies, and what is known where none does. Assumes nothing.
+-- ---- sizes
 use Prim.Native.Nat.{ℕ, _+_, _*_, _≤_, _<_}
 use native.Mathlib.Omega.{arith}
-use mathlib.Core.Path.{_≡_, refl, sym, _∙_, ap}
-use mathlib.Core.Bool.{Bool, true, false, not, _&&_}
+use native.Mathlib.Nat.{mul-le-mul}
+use mathlib.Core.Path.{_≡_, refl}
+use mathlib.Core.Bool.{true, false}
 use mathlib.Core.List.{List, [], _∷_}
-use lib.Dec.{leb, ltb, eqb}
+use lib.Dec.{leb}
 use lib.ListN.{length}
-use borrow.Author.Tests.{lt-ltb, le-ltb, ltb-false, leb-true, eq-eqb, ne-eqb, eqb-true, not-true, not-false}
+use borrow.Author.Tests.{lt-ltb, le-ltb, ltb-false, leb-true, le-leb, eq-eqb, ne-eqb, eqb-true, not-false}
 use Rattle.terms.proofs.ListLaws.{and-both}
 use Rattle.image.specs.Outcome.{sound, fault, row, _then_, gives, refuses, outcome}
 use Rattle.image.specs.Rows.{in-range, pairs, lists-fault}
@@ -14,7 +16,6 @@ use Rattle.image.specs.Layout.{edition, node-count, arc-count, column-co
 use Rattle.image.specs.Calls.{header-fault, image-fault, sizes, check-outcome}
 use Rattle.image.proofs.OutcomeLaws.{then-next, then-sound, row-sound, gives-sound, refuses-fault}
 
--- ---- sizes
 pub record InRange (n m k : ℕ) : Type 0 where
   pub nodes-from : 2 ≤ n
   pub nodes-to : n ≤ 200
@@ -30,6 +31,10 @@ in-range-true {n} {m} {k} e =
     let e₃ = and-both (leb m 1000) _ (e₂ .1) in
     let e₄ = and-both (leb 1 k) (leb k 8) (e₃ .1) in
     record { nodes-from = leb-true _ _ (e₁ .0); nodes-to = leb-true _ _ (e₂ .0); arcs-to = leb-true _ _ (e₃ .0); columns-from = leb-true _ _ (e₄ .0); columns-to = leb-true _ _ (e₄ .1) }
+
+pub range-in : {n m k : ℕ} → InRange n m k → in-range n m k ≡ true
+unfolding in-range
+range-in r = rw (le-leb _ _ (r .nodes-from), le-leb _ _ (r .nodes-to), le-leb _ _ (r .arcs-to), le-leb _ _ (r .columns-from), le-leb _ _ (r .columns-to))
 
 -- ---- the header
 module _ (b : List ℕ) where
@@ -79,6 +84,10 @@ header-sound b e =
     record { long = ltb-false _ _ (row-sound _ _ _ (e₁ .0)); first = eqb-true _ _ (not-false _ (row-sound _ _ _ (e₂ .0))); ranges = in-range-true (not-false _ (row-sound _ _ _ (e₃ .0))); fields = not-false _ (row-sound _ _ _ (e₄ .0)); whole = eqb-true _ _ (not-false _ (row-sound _ _ _ (e₄ .1))) }
 
 -- ---- the length of an image
+pub total-to : {m k : ℕ} → m ≤ 1000 → k ≤ 8 → total m k ≤ 36024
+unfolding total costs-start
+total-to {m} {k} h h′ = omega (arith, mul-le-mul h h′)
+
 pub total-is : (m k : ℕ) → total m k ≡ costs-start m + 4 * (m * k)
 unfolding total
 total-is m k = refl

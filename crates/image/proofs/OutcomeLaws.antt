@@ -1,14 +1,14 @@
 -- Rows one after another, and the outcome that they come to. Assumes nothing.
+-- ---- rows
+-- a fault stays, and after sound rows the next decide
 use Prim.Native.Nat.{ℕ}
 use native.Mathlib.Omega.{arith}
 use mathlib.Core.Path.{_≡_, refl}
 use mathlib.Core.Bool.{Bool, true, false}
-use mathlib.Core.List.{List, [], _∷_, _++_}
+use mathlib.Core.List.{List, _++_}
 use lib.ListN.{length, drop}
-use Rattle.image.specs.Outcome.{Fault, sound, fault, row, _then_, Outcome, gives, refuses, outcome, after}
+use Rattle.image.specs.Outcome.{Fault, sound, fault, row, _then_, gives, refuses, outcome, after}
 
--- ---- rows
--- a fault stays, and after sound rows the next decide
 pub then-fault : {f : Fault} {n p : ℕ} (g : Fault) → f ≡ fault n p → (f then g) ≡ fault n p
 unfolding _then_
 then-fault g e = rw e

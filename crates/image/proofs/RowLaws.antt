@@ -1,19 +1,18 @@
 -- The rows of the refusal table, one arc and one cost after another. Assumes nothing.
+-- ---- arcs
 use Prim.Native.Nat.{ℕ, zero, suc, _+_, _*_, _≤_, _<_}
 use native.Mathlib.Omega.{arith}
 use native.Mathlib.Numerals.{add-one}
-use native.Mathlib.Nat.{mul-zero, mul-suc}
-use mathlib.Core.Path.{_≡_, refl, sym, _∙_, ap}
-use mathlib.Core.List.{List, [], _∷_, _++_}
+use mathlib.Core.Path.{_≡_, refl, _∙_, ap}
+use mathlib.Core.List.{List}
 use lib.Dec.{ltb}
 use borrow.Author.Tests.{lt-ltb, le-ltb}
-use lib.ListN.{length, getD, take, drop, drop-of-length-le}
+use lib.ListN.{length, getD, drop, drop-of-length-le}
 use lib.Seq.{drop-cons, getD-drop}
-use Rattle.image.specs.Outcome.{Fault, sound, fault, row, _then_}
+use Rattle.image.specs.Outcome.{sound, fault, row, _then_}
 use Rattle.image.specs.Rows.{pairs, arc-fault, arcs-fault, costs-fault}
 use Rattle.image.proofs.OutcomeLaws.{then-fault, then-next}
 
--- ---- arcs
 pub length-pairs : (m : ℕ) (l : List ℕ) → length (pairs m l) ≡ m
 unfolding pairs
 length-pairs zero l = refl

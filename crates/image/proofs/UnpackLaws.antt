@@ -1,15 +1,13 @@
 -- Unpack: row 13, and the lists that are written. Assumes nothing.
 use Prim.Native.Nat.{ℕ, _*_, _≤_, _<_}
-use native.Mathlib.Omega.{arith}
-use mathlib.Core.Path.{_≡_, refl, sym, _∙_, ap}
-use mathlib.Core.Bool.{true, false, _||_}
+use mathlib.Core.Path.{_≡_}
 use mathlib.Core.List.{List, _++_}
 use lib.Dec.{ltb}
-use lib.ListN.{length, drop}
+use lib.ListN.{drop}
 use borrow.Author.Tests.{lt-ltb, le-ltb}
 use Rattle.terms.proofs.ListLaws.{or-right}
 use Rattle.image.specs.Bytes.{decode}
-use Rattle.image.specs.Outcome.{sound, fault, row, _then_, after}
+use Rattle.image.specs.Outcome.{sound, fault, row, after}
 use Rattle.image.specs.Layout.{arc-count, column-count, costs-start, nodes-in, costs-in, node-list, cost-list}
 use Rattle.image.specs.Calls.{image-fault, unpack-fault}
 use Rattle.image.proofs.OutcomeLaws.{then-next, after-sound}

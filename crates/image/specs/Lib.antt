@@ -5,3 +5,4 @@ pub mod Layout
 pub mod Calls
 pub mod Refusals
 pub mod Answers
+pub mod RoundTrip

@@ -13,12 +13,13 @@ ghost use mathlib.Core.List.{_++_};
 ghost use Prim.Native.Nat.{_+_, _*_, _/_, _≤_, _<_};
 ghost use lib.ListN.{length, getD, take, drop};
 ghost use Rattle.image.specs.Bytes.{encode};
-ghost use Rattle.image.specs.Outcome.{after};
+ghost use Rattle.image.specs.Outcome.{sound, after};
 ghost use Rattle.image.specs.Rows.{pairs, arcs-fault, costs-fault};
 ghost use Rattle.image.specs.Layout.{header, image-of};
 ghost use Rattle.image.specs.Calls.{build-fault, build-outcome};
 ghost use Rattle.image.specs.Refusals.{verdict};
 ghost use Rattle.image.specs.Answers.{built};
+ghost use Rattle.image.specs.RoundTrip.{ReadsBack};
 
 // Build's answer.
 pub enum Built {
@@ -137,6 +138,7 @@ fn write_costs(image: &mut [u8], start: usize, costs: &[u32])
 pub fn build(n: u32, k: u32, nodes: &[u16], costs: &[u32], image: &mut [u8]) -> Built
     ensures { λ r. ⌜ built r ≡ build-outcome n k (now (nodes .entry)) (now (costs .entry)) (length (now (image .entry))) ⌝ }
     ensures { λ _. ⌜ now (image .exit) ≡ after (build-fault n k (now (nodes .entry)) (now (costs .entry)) (length (now (image .entry)))) (image-of n k (now (nodes .entry)) (now (costs .entry))) (now (image .entry)) ⌝ }
+    ensures { λ _. ⌜ (build-fault n k (now (nodes .entry)) (now (costs .entry)) (length (now (image .entry))) ≡ sound → ReadsBack n k (now (nodes .entry)) (now (costs .entry))) ⌝ }
 {
     let lists = check_lists(n, k, nodes, costs, image.len());
     if let Verdict::Refused(refusal) = lists {

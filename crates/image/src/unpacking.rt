@@ -12,10 +12,11 @@ ghost use mathlib.Core.List.{_++_};
 ghost use Prim.Native.Nat.{_+_, _*_, _≤_};
 ghost use lib.ListN.{length, drop};
 ghost use Rattle.image.specs.Bytes.{decode};
-ghost use Rattle.image.specs.Outcome.{after};
+ghost use Rattle.image.specs.Outcome.{sound, after};
 ghost use Rattle.image.specs.Layout.{node-list, cost-list};
 ghost use Rattle.image.specs.Calls.{unpack-fault, unpack-outcome};
 ghost use Rattle.image.specs.Answers.{unpacked};
+ghost use Rattle.image.specs.RoundTrip.{WritesAgain};
 
 // Unpack's answer.
 pub enum Unpacked {
@@ -36,7 +37,7 @@ fn read_nodes(source: &[u8], count: usize, nodes: &mut [u16])
 }
 
 // The first `count` numbers of four bytes each.
-fn read_costs(source: &[u8], count: usize, costs: &mut [u32])
+pub fn read_costs(source: &[u8], count: usize, costs: &mut [u32])
     requires { ⌜ (4 * count ≤ length (now source)) × (count ≤ length (now costs)) ⌝ }
     ensures { λ _. ⌜ now (costs .exit) ≡ decode 4 count (now (source .entry)) ++ drop count (now (costs .entry)) ⌝ }
 {
@@ -52,6 +53,7 @@ pub fn unpack(image: &[u8], nodes: &mut [u16], costs: &mut [u32]) -> Unpacked
     ensures { λ r. ⌜ unpacked r ≡ unpack-outcome (now (image .entry)) (length (now (nodes .entry))) (length (now (costs .entry))) ⌝ }
     ensures { λ _. ⌜ now (nodes .exit) ≡ after (unpack-fault (now (image .entry)) (length (now (nodes .entry))) (length (now (costs .entry)))) (node-list (now (image .entry))) (now (nodes .entry)) ⌝ }
     ensures { λ _. ⌜ now (costs .exit) ≡ after (unpack-fault (now (image .entry)) (length (now (nodes .entry))) (length (now (costs .entry)))) (cost-list (now (image .entry))) (now (costs .entry)) ⌝ }
+    ensures { λ _. ⌜ (unpack-fault (now (image .entry)) (length (now (nodes .entry))) (length (now (costs .entry))) ≡ sound → WritesAgain (now (image .entry))) ⌝ }
 {
     let answer = check(image);
     let Checked::Network(sizes) = answer else {

@@ -221,7 +221,7 @@ unfolding numbers
 length-numbers i zero = refl
 length-numbers i (suc k) = ap suc (length-numbers (suc i) k)
 
-pub getD-map-numbers : (f : ℕ → ℕ) (i k j d : ℕ) → j < k → getD (map f (numbers i k)) j d ≡ f (i + j)
+pub getD-map-numbers : {A : Type 0} (f : ℕ → A) (i k j : ℕ) (d : A) → j < k → getD (map f (numbers i k)) j d ≡ f (i + j)
 unfolding numbers
 getD-map-numbers f i zero j d h = absurd (omega arith)
 getD-map-numbers f i (suc k) zero d h = ap f (omega arith)

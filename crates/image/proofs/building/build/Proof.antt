@@ -1,11 +1,13 @@
+-- `image::building::build` meets its contract. Assumes nothing.
+use Rattle.image.proofs.RoundTripLaws.{reads-back}
 use Prim.Native.Nat.{ℕ, _+_, _*_, _≤_}
 use native.Mathlib.Omega.{arith}
 use mathlib.Core.Path.{_≡_, sym, _∙_, ap, subst}
-use mathlib.Core.List.{List, [], _∷_, _++_}
+use mathlib.Core.List.{[], _∷_, _++_}
 use lib.ListN.{length, take, drop}
 use Rattle.image.specs.Bytes.{encode}
 use Rattle.image.specs.Outcome.{gives}
-use Rattle.image.specs.Layout.{half, total, costs-start}
+use Rattle.image.specs.Layout.{half, costs-start}
 use Rattle.image.specs.Refusals.{verdict}
 use Rattle.image.specs.Calls.{build-outcome}
 use Rattle.image.proofs.OutcomeLaws.{outcome-fault, outcome-sound, after-fault, after-sound}
@@ -14,29 +16,18 @@ use Rattle.image.proofs.BuildLaws.{BuildSound, build-sound, twice-half,
 use borrow.Author.Needs.{needs}
 use Rattle.image.proofs.building.build.Statement.{statement}
 use Rattle.image.proofs.building.build.Tie as tie
-use Rattle.image.proofs.building.build.Reads as reads
-use Rattle.image.proofs.building.build.Lts as lts
-use Rattle.image.proofs.building.check_lists.Reads as check-lists-reads
-use Rattle.image.proofs.building.write_costs.Reads as write-costs-reads
-use Rattle.image.proofs.building.write_header.Reads as write-header-reads
-use Rattle.image.proofs.building.write_nodes.Reads as write-nodes-reads
-use Rattle.image.proofs.layout.costs_start.Reads as costs-start-reads
-use Rattle.image.proofs.layout.image_length.Reads as image-length-reads
 
--- src/building.rt:137:9
 check-lists-requires : tie.Need-check-lists-requires
 check-lists-requires c κs = search needs
 
--- src/building.rt:138:29
 enum-known-lists : tie.Need-enum-known-lists
 enum-known-lists c = search needs
 
--- src/building.rt:139:9
 returns : tie.Need-returns
 unfolding build-outcome
 returns c = let k = c .before .before .before in
     let f = sym (k .check-lists .ensures) ∙ ap verdict (c .before .lists .given .1) in
-    (sym (outcome-fault _ f), sym (after-fault _ _ f))
+    (sym (outcome-fault _ f), (sym (after-fault _ _ f), λ e. reads-back _ _ _ _ _ (build-sound _ _ _ _ _ e)))
 
 enum-told : tie.Need-enum-told
 enum-told c = search needs
@@ -55,31 +46,25 @@ room c =
     let m = half (a .nodes .now) in
     omega (arith, p .fits, total-is m (a .k), costs-start-is m, p .counted, twice-half (a .n) (a .k) (a .nodes .now) (a .costs .now) (p .even) (p .counted))
 
--- src/building.rt:141:13
 cast-m : tie.Need-cast-m
 unfolding half
 cast-m c = omega (arith, passes c .ranges .arcs-to)
 
--- src/building.rt:142:5
 write-header-requires : tie.Need-write-header-requires
 unfolding half
 write-header-requires c κs = let r = passes (c .before) .ranges in
     (omega (arith, room (c .before)), r .nodes-to, r .arcs-to, r .columns-to)
 
--- src/building.rt:143:5
 write-nodes-requires : tie.Need-write-nodes-requires
 write-nodes-requires c κs = omega (arith, room (c .before .before .before .before .before), c .before .before .before .write-header .kept .0)
 
--- src/building.rt:144:24
 costs-start-requires : tie.Need-costs-start-requires
 unfolding half
 costs-start-requires c κs = passes (c .before .before .before .before .before .before .before .before .before) .ranges .arcs-to
 
--- src/building.rt:144:24
 cast-write-costs : tie.Need-cast-write-costs
 cast-write-costs c = search needs
 
--- src/building.rt:144:5
 write-costs-requires : tie.Need-write-costs-requires
 unfolding half
 write-costs-requires c κs = let e = c .before .before .before .before .before .before .before .before .before .before in
@@ -87,16 +72,13 @@ write-costs-requires c κs = let e = c .before .before .before .before .before .
     let p = passes e in
     omega (arith, room e, c .costs-start .ensures, costs-start-is (half (a .nodes .now)), twice-half (a .n) (a .k) (a .nodes .now) (a .costs .now) (p .even) (p .counted), c .before .before .before .before .write-nodes .kept .0, c .before .before .before .before .before .before .before .before .write-header .kept .0)
 
--- src/building.rt:145:18
 image-length-requires : tie.Need-image-length-requires
 unfolding half
 image-length-requires c κs = let r = passes (c .before .before .before .before .before .before .before .before .before .before .before .before .before) .ranges in (r .arcs-to, r .columns-to)
 
--- src/building.rt:133:1
 same-length : tie.Need-same-length
 same-length c = search needs
 
--- src/building.rt:133:1
 returns-2 : tie.Need-returns-2
 unfolding build-outcome half
 returns-2 c = let w = c .before .before .before in
@@ -108,7 +90,7 @@ returns-2 c = let w = c .before .before .before in
     let p = passes e in
     let f = sym (e .before .before .check-lists .ensures) ∙ ap verdict (e .enum-told .given .1) in
     let costs-at = subst (λ (i : ℕ). w .write-costs .last .0 ≡ take i (q .write-nodes .last .0) ++ (encode 4 (a .costs .now) ++ drop (i + 4 * length (a .costs .now)) (q .write-nodes .last .0))) (s .costs-start .ensures) (w .write-costs .ensures) in
-    (ap (λ (x : ℕ). gives (x ∷ [])) (c .image-length .ensures) ∙ sym (outcome-sound _ f), image-written (a .n) (a .k) (a .nodes .now) (a .costs .now) (p .even) (p .counted) (a .image .now) (h .write-header .last .0) (q .write-nodes .last .0) (w .write-costs .last .0) (h .write-header .ensures) (q .write-nodes .ensures) costs-at ∙ sym (after-sound _ _ f))
+    (ap (λ (x : ℕ). gives (x ∷ [])) (c .image-length .ensures) ∙ sym (outcome-sound _ f), (image-written (a .n) (a .k) (a .nodes .now) (a .costs .now) (p .even) (p .counted) (a .image .now) (h .write-header .last .0) (q .write-nodes .last .0) (w .write-costs .last .0) (h .write-header .ensures) (q .write-nodes .ensures) costs-at ∙ sym (after-sound _ _ f), λ e. reads-back _ _ _ _ _ (build-sound _ _ _ _ _ e)))
 
 pub build-spec : {M : Type 1} → statement M
 build-spec =

@@ -1,18 +1,14 @@
+-- `image::building::check_arc_list` meets its contract. Assumes nothing.
 use borrow.Author.Needs.{needs}
 use Rattle.image.specs.Refusals.{verdict}
 use Rattle.image.proofs.RowLaws.{length-pairs, pairs-at, arc-found, arc-passed, arcs-end}
-use Prim.Native.Nat.{ℕ, _+_, _*_, _-_, _≤_, _<_}
+use Prim.Native.Nat.{_+_, _*_, _-_, _≤_, _<_}
 use mathlib.Core.Path.{_≡_, refl, sym, _∙_, ap}
-use mathlib.Core.List.{List, _++_}
-use lib.ListN.{length, getD, take, drop, length-set}
-use Rattle.image.specs.Bytes.{decode, encode}
-use Rattle.image.specs.Rows.{pairs, arcs-fault, costs-fault}
+use lib.ListN.{length, getD, drop}
+use Rattle.image.specs.Rows.{pairs, arcs-fault}
 use native.Mathlib.Omega.{arith}
 use Rattle.image.proofs.building.check_arc_list.Statement.{statement}
 use Rattle.image.proofs.building.check_arc_list.Tie as tie
-use Rattle.image.proofs.building.check_arc_list.Reads as reads
-use Rattle.image.proofs.building.check_arc_list.Lts as lts
-use Rattle.image.proofs.rows.check_arc.Reads as check-arc-reads
 
 abbrev Inv-loop : tie.InvT-loop
 Inv-loop nodes n m last-tail₀ last-head₀ i₀ last-tail last-head i = (i ≤ m) × (arcs-fault n (0, 0) 0 (pairs m nodes) ≡ arcs-fault n (last-tail, last-head) i (drop i (pairs m nodes)))
@@ -20,51 +16,39 @@ Inv-loop nodes n m last-tail₀ last-head₀ i₀ last-tail last-head i = (i ≤
 abbrev μ-loop : tie.MeasureT-loop
 μ-loop nodes n m last-tail₀ last-head₀ i₀ last-tail last-head i = m - i
 
--- src/building.rt:33:5
 loop-holds : tie.Need-loop-holds Inv-loop μ-loop
 loop-holds c = (omega arith, refl)
 
--- src/building.rt:34:26
 mul-tail : tie.Need-mul-tail Inv-loop μ-loop
 mul-tail c = omega arith
 
--- src/building.rt:34:20
 mul-tail-2 : tie.Need-mul-tail-2 Inv-loop μ-loop
 mul-tail-2 c = omega arith
 
--- src/building.rt:34:20
 shared-slice-read-tail : tie.Need-shared-slice-read-tail Inv-loop μ-loop
 shared-slice-read-tail c = omega arith
 
--- src/building.rt:34:20
 cast-tail : tie.Need-cast-tail Inv-loop μ-loop
 cast-tail c = omega (arith, c .shared-slice-known2 .given (2 * c .before .before .loop .i))
 
--- src/building.rt:35:26
 mul-head : tie.Need-mul-head Inv-loop μ-loop
 mul-head c = omega arith
 
--- src/building.rt:35:26
 add-head : tie.Need-add-head Inv-loop μ-loop
 add-head c = omega arith
 
--- src/building.rt:35:20
 mul-head-2 : tie.Need-mul-head-2 Inv-loop μ-loop
 mul-head-2 c = omega arith
 
--- src/building.rt:35:20
 shared-slice-read-head : tie.Need-shared-slice-read-head Inv-loop μ-loop
 shared-slice-read-head c = omega arith
 
--- src/building.rt:35:20
 cast-head : tie.Need-cast-head Inv-loop μ-loop
 cast-head c = omega (arith, c .shared-slice-known3 .given (2 * c .before .before .before .loop .i + 1))
 
--- src/building.rt:36:58
 cast-check-arc : tie.Need-cast-check-arc Inv-loop μ-loop
 cast-check-arc c = omega arith
 
--- src/building.rt:36:13
 check-arc-requires : tie.Need-check-arc-requires Inv-loop μ-loop
 check-arc-requires c κs = omega arith
 
@@ -84,30 +68,24 @@ read c = pairs-at (start c .args .m) (start c .args .nodes .now) (head c .loop .
 enum-told : tie.Need-enum-told Inv-loop μ-loop
 enum-told c = search needs
 
--- src/building.rt:38:13
 enum-told-2 : tie.Need-enum-told-2 Inv-loop μ-loop
 enum-told-2 c = search needs
 
--- src/building.rt:38:13
 returns : tie.Need-returns Inv-loop μ-loop
 returns c = let k = c .before .before in
     let e = ap verdict (c .enum-told2 .given .1) in
     e ∙ sym (head k .loop .inv .1 ∙ arc-found _ _ _ _ (here k) (read k) (sym (k .check-arc .ensures) ∙ e))
 
--- src/building.rt:42:9
 add-i : tie.Need-add-i Inv-loop μ-loop
 add-i c = omega arith
 
--- src/building.rt:33:5
 loop-less : tie.Need-loop-less Inv-loop μ-loop
 loop-less c = omega arith
 
--- src/building.rt:33:5
 loop-again : tie.Need-loop-again Inv-loop μ-loop
 loop-again c = let k = c .before .before in
     (omega arith, head k .loop .inv .1 ∙ arc-passed _ _ _ _ (here k) (read k) (sym (k .check-arc .ensures) ∙ ap verdict (c .enum-told .given .1)))
 
--- src/building.rt:26:1
 returns-2 : tie.Need-returns-2 Inv-loop μ-loop
 returns-2 c = let a = c .before .before .before .args in
     sym (c .before .loop .inv .1 ∙ arcs-end _ _ _ _ (omega (arith, length-pairs (a .m) (a .nodes .now))))

@@ -1,15 +1,12 @@
+-- `image::building::check_cost_list` meets its contract. Assumes nothing.
 use Rattle.image.proofs.RowLaws.{cost-found, cost-passed, costs-end}
-use Prim.Native.Nat.{ℕ, _+_, _*_, _-_, _≤_, _<_}
-use mathlib.Core.Path.{_≡_, refl, sym, _∙_, ap}
-use mathlib.Core.List.{List, _++_}
-use lib.ListN.{length, getD, take, drop, length-set}
-use Rattle.image.specs.Bytes.{decode, encode}
-use Rattle.image.specs.Rows.{pairs, arcs-fault, costs-fault}
+use Prim.Native.Nat.{_-_, _≤_}
+use mathlib.Core.Path.{_≡_, refl, sym, _∙_}
+use lib.ListN.{length, drop}
+use Rattle.image.specs.Rows.{costs-fault}
 use native.Mathlib.Omega.{arith}
 use Rattle.image.proofs.building.check_cost_list.Statement.{statement}
 use Rattle.image.proofs.building.check_cost_list.Tie as tie
-use Rattle.image.proofs.building.check_cost_list.Reads as reads
-use Rattle.image.proofs.building.check_cost_list.Lts as lts
 
 abbrev Inv-loop : tie.InvT-loop
 Inv-loop costs i₀ i = (i ≤ length costs) × (costs-fault 0 costs ≡ costs-fault i (drop i costs))
@@ -17,39 +14,30 @@ Inv-loop costs i₀ i = (i ≤ length costs) × (costs-fault 0 costs ≡ costs-f
 abbrev μ-loop : tie.MeasureT-loop
 μ-loop costs i₀ i = length costs - i
 
--- src/building.rt:53:5
 loop-holds : tie.Need-loop-holds Inv-loop μ-loop
 loop-holds c = (omega arith, refl)
 
--- src/building.rt:54:22
 mul-if1 : tie.Need-mul-if1 Inv-loop μ-loop
 mul-if1 c = omega arith
 
--- src/building.rt:54:22
 shared-slice-read-if1 : tie.Need-shared-slice-read-if1 Inv-loop μ-loop
 shared-slice-read-if1 c = omega arith
 
--- src/building.rt:55:59
 cast-t7 : tie.Need-cast-t7 Inv-loop μ-loop
 cast-t7 c = omega arith
 
--- src/building.rt:55:13
 returns : tie.Need-returns Inv-loop μ-loop
 returns c = sym (c .before .before .before .loop .inv .1 ∙ cost-found _ _ (c .before .before .loop-test .taken) (c .if1 .taken))
 
--- src/building.rt:57:9
 add-i : tie.Need-add-i Inv-loop μ-loop
 add-i c = omega arith
 
--- src/building.rt:53:5
 loop-less : tie.Need-loop-less Inv-loop μ-loop
 loop-less c = omega arith
 
--- src/building.rt:53:5
 loop-again : tie.Need-loop-again Inv-loop μ-loop
 loop-again c = (omega arith, c .before .before .before .loop .inv .1 ∙ cost-passed _ _ (c .before .before .loop-test .taken) (c .if1 .left))
 
--- src/building.rt:48:1
 returns-2 : tie.Need-returns-2 Inv-loop μ-loop
 returns-2 c = sym (c .before .loop .inv .1 ∙ costs-end _ _ (c .loop-test .left))
 

@@ -1,16 +1,12 @@
+-- `image::building::check_lists` meets its contract. Assumes nothing.
 use lib.Dec.{ltb}
-use Rattle.image.specs.Outcome.{_then_}
-use Rattle.image.specs.Layout.{total}
+use Rattle.image.specs.Outcome.{_then_, sound, row}
+use Rattle.image.specs.Layout.{total, half}
 use Rattle.image.specs.Calls.{build-fault}
-use Prim.Native.Nat.{ℕ, _*_, _%_, _/_, _≤_}
-use native.Mathlib.Omega.{arith}
 use mathlib.Core.Path.{_≡_, sym, _∙_, ap}
 use mathlib.Core.Bool.{true}
-use lib.ListN.{length}
 use borrow.Author.Tests.{not-true, not-false, lt-ltb, le-ltb}
-use Rattle.image.specs.Outcome.{sound, fault, row}
-use Rattle.image.specs.Rows.{in-range, pairs, arcs-fault, costs-fault, lists-fault}
-use Rattle.image.specs.Layout.{half}
+use Rattle.image.specs.Rows.{in-range, pairs, arcs-fault, lists-fault}
 use Rattle.image.specs.Refusals.{verdict}
 use Rattle.image.proofs.OutcomeLaws.{then-fault, then-next}
 use Rattle.image.proofs.CheckLaws.{in-range-true}
@@ -18,29 +14,18 @@ use Rattle.image.proofs.BuildLaws.{too-many, row-3, row-4-odd, row-4-co
 use borrow.Author.Needs.{needs}
 use Rattle.image.proofs.building.check_lists.Statement.{statement}
 use Rattle.image.proofs.building.check_lists.Tie as tie
-use Rattle.image.proofs.building.check_lists.Reads as reads
-use Rattle.image.proofs.building.check_lists.Lts as lts
-use Rattle.image.proofs.building.check_arc_list.Reads as check-arc-list-reads
-use Rattle.image.proofs.building.check_cost_list.Reads as check-cost-list-reads
-use Rattle.image.proofs.layout.cost_count.Reads as cost-count-reads
-use Rattle.image.proofs.layout.image_length.Reads as image-length-reads
-use Rattle.image.proofs.rows.in_range.Reads as in-range-reads
 
--- src/building.rt:68:9
 returns : tie.Need-returns
 unfolding half
 returns c = let a = c .before .before .before .args in
     sym (row-3 (a .n) (a .k) _ _ _ (too-many (a .n) _ (a .k) (c .if1 .taken)))
 
--- src/building.rt:70:21
 cast-in-range : tie.Need-cast-in-range
 cast-in-range c = search needs
 
--- src/building.rt:70:9
 in-range-requires : tie.Need-in-range-requires
 in-range-requires c κs = search needs
 
--- src/building.rt:71:9
 returns-2 : tie.Need-returns-2
 unfolding half
 returns-2 c = sym (row-3 _ _ _ _ _ (sym (c .before .in-range .ensures) ∙ not-true _ (c .if2 .taken)))
@@ -53,37 +38,30 @@ ranges : (c : tie.Else2) → in-range (start c .args .n) (half (start c .args .n
 unfolding half
 ranges c = sym (c .before .in-range .ensures) ∙ not-false _ (c .if2 .left)
 
--- src/building.rt:74:9
 returns-3 : tie.Need-returns-3
 returns-3 c = sym (row-4-odd _ _ _ _ _ (ranges (c .before)) (c .if3 .taken))
 
--- src/building.rt:76:34
 cast-cost-count : tie.Need-cast-cost-count
 cast-cost-count c = search needs
 
--- src/building.rt:76:23
 cost-count-requires : tie.Need-cost-count-requires
 unfolding half
 cost-count-requires c κs = let r = in-range-true (ranges (c .before)) in (r .arcs-to, r .columns-to)
 
--- src/building.rt:76:23
 cast-if4 : tie.Need-cast-if4
 cast-if4 c = search needs
 
--- src/building.rt:77:9
 returns-4 : tie.Need-returns-4
 unfolding half
 returns-4 c = let e = c .before .before in
     sym (row-4-costs _ _ _ _ _ (ranges (e .before)) (e .if3 .left) (λ w. c .if4 .taken (w ∙ sym (c .before .cost-count .ensures .0))))
 
--- src/building.rt:79:9
 check-arc-list-requires : tie.Need-check-arc-list-requires
 check-arc-list-requires c κs = search needs
 
 enum-told : tie.Need-enum-told
 enum-told c = search needs
 
--- src/building.rt:81:9
 enum-told-2 : tie.Need-enum-told-2
 enum-told-2 c = search needs
 
@@ -110,51 +88,42 @@ lists-sound c =
     let k = c .before .before in
     then-next _ (arcs-sound (k .before)) ∙ sym (k .check-cost-list .ensures) ∙ ap verdict (c .enum-told3 .given .1)
 
--- src/building.rt:81:9
 returns-5 : tie.Need-returns-5
 unfolding lists-fault half
 returns-5 c = let k = c .before .before in
     let e = ap verdict (c .enum-told2 .given .1) in
     e ∙ sym (decides (k .before) ∙ then-fault _ (then-fault _ (sym (k .check-arc-list .ensures) ∙ e)))
 
--- src/building.rt:83:9
 check-cost-list-requires : tie.Need-check-cost-list-requires
 check-cost-list-requires c κs = search needs
 
 enum-told-3 : tie.Need-enum-told-3
 enum-told-3 c = search needs
 
--- src/building.rt:85:9
 enum-told-4 : tie.Need-enum-told-4
 enum-told-4 c = search needs
 
--- src/building.rt:85:9
 returns-6 : tie.Need-returns-6
 unfolding lists-fault
 returns-6 c = let k = c .before .before in
     let e = ap verdict (c .enum-told4 .given .1) in
     e ∙ sym (decides (k .before .before .before .before) ∙ then-fault _ (then-next _ (arcs-sound (k .before)) ∙ sym (k .check-cost-list .ensures) ∙ e))
 
--- src/building.rt:87:28
 cast-image-length : tie.Need-cast-image-length
 cast-image-length c = search needs
 
--- src/building.rt:87:15
 image-length-requires : tie.Need-image-length-requires
 unfolding half
 image-length-requires c κs = let r = in-range-true (ranges (passed c .before .before .before)) in (r .arcs-to, r .columns-to)
 
--- src/building.rt:87:15
 cast-if5 : tie.Need-cast-if5
 cast-if5 c = search needs
 
--- src/building.rt:88:9
 returns-7 : tie.Need-returns-7
 unfolding row half
 returns-7 c = let t = c .before .before in
     sym (decides (passed t) ∙ then-next _ (lists-sound t) ∙ rw (lt-ltb _ _ (rw (c .before .image-length .ensures) at (c .if5 .taken))))
 
--- src/building.rt:63:1
 returns-8 : tie.Need-returns-8
 unfolding row half
 returns-8 c = let t = c .before .before in

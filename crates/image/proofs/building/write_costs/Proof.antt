@@ -1,3 +1,4 @@
+-- `image::building::write_costs` meets its contract. Assumes nothing.
 use Rattle.image.proofs.ByteLaws.{write-none, write-more, write-all}
 use Prim.Native.Nat.{_+_, _*_, _-_, _≤_}
 use mathlib.Core.Path.{_≡_, refl, _∙_}
@@ -7,9 +8,6 @@ use Rattle.image.specs.Bytes.{encode}
 use native.Mathlib.Omega.{arith}
 use Rattle.image.proofs.building.write_costs.Statement.{statement}
 use Rattle.image.proofs.building.write_costs.Tie as tie
-use Rattle.image.proofs.building.write_costs.Reads as reads
-use Rattle.image.proofs.building.write_costs.Lts as lts
-use Rattle.image.proofs.bytes.write32.Reads as write32-reads
 
 abbrev Inv-loop : tie.InvT-loop
 Inv-loop image₀ start costs i₀ image i =
@@ -18,50 +16,39 @@ Inv-loop image₀ start costs i₀ image i =
 abbrev μ-loop : tie.MeasureT-loop
 μ-loop image₀ start costs i₀ image i = length costs - i
 
--- src/building.rt:126:5
 loop-holds : tie.Need-loop-holds Inv-loop μ-loop
 loop-holds c = (omega arith, refl, write-none 4 (c .before .before .args .costs .now) (c .before .before .args .image .now) (c .before .before .args .start))
 
--- src/building.rt:127:32
 mul-write32 : tie.Need-mul-write32 Inv-loop μ-loop
 mul-write32 c = omega arith
 
--- src/building.rt:127:24
 add-write32 : tie.Need-add-write32 Inv-loop μ-loop
 add-write32 c = omega arith
 
--- src/building.rt:127:39
 mul-write32-2 : tie.Need-mul-write32-2 Inv-loop μ-loop
 mul-write32-2 c = omega arith
 
--- src/building.rt:127:39
 shared-slice-read-write32 : tie.Need-shared-slice-read-write32 Inv-loop μ-loop
 shared-slice-read-write32 c = omega arith
 
--- src/building.rt:127:9
 write32-requires : tie.Need-write32-requires Inv-loop μ-loop
 write32-requires c κs = omega arith
 
--- src/building.rt:128:9
 add-i : tie.Need-add-i Inv-loop μ-loop
 add-i c = omega arith
 
--- src/building.rt:126:5
 loop-less : tie.Need-loop-less Inv-loop μ-loop
 loop-less c = omega arith
 
--- src/building.rt:126:5
 loop-again : tie.Need-loop-again Inv-loop μ-loop
 loop-again c = let w = c .before .before in
     let h = w .before .before .before .before in
     let a = h .before .before .before .args in
     (omega arith, w .write32 .kept .0 ∙ h .loop .inv .1, w .write32 .ensures ∙ write-more 4 (a .costs .now) (h .loop .image) (a .image .now) (a .start) (h .loop .i) (omega arith) (omega arith) (h .loop .inv .2))
 
--- src/building.rt:121:1
 same-length : tie.Need-same-length Inv-loop μ-loop
 same-length c = omega arith
 
--- src/building.rt:121:1
 returns : tie.Need-returns Inv-loop μ-loop
 returns c = let a = c .before .before .before .before .args in
     write-all 4 (a .costs .now) _ (a .image .now) (a .start) (c .before .loop .i) (omega arith) (c .before .loop .inv .2)

@@ -1,67 +1,45 @@
+-- `image::building::write_header` meets its contract. Assumes nothing.
 use Prim.Native.Nat.{ℕ}
-use mathlib.Core.Path.{_≡_, refl, _∙_, ap, subst}
+use mathlib.Core.Path.{subst}
 use Rattle.image.proofs.BuildLaws.{Wrote, header-written}
-use mathlib.Core.Path.{_≡_, refl, _∙_}
-use mathlib.Core.List.{List, [], _∷_, _++_}
-use lib.ListN.{drop}
-use Rattle.image.specs.Bytes.{bytes, encode}
-use Rattle.image.specs.Layout.{header, costs-start, total}
-use Rattle.image.proofs.ByteLaws.{write-next}
+use Rattle.image.specs.Layout.{costs-start}
 use borrow.Author.Needs.{needs}
 use Rattle.image.proofs.building.write_header.Statement.{statement}
 use Rattle.image.proofs.building.write_header.Tie as tie
-use Rattle.image.proofs.building.write_header.Reads as reads
-use Rattle.image.proofs.building.write_header.Lts as lts
-use Rattle.image.proofs.bytes.write16.Reads as write16-reads
-use Rattle.image.proofs.bytes.write32.Reads as write32-reads
-use Rattle.image.proofs.layout.costs_start.Reads as costs-start-reads
-use Rattle.image.proofs.layout.image_length.Reads as image-length-reads
 
--- src/building.rt:98:5
 write16-requires : tie.Need-write16-requires
 write16-requires c κs = search needs
 
--- src/building.rt:99:5
 write16-requires-2 : tie.Need-write16-requires-2
 write16-requires-2 c κs = search needs
 
--- src/building.rt:100:5
 write16-requires-3 : tie.Need-write16-requires-3
 write16-requires-3 c κs = search needs
 
--- src/building.rt:101:5
 write16-requires-4 : tie.Need-write16-requires-4
 write16-requires-4 c κs = search needs
 
--- src/building.rt:102:5
 write32-requires : tie.Need-write32-requires
 write32-requires c κs = search needs
 
--- src/building.rt:103:24
 costs-start-requires : tie.Need-costs-start-requires
 costs-start-requires c κs = search needs
 
--- src/building.rt:103:5
 write32-requires-2 : tie.Need-write32-requires-2
 write32-requires-2 c κs = search needs
 
--- src/building.rt:104:24
 image-length-requires : tie.Need-image-length-requires
 image-length-requires c κs = search needs
 
--- src/building.rt:104:5
 write32-requires-3 : tie.Need-write32-requires-3
 write32-requires-3 c κs = search needs
 
--- src/building.rt:105:5
 write32-requires-4 : tie.Need-write32-requires-4
 write32-requires-4 c κs = search needs
 
--- src/building.rt:94:1
 same-length : tie.Need-same-length
 same-length c = search needs
 
--- src/building.rt:94:1
 returns : tie.Need-returns
 returns c = let c₈ = c .before .before in
     let c₇ = c₈ .before .before .before .before in

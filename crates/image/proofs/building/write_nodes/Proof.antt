@@ -1,3 +1,4 @@
+-- `image::building::write_nodes` meets its contract. Assumes nothing.
 use Rattle.image.proofs.ByteLaws.{write-none, write-more, write-all}
 use Prim.Native.Nat.{_+_, _*_, _-_, _≤_}
 use mathlib.Core.Path.{_≡_, refl, _∙_}
@@ -7,9 +8,6 @@ use Rattle.image.specs.Bytes.{encode}
 use native.Mathlib.Omega.{arith}
 use Rattle.image.proofs.building.write_nodes.Statement.{statement}
 use Rattle.image.proofs.building.write_nodes.Tie as tie
-use Rattle.image.proofs.building.write_nodes.Reads as reads
-use Rattle.image.proofs.building.write_nodes.Lts as lts
-use Rattle.image.proofs.bytes.write16.Reads as write16-reads
 
 abbrev Inv-loop : tie.InvT-loop
 Inv-loop image₀ start nodes i₀ image i =
@@ -18,54 +16,42 @@ Inv-loop image₀ start nodes i₀ image i =
 abbrev μ-loop : tie.MeasureT-loop
 μ-loop image₀ start nodes i₀ image i = length nodes - i
 
--- src/building.rt:114:5
 loop-holds : tie.Need-loop-holds Inv-loop μ-loop
 loop-holds c = (omega arith, refl, write-none 2 (c .before .before .args .nodes .now) (c .before .before .args .image .now) (c .before .before .args .start))
 
--- src/building.rt:115:32
 mul-write16 : tie.Need-mul-write16 Inv-loop μ-loop
 mul-write16 c = omega arith
 
--- src/building.rt:115:24
 add-write16 : tie.Need-add-write16 Inv-loop μ-loop
 add-write16 c = omega arith
 
--- src/building.rt:115:39
 mul-write16-2 : tie.Need-mul-write16-2 Inv-loop μ-loop
 mul-write16-2 c = omega arith
 
--- src/building.rt:115:39
 shared-slice-read-write16 : tie.Need-shared-slice-read-write16 Inv-loop μ-loop
 shared-slice-read-write16 c = omega arith
 
--- src/building.rt:115:39
 cast-write16 : tie.Need-cast-write16 Inv-loop μ-loop
 cast-write16 c = omega (arith, c .shared-slice-known2 .given (c .before .before .before .loop .i))
 
--- src/building.rt:115:9
 write16-requires : tie.Need-write16-requires Inv-loop μ-loop
 write16-requires c κs = omega (arith, c .shared-slice-known2 .given (c .before .before .before .loop .i))
 
--- src/building.rt:116:9
 add-i : tie.Need-add-i Inv-loop μ-loop
 add-i c = omega arith
 
--- src/building.rt:114:5
 loop-less : tie.Need-loop-less Inv-loop μ-loop
 loop-less c = omega arith
 
--- src/building.rt:114:5
 loop-again : tie.Need-loop-again Inv-loop μ-loop
 loop-again c = let w = c .before .before in
     let h = w .before .before .before .before in
     let a = h .before .before .before .args in
     (omega arith, w .write16 .kept .0 ∙ h .loop .inv .1, w .write16 .ensures ∙ write-more 2 (a .nodes .now) (h .loop .image) (a .image .now) (a .start) (h .loop .i) (omega arith) (omega arith) (h .loop .inv .2))
 
--- src/building.rt:109:1
 same-length : tie.Need-same-length Inv-loop μ-loop
 same-length c = omega arith
 
--- src/building.rt:109:1
 returns : tie.Need-returns Inv-loop μ-loop
 returns c = let a = c .before .before .before .before .args in
     write-all 2 (a .nodes .now) _ (a .image .now) (a .start) (c .before .loop .i) (omega arith) (c .before .loop .inv .2)

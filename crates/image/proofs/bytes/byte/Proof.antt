@@ -1,20 +1,16 @@
+-- `image::bytes::byte` meets its contract. Assumes nothing.
 use native.Mathlib.Omega.{arith}
 use mathlib.Core.Path.{refl}
 use borrow.Author.Needs.{needs}
 use Rattle.image.proofs.bytes.byte.Statement.{statement}
 use Rattle.image.proofs.bytes.byte.Tie as tie
-use Rattle.image.proofs.bytes.byte.Reads as reads
-use Rattle.image.proofs.bytes.byte.Lts as lts
 
--- src/bytes.rt:13:5
 shared-slice-read-result : tie.Need-shared-slice-read-result
 shared-slice-read-result c = search needs
 
--- src/bytes.rt:13:5
 cast-result : tie.Need-cast-result
 cast-result c = omega (arith, c .shared-slice-known .given (c .before .args .at))
 
--- src/bytes.rt:9:1
 returns : tie.Need-returns
 returns c = (refl, c .shared-slice-known .given (c .before .args .at) .fits)
 

@@ -1,33 +1,23 @@
+-- `image::checking::check` meets its contract. Assumes nothing.
 use Rattle.image.proofs.CheckLaws.{Sized, sized, bounds, body-decides}
-use mathlib.Core.Path.{_≡_, refl, sym, _∙_, ap}
-use mathlib.Core.List.{List}
+use mathlib.Core.Path.{_≡_, sym, _∙_, ap}
 use Rattle.image.specs.Answers.{checked}
 use Rattle.image.specs.Outcome.{sound}
-use Rattle.image.specs.Rows.{pairs, lists-fault}
-use Rattle.image.specs.Layout.{node-count, arc-count, column-count, node-list, cost-list}
 use Rattle.image.specs.Calls.{header-fault, sizes, image-fault, check-outcome}
-use Rattle.image.proofs.OutcomeLaws.{then-fault, then-next, outcome-fault, gives-sound, refuses-fault}
+use Rattle.image.proofs.OutcomeLaws.{then-fault, outcome-fault, gives-sound, refuses-fault}
 use borrow.Author.Needs.{needs}
 use Rattle.image.proofs.checking.check.Statement.{statement}
 use Rattle.image.proofs.checking.check.Tie as tie
-use Rattle.image.proofs.checking.check.Reads as reads
-use Rattle.image.proofs.checking.check.Lts as lts
-use Rattle.image.proofs.checking.check_body.Reads as check-body-reads
-use Rattle.image.proofs.checking.check_header.Reads as check-header-reads
 
--- src/checking.rt:144:9
 check-header-requires : tie.Need-check-header-requires
 check-header-requires c κs = search needs
 
--- src/checking.rt:145:26
 enum-known-header : tie.Need-enum-known-header
 enum-known-header c = search needs
 
--- src/checking.rt:146:9
 enum-told : tie.Need-enum-told
 enum-told c = search needs
 
--- src/checking.rt:146:9
 returns : tie.Need-returns
 unfolding check-outcome image-fault
 returns c = let h = c .before .before in
@@ -43,11 +33,9 @@ known c =
     let g = gives-sound (header-fault b) (sizes b) (sym (ap checked (c .header .given .1)) ∙ h .check-header .ensures) in
     (g .0, sized b (g .1))
 
--- src/checking.rt:148:5
 check-body-requires : tie.Need-check-body-requires
 check-body-requires c κs = let k = known (c .before) in bounds _ _ _ _ (k .0) (k .1)
 
--- src/checking.rt:141:1
 returns-2 : tie.Need-returns-2
 returns-2 c = let k = known (c .before .before) in
     c .check-body .ensures ∙ body-decides _ _ _ _ (k .0) (k .1)

@@ -1,21 +1,17 @@
+-- `image::checking::check_arcs` meets its contract. Assumes nothing.
 use borrow.Author.Needs.{needs}
-use mathlib.Core.Path.{ap₂}
+use mathlib.Core.Path.{ap₂, _≡_, refl, sym, _∙_, ap}
 use Rattle.image.specs.Refusals.{verdict}
 use Rattle.image.proofs.ByteLaws.{decode-at}
 use Rattle.image.proofs.RowLaws.{length-pairs, pairs-at, arc-found, arc-passed, arcs-end}
 use Prim.Native.Nat.{ℕ, _+_, _*_, _-_, _≤_, _<_}
-use mathlib.Core.Path.{_≡_, refl, sym, _∙_, ap}
-use mathlib.Core.List.{List, _++_}
-use lib.ListN.{length, getD, take, drop, length-set}
+use mathlib.Core.List.{List}
+use lib.ListN.{length, getD, drop}
 use Rattle.image.specs.Bytes.{field, decode}
-use Rattle.image.specs.Rows.{pairs, arcs-fault, costs-fault}
+use Rattle.image.specs.Rows.{pairs, arcs-fault}
 use native.Mathlib.Omega.{arith}
 use Rattle.image.proofs.checking.check_arcs.Statement.{statement}
 use Rattle.image.proofs.checking.check_arcs.Tie as tie
-use Rattle.image.proofs.checking.check_arcs.Reads as reads
-use Rattle.image.proofs.checking.check_arcs.Lts as lts
-use Rattle.image.proofs.bytes.read16.Reads as read16-reads
-use Rattle.image.proofs.rows.check_arc.Reads as check-arc-reads
 
 abbrev Inv-loop : tie.InvT-loop
 Inv-loop records n m last-tail₀ last-head₀ i₀ last-tail last-head i = (i ≤ m) × (arcs-fault n (0, 0) 0 (pairs m (decode 2 (2 * m) records)) ≡ arcs-fault n (last-tail, last-head) i (drop i (pairs m (decode 2 (2 * m) records))))
@@ -23,35 +19,27 @@ Inv-loop records n m last-tail₀ last-head₀ i₀ last-tail last-head i = (i �
 abbrev μ-loop : tie.MeasureT-loop
 μ-loop records n m last-tail₀ last-head₀ i₀ last-tail last-head i = m - i
 
--- src/checking.rt:100:5
 loop-holds : tie.Need-loop-holds Inv-loop μ-loop
 loop-holds c = (omega arith, refl)
 
--- src/checking.rt:101:36
 mul-read16 : tie.Need-mul-read16 Inv-loop μ-loop
 mul-read16 c = omega arith
 
--- src/checking.rt:101:13
 read16-requires : tie.Need-read16-requires Inv-loop μ-loop
 read16-requires c κs = omega arith
 
--- src/checking.rt:102:36
 mul-read16-2 : tie.Need-mul-read16-2 Inv-loop μ-loop
 mul-read16-2 c = omega arith
 
--- src/checking.rt:102:36
 add-read16 : tie.Need-add-read16 Inv-loop μ-loop
 add-read16 c = omega arith
 
--- src/checking.rt:102:13
 read16-requires-2 : tie.Need-read16-requires-2 Inv-loop μ-loop
 read16-requires-2 c κs = omega arith
 
--- src/checking.rt:103:58
 cast-check-arc : tie.Need-cast-check-arc Inv-loop μ-loop
 cast-check-arc c = omega arith
 
--- src/checking.rt:103:13
 check-arc-requires : tie.Need-check-arc-requires Inv-loop μ-loop
 check-arc-requires c κs = omega arith
 
@@ -83,30 +71,24 @@ read c =
 enum-told : tie.Need-enum-told Inv-loop μ-loop
 enum-told c = search needs
 
--- src/checking.rt:105:13
 enum-told-2 : tie.Need-enum-told-2 Inv-loop μ-loop
 enum-told-2 c = search needs
 
--- src/checking.rt:105:13
 returns : tie.Need-returns Inv-loop μ-loop
 returns c = let k = c .before .before in
     let e = ap verdict (c .enum-told2 .given .1) in
     e ∙ sym (head k .loop .inv .1 ∙ arc-found _ _ _ _ (here k) (read k) (sym (k .check-arc .ensures) ∙ e))
 
--- src/checking.rt:109:9
 add-i : tie.Need-add-i Inv-loop μ-loop
 add-i c = omega arith
 
--- src/checking.rt:100:5
 loop-less : tie.Need-loop-less Inv-loop μ-loop
 loop-less c = omega arith
 
--- src/checking.rt:100:5
 loop-again : tie.Need-loop-again Inv-loop μ-loop
 loop-again c = let k = c .before .before in
     (omega arith, head k .loop .inv .1 ∙ arc-passed _ _ _ _ (here k) (read k) (sym (k .check-arc .ensures) ∙ ap verdict (c .enum-told .given .1)))
 
--- src/checking.rt:93:1
 returns-2 : tie.Need-returns-2 Inv-loop μ-loop
 returns-2 c = let a = c .before .before .before .args in
     sym (c .before .loop .inv .1 ∙ arcs-end _ _ _ _ (omega (arith, length-pairs (a .m) (decode 2 (2 * a .m) (a .records .now)))))

@@ -1,5 +1,6 @@
+-- `image::checking::check_body` meets its contract. Assumes nothing.
 use Rattle.image.specs.Outcome.{sound}
-use Prim.Native.Nat.{ℕ, _*_, _≤_}
+use Prim.Native.Nat.{ℕ, _*_}
 use native.Mathlib.Omega.{arith}
 use mathlib.Core.Path.{_≡_, sym, _∙_, ap, ap₂}
 use mathlib.Core.List.{List}
@@ -14,31 +15,20 @@ use Rattle.image.proofs.CheckLaws.{total-is, costs-start-is}
 use borrow.Author.Needs.{needs}
 use Rattle.image.proofs.checking.check_body.Statement.{statement}
 use Rattle.image.proofs.checking.check_body.Tie as tie
-use Rattle.image.proofs.checking.check_body.Reads as reads
-use Rattle.image.proofs.checking.check_body.Lts as lts
-use Rattle.image.proofs.checking.check_arcs.Reads as check-arcs-reads
-use Rattle.image.proofs.checking.check_costs.Reads as check-costs-reads
-use Rattle.image.proofs.layout.cost_count.Reads as cost-count-reads
-use Rattle.image.proofs.layout.costs_start.Reads as costs-start-reads
 
--- src/checking.rt:128:27
 sub-check-arcs : tie.Need-sub-check-arcs
 sub-check-arcs c = omega (arith, total-is (c .before .args .m) (c .before .args .k), costs-start-is (c .before .args .m))
 
--- src/checking.rt:128:27
 part-check-arcs-start : tie.Need-part-check-arcs-start
 part-check-arcs-start c = omega (arith, total-is (c .before .args .m) (c .before .args .k), costs-start-is (c .before .args .m))
 
--- src/checking.rt:128:27
 part-check-arcs-end : tie.Need-part-check-arcs-end
 part-check-arcs-end c = search needs
 
--- src/checking.rt:128:9
 check-arcs-requires : tie.Need-check-arcs-requires
 check-arcs-requires c κs = let a = c .before .before .args in
     (rw to-end (omega (arith, length-drop 24 (a .image .now), total-is (a .m) (a .k), costs-start-is (a .m))), c .before .before .pre .0)
 
--- src/checking.rt:129:29
 enum-known-arcs : tie.Need-enum-known-arcs
 enum-known-arcs c = search needs
 
@@ -62,7 +52,6 @@ costs-are c =
     let s = c .before .before .before in
     c .check-costs .ensures ∙ ap (λ (l : List ℕ). costs-fault 0 (decode 4 (c .before .cost-count .result) l)) (to-end (a .image .now) (s .costs-start .result)) ∙ ap₂ (λ (n i : ℕ). costs-fault 0 (decode 4 n (drop i (a .image .now)))) (c .before .cost-count .ensures .0) (s .costs-start .ensures)
 
--- src/checking.rt:130:9
 returns : tie.Need-returns
 unfolding lists-fault
 returns c = sym (outcome-fault _ (then-fault _ (sym (arcs-is (c .before .before .before)) ∙ ap verdict (c .before .arcs .given .1))))
@@ -70,47 +59,37 @@ returns c = sym (outcome-fault _ (then-fault _ (sym (arcs-is (c .before .before 
 enum-told : tie.Need-enum-told
 enum-told c = search needs
 
--- src/checking.rt:132:17
 costs-start-requires : tie.Need-costs-start-requires
 costs-start-requires c κs = search needs
 
--- src/checking.rt:132:17
 cast-start : tie.Need-cast-start
 cast-start c = search needs
 
--- src/checking.rt:133:29
 sub-check-costs : tie.Need-sub-check-costs
 sub-check-costs c = let a = c .before .before .before .before .before .before .args in
     omega (arith, total-is (a .m) (a .k), c .costs-start .ensures)
 
--- src/checking.rt:133:29
 part-check-costs-start : tie.Need-part-check-costs-start
 part-check-costs-start c = let a = c .before .before .before .before .before .before .args in
     omega (arith, total-is (a .m) (a .k), c .costs-start .ensures)
 
--- src/checking.rt:133:29
 part-check-costs-end : tie.Need-part-check-costs-end
 part-check-costs-end c = search needs
 
--- src/checking.rt:133:46
 cost-count-requires : tie.Need-cost-count-requires
 cost-count-requires c κs = search needs
 
--- src/checking.rt:133:46
 cast-check-costs : tie.Need-cast-check-costs
 cast-check-costs c = search needs
 
--- src/checking.rt:133:9
 check-costs-requires : tie.Need-check-costs-requires
 check-costs-requires c κs = let s = c .before .before in
     let a = s .before .before .before .before .before .before .args in
     (rw to-end (omega (arith, length-drop (s .costs-start .result) (a .image .now), total-is (a .m) (a .k), s .costs-start .ensures, c .cost-count .ensures .0)), c .cost-count .ensures .1)
 
--- src/checking.rt:134:29
 enum-known-costs : tie.Need-enum-known-costs
 enum-known-costs c = search needs
 
--- src/checking.rt:135:9
 returns-2 : tie.Need-returns-2
 unfolding lists-fault
 returns-2 c = let k = c .before .before .before in
@@ -119,7 +98,6 @@ returns-2 c = let k = c .before .before .before in
 enum-told-2 : tie.Need-enum-told-2
 enum-told-2 c = search needs
 
--- src/checking.rt:124:1
 returns-3 : tie.Need-returns-3
 unfolding lists-fault
 returns-3 c = let k = c .before .before in

@@ -1,17 +1,14 @@
+-- `image::checking::check_costs` meets its contract. Assumes nothing.
 use Rattle.image.proofs.ByteLaws.{length-decode, decode-at}
 use Rattle.image.proofs.RowLaws.{cost-found, cost-passed, costs-end}
-use Prim.Native.Nat.{ℕ, _+_, _*_, _-_, _≤_, _<_}
-use mathlib.Core.Path.{_≡_, refl, sym, _∙_, ap}
-use mathlib.Core.List.{List, _++_}
-use lib.ListN.{length, getD, take, drop, length-set}
-use Rattle.image.specs.Bytes.{decode, encode}
-use Rattle.image.specs.Rows.{pairs, arcs-fault, costs-fault}
+use Prim.Native.Nat.{_-_, _≤_, _<_}
+use mathlib.Core.Path.{_≡_, refl, sym, _∙_}
+use lib.ListN.{length, getD, drop}
+use Rattle.image.specs.Bytes.{decode}
+use Rattle.image.specs.Rows.{costs-fault}
 use native.Mathlib.Omega.{arith}
 use Rattle.image.proofs.checking.check_costs.Statement.{statement}
 use Rattle.image.proofs.checking.check_costs.Tie as tie
-use Rattle.image.proofs.checking.check_costs.Reads as reads
-use Rattle.image.proofs.checking.check_costs.Lts as lts
-use Rattle.image.proofs.bytes.read32.Reads as read32-reads
 
 abbrev Inv-loop : tie.InvT-loop
 Inv-loop costs count i₀ i = (i ≤ count) × (costs-fault 0 (decode 4 count costs) ≡ costs-fault i (drop i (decode 4 count costs)))
@@ -19,15 +16,12 @@ Inv-loop costs count i₀ i = (i ≤ count) × (costs-fault 0 (decode 4 count co
 abbrev μ-loop : tie.MeasureT-loop
 μ-loop costs count i₀ i = count - i
 
--- src/checking.rt:120:5
 loop-holds : tie.Need-loop-holds Inv-loop μ-loop
 loop-holds c = (omega arith, refl)
 
--- src/checking.rt:121:36
 mul-read32 : tie.Need-mul-read32 Inv-loop μ-loop
 mul-read32 c = omega arith
 
--- src/checking.rt:121:22
 read32-requires : tie.Need-read32-requires Inv-loop μ-loop
 read32-requires c κs = omega arith
 
@@ -44,27 +38,21 @@ read c = decode-at 4 (start c .args .count) (start c .args .costs .now) (head c 
 here : (c : tie.After-read32 Inv-loop μ-loop) → head c .loop .i < length (decode 4 (start c .args .count) (start c .args .costs .now))
 here c = omega (arith, length-decode 4 (start c .args .count) (start c .args .costs .now))
 
--- src/checking.rt:122:59
 cast-t7 : tie.Need-cast-t7 Inv-loop μ-loop
 cast-t7 c = omega arith
 
--- src/checking.rt:122:13
 returns : tie.Need-returns Inv-loop μ-loop
 returns c = sym (head (c .before) .loop .inv .1 ∙ cost-found _ _ (omega (arith, here (c .before))) (omega (arith, read (c .before))))
 
--- src/checking.rt:124:9
 add-i : tie.Need-add-i Inv-loop μ-loop
 add-i c = omega arith
 
--- src/checking.rt:120:5
 loop-less : tie.Need-loop-less Inv-loop μ-loop
 loop-less c = omega arith
 
--- src/checking.rt:120:5
 loop-again : tie.Need-loop-again Inv-loop μ-loop
 loop-again c = (omega arith, head (c .before) .loop .inv .1 ∙ cost-passed _ _ (omega (arith, here (c .before))) (omega (arith, read (c .before))))
 
--- src/checking.rt:115:1
 returns-2 : tie.Need-returns-2 Inv-loop μ-loop
 returns-2 c = sym (c .before .loop .inv .1 ∙ costs-end _ _ (omega (arith, length-decode 4 (c .before .before .before .args .count) (c .before .before .before .args .costs .now))))
 

@@ -1,55 +1,40 @@
+-- `image::checking::check_header` meets its contract. Assumes nothing.
 use Prim.Native.Nat.{ℕ, _≤_}
 use mathlib.Core.List.{List}
 use lib.ListN.{length}
-use native.Mathlib.Omega.{arith}
-use Rattle.image.specs.Outcome.{gives}
+use Rattle.image.specs.Outcome.{gives, outcome}
 use mathlib.Core.Path.{_≡_, sym, _∙_, ap}
 use mathlib.Core.Bool.{true}
 use borrow.Author.Tests.{not-true, not-false}
-use Rattle.image.specs.Outcome.{Fault, outcome}
 use Rattle.image.specs.Rows.{in-range}
 use Rattle.image.specs.Layout.{edition, node-count, arc-count, column-count, fields-right, total}
-use Rattle.image.specs.Calls.{sizes, header-fault}
 use Rattle.image.proofs.CheckLaws.{row-1, row-2, row-3, row-4, row-5, rows-pass, in-range-true, same-sizes}
 use borrow.Author.Needs.{needs}
 use Rattle.image.proofs.checking.check_header.Statement.{statement}
 use Rattle.image.proofs.checking.check_header.Tie as tie
-use Rattle.image.proofs.checking.check_header.Reads as reads
-use Rattle.image.proofs.checking.check_header.Lts as lts
-use Rattle.image.proofs.bytes.read16.Reads as read16-reads
-use Rattle.image.proofs.checking.fields_right.Reads as fields-right-reads
-use Rattle.image.proofs.layout.image_length.Reads as image-length-reads
-use Rattle.image.proofs.rows.in_range.Reads as in-range-reads
 
--- src/checking.rt:65:9
 returns : tie.Need-returns
 unfolding outcome
 returns c = let b = c .before .before .args .image .now in
     rw (row-1 b (c .if1 .taken))
 
--- src/checking.rt:67:8
 read16-requires : tie.Need-read16-requires
 read16-requires c κs = search needs
 
--- src/checking.rt:68:9
 returns-2 : tie.Need-returns-2
 unfolding outcome edition
 returns-2 c = let b = c .before .before .before .before .args .image .now in
     rw (row-2 b (c .before .before .if1 .left) (λ e. c .if2 .taken (c .before .read16 .ensures .0 ∙ e)))
 
--- src/checking.rt:70:9
 read16-requires-2 : tie.Need-read16-requires-2
 read16-requires-2 c κs = search needs
 
--- src/checking.rt:71:9
 read16-requires-3 : tie.Need-read16-requires-3
 read16-requires-3 c κs = search needs
 
--- src/checking.rt:72:9
 read16-requires-4 : tie.Need-read16-requires-4
 read16-requires-4 c κs = search needs
 
--- src/checking.rt:73:9
 in-range-requires : tie.Need-in-range-requires
 in-range-requires c κs = search needs
 
@@ -94,27 +79,23 @@ fields c = sym (fields-is (c .before)) ∙ not-false _ (c .if4 .left)
 total-is : (c : tie.After-image-length) → c .image-length .result ≡ total (arc-count (image (past (c .before .before .before .before)))) (column-count (image (past (c .before .before .before .before))))
 total-is c = rw (← m-is (c .before .before .before .before), ← k-is (c .before .before .before .before)) (c .image-length .ensures)
 
--- src/checking.rt:74:9
 returns-3 : tie.Need-returns-3
 unfolding outcome
 returns-3 c = let k = c .before in
     rw (row-3 (image (past k)) (long (past k)) (first (past k)) (sym (ranges-is k) ∙ not-true _ (c .if3 .taken)))
 
--- src/checking.rt:76:9
 fields-right-requires : tie.Need-fields-right-requires
 fields-right-requires c κs = let r = in-range-true (ranges c) in
     let e = m-is (c .before) in
     let f = k-is (c .before) in
     (long (past (c .before)), rw e (r .arcs-to), rw f (r .columns-to))
 
--- src/checking.rt:77:9
 returns-4 : tie.Need-returns-4
 unfolding outcome
 returns-4 c = let e = c .before .before in
     let k = e .before in
     rw (row-4 (image (past k)) (long (past k)) (first (past k)) (ranges e) (sym (fields-is (c .before)) ∙ not-true _ (c .if4 .taken)))
 
--- src/checking.rt:79:23
 image-length-requires : tie.Need-image-length-requires
 image-length-requires c κs = let k = c .before .before .before in
     let r = in-range-true (ranges (c .before .before)) in
@@ -122,18 +103,15 @@ image-length-requires c κs = let k = c .before .before .before in
     let f = k-is k in
     (rw e (r .arcs-to), rw f (r .columns-to))
 
--- src/checking.rt:79:23
 cast-if5 : tie.Need-cast-if5
 cast-if5 c = search needs
 
--- src/checking.rt:80:9
 returns-5 : tie.Need-returns-5
 unfolding outcome
 returns-5 c = let e = c .before .before in
     let k = e .before .before .before in
     rw (row-5 (image (past k)) (long (past k)) (first (past k)) (ranges (e .before .before)) (fields e) (λ w. c .if5 .taken (w ∙ sym (total-is (c .before)))))
 
--- src/checking.rt:61:1
 returns-6 : tie.Need-returns-6
 unfolding outcome
 returns-6 c = let e = c .before .before in

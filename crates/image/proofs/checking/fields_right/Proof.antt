@@ -1,33 +1,25 @@
+-- `image::checking::fields_right` meets its contract. Assumes nothing.
 use lib.Dec.{eqb}
 use Rattle.image.specs.Bytes.{field}
 use Prim.Native.Nat.{ℕ}
 use mathlib.Core.Path.{_≡_, sym, _∙_, ap}
-use mathlib.Core.Bool.{true, false}
+use mathlib.Core.Bool.{true}
 use borrow.Author.Tests.{eq-eqb, ne-eqb}
 use Rattle.image.specs.Layout.{fields-right, costs-start}
 use borrow.Author.Needs.{needs}
 use Rattle.image.proofs.checking.fields_right.Statement.{statement}
 use Rattle.image.proofs.checking.fields_right.Tie as tie
-use Rattle.image.proofs.checking.fields_right.Reads as reads
-use Rattle.image.proofs.checking.fields_right.Lts as lts
-use Rattle.image.proofs.bytes.read32.Reads as read32-reads
-use Rattle.image.proofs.layout.costs_start.Reads as costs-start-reads
-use Rattle.image.proofs.layout.image_length.Reads as image-length-reads
 
--- src/checking.rt:48:8
 read32-requires : tie.Need-read32-requires
 read32-requires c κs = search needs
 
--- src/checking.rt:49:9
 returns : tie.Need-returns
 unfolding fields-right
 returns c = simp (ne-eqb _ _ (λ e. c .if1 .taken (c .before .read32 .ensures ∙ e)))
 
--- src/checking.rt:51:8
 read32-requires-2 : tie.Need-read32-requires-2
 read32-requires-2 c κs = search needs
 
--- src/checking.rt:51:29
 costs-start-requires : tie.Need-costs-start-requires
 costs-start-requires c κs = search needs
 
@@ -38,31 +30,25 @@ arcs-at c = eq-eqb _ _ (sym (c .before .read32 .ensures) ∙ c .if1 .left)
 costs-at : (c : tie.Else2) → eqb (field 4 (c .before .before .before .before .before .before .args .image .now) 12) (costs-start (c .before .before .before .before .before .before .args .m)) ≡ true
 costs-at c = eq-eqb _ _ (sym (c .before .before .read322 .ensures) ∙ c .if2 .left ∙ c .before .costs-start .ensures)
 
--- src/checking.rt:52:9
 returns-2 : tie.Need-returns-2
 unfolding fields-right
 returns-2 c = let k = c .before in
     simp (arcs-at (k .before .before), ne-eqb _ _ (λ e. c .if2 .taken (k .before .read322 .ensures ∙ e ∙ sym (k .costs-start .ensures))))
 
--- src/checking.rt:54:8
 read32-requires-3 : tie.Need-read32-requires-3
 read32-requires-3 c κs = search needs
 
--- src/checking.rt:54:29
 image-length-requires : tie.Need-image-length-requires
 image-length-requires c κs = search needs
 
--- src/checking.rt:55:9
 returns-3 : tie.Need-returns-3
 unfolding fields-right
 returns-3 c = let k = c .before in
     simp (arcs-at (k .before .before .before .before .before), costs-at (k .before .before), ne-eqb _ _ (λ e. c .if3 .taken (k .before .read323 .ensures ∙ e ∙ sym (k .image-length .ensures))))
 
--- src/checking.rt:57:5
 read32-requires-4 : tie.Need-read32-requires-4
 read32-requires-4 c κs = search needs
 
--- src/checking.rt:44:1
 returns-4 : tie.Need-returns-4
 unfolding fields-right
 returns-4 c = let k = c .before .before in

@@ -1,16 +1,13 @@
+-- `image::layout::cost_count` meets its contract. Assumes nothing.
 use native.Mathlib.Omega.{arith}
 use native.Mathlib.Nat.{mul-le-mul}
 use mathlib.Core.Path.{refl}
 use Rattle.image.proofs.layout.cost_count.Statement.{statement}
 use Rattle.image.proofs.layout.cost_count.Tie as tie
-use Rattle.image.proofs.layout.cost_count.Reads as reads
-use Rattle.image.proofs.layout.cost_count.Lts as lts
 
--- src/layout.rt:11:5
 mul-result : tie.Need-mul-result
 mul-result c = omega (arith, mul-le-mul (c .pre .0) (c .pre .1))
 
--- src/layout.rt:7:1
 returns : tie.Need-returns
 returns c = (refl, mul-le-mul (c .pre .0) (c .pre .1))
 

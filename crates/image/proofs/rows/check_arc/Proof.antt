@@ -1,3 +1,4 @@
+-- `image::rows::check_arc` meets its contract. Assumes nothing.
 use mathlib.Core.Bool.{true}
 use mathlib.Core.Path.{_≡_, sym, _∙_}
 use native.Mathlib.Omega.{arith}
@@ -8,24 +9,17 @@ use Rattle.terms.specs.Network.{below}
 use borrow.Author.Needs.{needs}
 use Rattle.image.proofs.rows.check_arc.Statement.{statement}
 use Rattle.image.proofs.rows.check_arc.Tie as tie
-use Rattle.image.proofs.rows.check_arc.Reads as reads
-use Rattle.image.proofs.rows.check_arc.Lts as lts
-use Rattle.image.proofs.rows.is_node.Reads as is-node-reads
 
--- src/rows.rt:48:9
 is-node-requires : tie.Need-is-node-requires
 is-node-requires c κs = search needs
 
--- src/rows.rt:49:9
 returns : tie.Need-returns
 unfolding arc-fault row _then_
 returns c = simp (sym (c .before .is-node .ensures) ∙ not-true _ (c .if1 .taken))
 
--- src/rows.rt:51:9
 is-node-requires-2 : tie.Need-is-node-requires-2
 is-node-requires-2 c κs = search needs
 
--- src/rows.rt:52:9
 returns-2 : tie.Need-returns-2
 unfolding arc-fault row _then_
 returns-2 c = let tail = sym (c .before .before .before .is-node .ensures) ∙ not-false _ (c .before .before .if1 .left) in
@@ -39,12 +33,10 @@ nodes : (c : tie.Else2) → (is-node (start c .args .n) (start c .args .tail) �
 nodes c =
     (sym (c .before .before .before .is-node .ensures) ∙ not-false _ (c .before .before .if1 .left), sym (c .before .is-node2 .ensures) ∙ not-false _ (c .if2 .left))
 
--- src/rows.rt:55:9
 returns-3 : tie.Need-returns-3
 unfolding arc-fault row _then_
 returns-3 c = simp (nodes (c .before) .0, nodes (c .before) .1, eq-eqb _ _ (c .if3 .taken))
 
--- src/rows.rt:58:9
 returns-4 : tie.Need-returns-4
 unfolding arc-fault row _then_ below
 returns-4 c = let e = c .before in
@@ -57,19 +49,16 @@ level c = omega arith
 above : (c : tie.Then5) → start (c .before .before .before) .args .last-tail ≡ start (c .before .before .before) .args .tail → ⊥
 above c e = omega arith
 
--- src/rows.rt:61:9
 returns-5 : tie.Need-returns-5
 unfolding arc-fault row _then_ below
 returns-5 c = let e = c .before .before in
     simp (nodes (e .before) .0, nodes (e .before) .1, ne-eqb _ _ (e .if3 .left), le-ltb _ _ (c .before .if4 .left), ne-eqb _ _ (above c))
 
--- src/rows.rt:64:9
 returns-6 : tie.Need-returns-6
 unfolding arc-fault row _then_ below
 returns-6 c = let e = c .before .before .before in
     simp (nodes (e .before) .0, nodes (e .before) .1, ne-eqb _ _ (e .if3 .left), le-ltb _ _ (c .before .before .if4 .left), eq-eqb _ _ (level (c .before)), le-ltb _ _ (c .if6 .taken))
 
--- src/rows.rt:38:1
 returns-7 : tie.Need-returns-7
 unfolding arc-fault row _then_ below
 returns-7 c = let e = c .before .before .before in

@@ -1,16 +1,13 @@
+-- `image::rows::is_node` meets its contract. Assumes nothing.
 use borrow.Author.Tests.{lt-leb, le-leb}
 use Rattle.image.specs.Rows.{is-node}
 use Rattle.image.proofs.rows.is_node.Statement.{statement}
 use Rattle.image.proofs.rows.is_node.Tie as tie
-use Rattle.image.proofs.rows.is_node.Reads as reads
-use Rattle.image.proofs.rows.is_node.Lts as lts
 
--- src/rows.rt:32:9
 returns : tie.Need-returns
 unfolding is-node
 returns c = simp (lt-leb _ _ (c .if1 .taken))
 
--- src/rows.rt:28:1
 returns-2 : tie.Need-returns-2
 unfolding is-node
 returns-2 c = simp (le-leb _ _ (c .if1 .left))

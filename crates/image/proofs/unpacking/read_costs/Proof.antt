@@ -1,18 +1,15 @@
+-- `image::unpacking::read_costs` meets its contract. Assumes nothing.
 use Rattle.image.proofs.ByteLaws.{length-decode, decode-at}
 use Rattle.image.proofs.SliceLaws.{copy-more}
 use lib.Seq.{take-all}
-use Prim.Native.Nat.{ℕ, _+_, _*_, _-_, _≤_, _<_}
-use mathlib.Core.Path.{_≡_, refl, sym, _∙_, ap}
-use mathlib.Core.List.{List, _++_}
+use Prim.Native.Nat.{_+_, _-_, _≤_}
+use mathlib.Core.Path.{_≡_, refl, sym, _∙_}
+use mathlib.Core.List.{_++_}
 use lib.ListN.{length, getD, take, drop, length-set}
-use Rattle.image.specs.Bytes.{decode, encode}
-use Rattle.image.specs.Rows.{pairs, arcs-fault, costs-fault}
+use Rattle.image.specs.Bytes.{decode}
 use native.Mathlib.Omega.{arith}
 use Rattle.image.proofs.unpacking.read_costs.Statement.{statement}
 use Rattle.image.proofs.unpacking.read_costs.Tie as tie
-use Rattle.image.proofs.unpacking.read_costs.Reads as reads
-use Rattle.image.proofs.unpacking.read_costs.Lts as lts
-use Rattle.image.proofs.bytes.read32.Reads as read32-reads
 
 abbrev Inv-loop : tie.InvT-loop
 Inv-loop source count costs₀ i₀ costs i = (i ≤ count) × (length costs ≡ length costs₀) × (costs ≡ take i (decode 4 count source) ++ drop i costs₀)
@@ -20,35 +17,27 @@ Inv-loop source count costs₀ i₀ costs i = (i ≤ count) × (length costs ≡
 abbrev μ-loop : tie.MeasureT-loop
 μ-loop source count costs₀ i₀ costs i = count - i
 
--- src/unpacking.rt:40:5
 loop-holds : tie.Need-loop-holds Inv-loop μ-loop
 loop-holds c = (omega arith, refl, refl)
 
--- src/unpacking.rt:41:35
 mul-read32 : tie.Need-mul-read32 Inv-loop μ-loop
 mul-read32 c = omega arith
 
--- src/unpacking.rt:41:20
 read32-requires : tie.Need-read32-requires Inv-loop μ-loop
 read32-requires c κs = omega arith
 
--- src/unpacking.rt:41:9
 mul-costs : tie.Need-mul-costs Inv-loop μ-loop
 mul-costs c = omega arith
 
--- src/unpacking.rt:41:9
 slice-write-costs : tie.Need-slice-write-costs Inv-loop μ-loop
 slice-write-costs c = omega arith
 
--- src/unpacking.rt:42:9
 add-i : tie.Need-add-i Inv-loop μ-loop
 add-i c = omega arith
 
--- src/unpacking.rt:40:5
 loop-less : tie.Need-loop-less Inv-loop μ-loop
 loop-less c = omega arith
 
--- src/unpacking.rt:40:5
 loop-again : tie.Need-loop-again Inv-loop μ-loop
 loop-again c = let h = c .before .before in
     let a = h .before .before .before .args in
@@ -57,11 +46,9 @@ loop-again c = let h = c .before .before in
     let long = length-decode 4 (a .count) (a .source .now) in
     (omega arith, simp length-set (omega arith), rw (h .loop .inv .2, read) (copy-more s (a .costs .now) (h .loop .i) (omega arith) (omega arith)))
 
--- src/unpacking.rt:35:1
 same-length : tie.Need-same-length Inv-loop μ-loop
 same-length c = omega arith
 
--- src/unpacking.rt:35:1
 returns : tie.Need-returns Inv-loop μ-loop
 returns c = let a = c .before .before .before .before .args in
     let s = decode 4 (a .count) (a .source .now) in

@@ -1,18 +1,15 @@
+-- `image::unpacking::read_nodes` meets its contract. Assumes nothing.
 use Rattle.image.proofs.ByteLaws.{length-decode, decode-at}
 use Rattle.image.proofs.SliceLaws.{copy-more}
 use lib.Seq.{take-all}
-use Prim.Native.Nat.{ℕ, _+_, _*_, _-_, _≤_, _<_}
-use mathlib.Core.Path.{_≡_, refl, sym, _∙_, ap}
-use mathlib.Core.List.{List, _++_}
+use Prim.Native.Nat.{_+_, _-_, _≤_}
+use mathlib.Core.Path.{_≡_, refl, sym, _∙_}
+use mathlib.Core.List.{_++_}
 use lib.ListN.{length, getD, take, drop, length-set}
-use Rattle.image.specs.Bytes.{decode, encode}
-use Rattle.image.specs.Rows.{pairs, arcs-fault, costs-fault}
+use Rattle.image.specs.Bytes.{decode}
 use native.Mathlib.Omega.{arith}
 use Rattle.image.proofs.unpacking.read_nodes.Statement.{statement}
 use Rattle.image.proofs.unpacking.read_nodes.Tie as tie
-use Rattle.image.proofs.unpacking.read_nodes.Reads as reads
-use Rattle.image.proofs.unpacking.read_nodes.Lts as lts
-use Rattle.image.proofs.bytes.read16.Reads as read16-reads
 
 abbrev Inv-loop : tie.InvT-loop
 Inv-loop source count nodes₀ i₀ nodes i = (i ≤ count) × (length nodes ≡ length nodes₀) × (nodes ≡ take i (decode 2 count source) ++ drop i nodes₀)
@@ -20,39 +17,30 @@ Inv-loop source count nodes₀ i₀ nodes i = (i ≤ count) × (length nodes ≡
 abbrev μ-loop : tie.MeasureT-loop
 μ-loop source count nodes₀ i₀ nodes i = count - i
 
--- src/unpacking.rt:28:5
 loop-holds : tie.Need-loop-holds Inv-loop μ-loop
 loop-holds c = (omega arith, refl, refl)
 
--- src/unpacking.rt:29:35
 mul-read16 : tie.Need-mul-read16 Inv-loop μ-loop
 mul-read16 c = omega arith
 
--- src/unpacking.rt:29:20
 read16-requires : tie.Need-read16-requires Inv-loop μ-loop
 read16-requires c κs = omega arith
 
--- src/unpacking.rt:29:20
 cast-nodes : tie.Need-cast-nodes Inv-loop μ-loop
 cast-nodes c = omega arith
 
--- src/unpacking.rt:29:9
 mul-nodes : tie.Need-mul-nodes Inv-loop μ-loop
 mul-nodes c = omega arith
 
--- src/unpacking.rt:29:9
 slice-write-nodes : tie.Need-slice-write-nodes Inv-loop μ-loop
 slice-write-nodes c = omega arith
 
--- src/unpacking.rt:30:9
 add-i : tie.Need-add-i Inv-loop μ-loop
 add-i c = omega arith
 
--- src/unpacking.rt:28:5
 loop-less : tie.Need-loop-less Inv-loop μ-loop
 loop-less c = omega arith
 
--- src/unpacking.rt:28:5
 loop-again : tie.Need-loop-again Inv-loop μ-loop
 loop-again c = let h = c .before .before in
     let a = h .before .before .before .args in
@@ -61,11 +49,9 @@ loop-again c = let h = c .before .before in
     let long = length-decode 2 (a .count) (a .source .now) in
     (omega arith, simp length-set (omega arith), rw (h .loop .inv .2, read) (copy-more s (a .nodes .now) (h .loop .i) (omega arith) (omega arith)))
 
--- src/unpacking.rt:23:1
 same-length : tie.Need-same-length Inv-loop μ-loop
 same-length c = omega arith
 
--- src/unpacking.rt:23:1
 returns : tie.Need-returns Inv-loop μ-loop
 returns c = let a = c .before .before .before .before .args in
     let s = decode 2 (a .count) (a .source .now) in

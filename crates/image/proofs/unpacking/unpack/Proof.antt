@@ -1,56 +1,52 @@
-use mathlib.Core.Path.{ap₂}
-use Rattle.image.specs.Outcome.{gives}
-use Rattle.image.proofs.CheckLaws.{same-sizes}
+-- `image::unpacking::unpack` meets its contract. Assumes nothing.
+use Rattle.image.specs.RoundTrip.{WritesAgain}
+use Rattle.image.proofs.ByteLaws.{all-bytes}
+use Rattle.image.proofs.RoundTripLaws.{writes-again}
+use mathlib.Core.Path.{ap₂, _≡_, sym, _∙_, ap}
+use Rattle.image.specs.Outcome.{gives, sound}
+use Rattle.image.proofs.CheckLaws.{same-sizes, Sized, accepted, rejected, accepted-header, bounds, total-is, costs-start-is}
 use Prim.Native.Nat.{ℕ, _+_, _*_, _≤_}
 use native.Mathlib.Omega.{arith}
-use mathlib.Core.Path.{_≡_, sym, _∙_, ap}
 use mathlib.Core.List.{List, _++_}
 use lib.ListN.{length, drop, length-drop}
 use Rattle.image.specs.Bytes.{decode}
 use Rattle.image.specs.Answers.{checked, refused}
-use Rattle.image.specs.Outcome.{sound}
 use Rattle.image.specs.Layout.{total}
 use Rattle.image.specs.Calls.{image-fault, unpack-fault, unpack-outcome}
-use Rattle.image.proofs.OutcomeLaws.{then-fault, outcome-fault, outcome-sound, after-fault}
+use Rattle.image.proofs.OutcomeLaws.{then-fault, then-sound, outcome-fault, outcome-sound, after-fault}
 use Rattle.image.proofs.SliceLaws.{to-end}
-use Rattle.image.proofs.CheckLaws.{Sized, accepted, rejected, accepted-header, bounds, total-is, costs-start-is}
 use Rattle.image.proofs.UnpackLaws.{short-nodes, short-costs, room, nodes-after, costs-after}
 use borrow.Author.Needs.{needs}
 use Rattle.image.proofs.unpacking.unpack.Statement.{statement}
 use Rattle.image.proofs.unpacking.unpack.Tie as tie
-use Rattle.image.proofs.unpacking.unpack.Reads as reads
-use Rattle.image.proofs.unpacking.unpack.Lts as lts
-use Rattle.image.proofs.checking.Checked.refusal.Reads as refusal-reads
-use Rattle.image.proofs.checking.check.Reads as check-reads
-use Rattle.image.proofs.layout.cost_count.Reads as cost-count-reads
-use Rattle.image.proofs.layout.costs_start.Reads as costs-start-reads
-use Rattle.image.proofs.unpacking.read_costs.Reads as read-costs-reads
-use Rattle.image.proofs.unpacking.read_nodes.Reads as read-nodes-reads
 
--- src/unpacking.rt:53:9
 check-requires : tie.Need-check-requires
 check-requires c κs = search needs
 
--- src/unpacking.rt:54:26
 enum-known-answer : tie.Need-enum-known-answer
 enum-known-answer c = search needs
 
--- src/unpacking.rt:55:34
 enum-told : tie.Need-enum-told
 enum-told c = search needs
 
--- src/unpacking.rt:55:34
 refusal-requires : tie.Need-refusal-requires
 refusal-requires c κs = search needs
 
--- src/unpacking.rt:55:9
+-- an accepted image's lists write it again, since its elements are bytes
+again : (c : tie.After-slice-known) (x y : ℕ) → unpack-fault (c .before .before .args .image .now) x y ≡ sound → WritesAgain (c .before .before .args .image .now)
+unfolding unpack-fault
+again c x y e = writes-again _ (then-sound _ _ e .0) (all-bytes _ (λ i. c .before .shared-slice-known .given i .fits))
+
 returns : tie.Need-returns
 unfolding unpack-outcome unpack-fault
 returns c = let k = c .before .before .before in
     let b = k .before .before .before .before .args .image .now in
     let told = ap checked (c .before .enum-told .given .1) in
     let e = rejected b (sym told ∙ k .check .ensures) in
-    (ap refused (c .refusal .ensures _ (c .before .enum-told .given .1)) ∙ sym (outcome-fault _ (then-fault _ e)), (sym (after-fault _ _ (then-fault _ e)), sym (after-fault _ _ (then-fault _ e))))
+    (ap refused (c .refusal .ensures _ (c .before .enum-told .given .1)) ∙ sym (outcome-fault _ (then-fault _ e)), (sym (after-fault _ _ (then-fault _ e)), (sym (after-fault _ _ (then-fault _ e)), again (k .before .before) _ _)))
+
+abbrev entered : tie.After-answer → tie.After-slice-known
+entered c = c .before .before .before .before
 
 -- where Check gives sizes, the image is accepted and they are its own
 abbrev image : tie.After-answer → List ℕ
@@ -68,90 +64,72 @@ length-is c = let s = c .answer .given .0 .0 in omega (arith, sizes-bound c .2, 
 holds-header : (c : tie.After-answer) → 24 ≤ length (image c)
 holds-header c = omega (arith, length-is c)
 
--- src/unpacking.rt:59:29
 cast-nodes-needed : tie.Need-cast-nodes-needed
 cast-nodes-needed c = search needs
 
--- src/unpacking.rt:59:24
 mul-nodes-needed : tie.Need-mul-nodes-needed
 mul-nodes-needed c = search needs
 
--- src/unpacking.rt:60:24
 cost-count-requires : tie.Need-cost-count-requires
 cost-count-requires c κs = let e = sizes-bound (c .before) in (e .0, e .1)
 
--- src/unpacking.rt:60:24
 cast-costs-needed : tie.Need-cast-costs-needed
 cast-costs-needed c = search needs
 
--- src/unpacking.rt:62:9
 returns-2 : tie.Need-returns-2
 unfolding unpack-outcome
-returns-2 c = let k = known (c .before .before .before) in
-    let e = short-nodes _ _ _ _ _ _ (k .0) (k .1) (c .if1 .taken) in
-    (sym (outcome-fault _ e), (sym (after-fault _ _ e), sym (after-fault _ _ e)))
+returns-2 c = let a = c .before .before .before in
+    let e = short-nodes _ _ _ _ _ _ (known a .0) (known a .1) (c .if1 .taken) in
+    (sym (outcome-fault _ e), (sym (after-fault _ _ e), (sym (after-fault _ _ e), again (entered a) _ _)))
 
--- src/unpacking.rt:65:9
 returns-3 : tie.Need-returns-3
 unfolding unpack-outcome
-returns-3 c = let n = c .before .before in
-    let k = known (n .before .before) in
-    let e = short-costs _ _ _ _ _ _ (k .0) (k .1) (rw (n .cost-count .ensures .0) at (c .if2 .taken)) in
-    (sym (outcome-fault _ e), (sym (after-fault _ _ e), sym (after-fault _ _ e)))
+returns-3 c =
+    let n = c .before .before in
+    let a = n .before .before in
+    let e = short-costs _ _ _ _ _ _ (known a .0) (known a .1) (rw (n .cost-count .ensures .0) at (c .if2 .taken)) in
+    (sym (outcome-fault _ e), (sym (after-fault _ _ e), (sym (after-fault _ _ e), again (entered a) _ _)))
 
--- src/unpacking.rt:67:16
 sub-read-nodes : tie.Need-sub-read-nodes
 sub-read-nodes c = holds-header (c .before .before .before .before)
 
--- src/unpacking.rt:67:16
 part-read-nodes-start : tie.Need-part-read-nodes-start
 part-read-nodes-start c = holds-header (c .before .before .before .before)
 
--- src/unpacking.rt:67:16
 part-read-nodes-end : tie.Need-part-read-nodes-end
 part-read-nodes-end c = search needs
 
--- src/unpacking.rt:67:5
 read-nodes-requires : tie.Need-read-nodes-requires
 read-nodes-requires c κs = let a = c .before .before .before .before .before .before in
     (rw to-end (omega (arith, length-drop 24 (image a), length-is a)), c .before .before .before .if1 .left)
 
--- src/unpacking.rt:68:17
 costs-start-requires : tie.Need-costs-start-requires
 costs-start-requires c κs = sizes-bound (c .before .before .before .before .before .before .before .before .before) .0
 
--- src/unpacking.rt:68:17
 cast-start : tie.Need-cast-start
 cast-start c = search needs
 
--- src/unpacking.rt:69:16
 sub-read-costs : tie.Need-sub-read-costs
 sub-read-costs c = omega (arith, length-is (c .before .before .before .before .before .before .before .before .before .before), c .costs-start .ensures, costs-start-is (c .before .before .before .before .before .before .before .before .before .before .answer .given .0 .0 .m))
 
--- src/unpacking.rt:69:16
 part-read-costs-start : tie.Need-part-read-costs-start
 part-read-costs-start c = omega (arith, length-is (c .before .before .before .before .before .before .before .before .before .before), c .costs-start .ensures, costs-start-is (c .before .before .before .before .before .before .before .before .before .before .answer .given .0 .0 .m))
 
--- src/unpacking.rt:69:16
 part-read-costs-end : tie.Need-part-read-costs-end
 part-read-costs-end c = search needs
 
--- src/unpacking.rt:69:5
 read-costs-requires : tie.Need-read-costs-requires
 read-costs-requires c κs = let s = c .before .before in
     let n = c .before .before .before .before .before .before .before .before .before .before in
     let a = n .before .before in
     (rw to-end (omega (arith, length-drop (s .costs-start .result) (image a), length-is a, s .costs-start .ensures, costs-start-is (a .answer .given .0 .0 .m), n .cost-count .ensures .0)), c .before .before .before .before .before .before .before .before .if2 .left)
 
--- src/unpacking.rt:48:1
 same-length : tie.Need-same-length
 same-length c = search needs
 
--- src/unpacking.rt:48:1
 same-length-2 : tie.Need-same-length-2
 same-length-2 c = search needs
 
--- src/unpacking.rt:48:1
 returns-4 : tie.Need-returns-4
 unfolding unpack-outcome
 returns-4 c = let r = c .before .before in
@@ -167,7 +145,7 @@ returns-4 c = let r = c .before .before in
     let nodes-part = ap (λ (l : List ℕ). decode 2 (2 * m) l ++ drop (2 * m) (args .nodes .now)) (to-end (image a) 24) in
     let costs-part = ap (λ (l : List ℕ). decode 4 (n .cost-count .result) l ++ drop (n .cost-count .result) (args .costs .now)) (to-end (image a) (s .costs-start .result)) in
     let counted = ap₂ (λ (x i : ℕ). decode 4 x (drop i (image a)) ++ drop x (args .costs .now)) (n .cost-count .ensures .0) (s .costs-start .ensures) in
-    (ap gives (same-sizes (image a) (k .1)) ∙ sym (outcome-sound _ e), (q .read-nodes .ensures ∙ nodes-part ∙ nodes-after _ _ _ _ _ _ (k .0) (k .1) (args .nodes .now) e, r .read-costs .ensures ∙ costs-part ∙ counted ∙ costs-after _ _ _ _ _ _ (k .0) (k .1) (args .costs .now) e))
+    (ap gives (same-sizes (image a) (k .1)) ∙ sym (outcome-sound _ e), (q .read-nodes .ensures ∙ nodes-part ∙ nodes-after _ _ _ _ _ _ (k .0) (k .1) (args .nodes .now) e, (r .read-costs .ensures ∙ costs-part ∙ counted ∙ costs-after _ _ _ _ _ _ (k .0) (k .1) (args .costs .now) e, again (entered a) _ _)))
 
 pub unpack-spec : {M : Type 1} → statement M
 unpack-spec =

@@ -1,25 +1,20 @@
+-- `image::checking::Checked::refusal` meets its contract. Assumes nothing.
 use mathlib.Core.Path.{_≡_}
 use Prim.Native.Nat.{ℕ}
 use native.Mathlib.Omega.{arith}
 use borrow.Author.Needs.{needs}
 use Rattle.image.proofs.checking.Checked.refusal.Statement.{statement}
 use Rattle.image.proofs.checking.Checked.refusal.Tie as tie
-use Rattle.image.proofs.checking.Checked.refusal.Reads as reads
-use Rattle.image.proofs.checking.Checked.refusal.Lts as lts
 
--- src/checking.rt:36:30
 enum-known-self : tie.Need-enum-known-self
 enum-known-self c = search needs
 
--- src/checking.rt:37:36
 enum-told : tie.Need-enum-told
 enum-told c = search needs
 
--- src/checking.rt:32:5
 returns : tie.Need-returns
 returns c = λ p e. let known = c .before .self .given .1 in cc
 
--- src/checking.rt:32:5
 returns-2 : tie.Need-returns-2
 returns-2 c = λ p e. let known = c .enum-told .given .1 in let z : _≡_ {A = ℕ} 0 1 = cc in absurd (omega arith)
 

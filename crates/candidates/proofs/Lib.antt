@@ -1,0 +1,5 @@
+mod PartLaws
+mod SlotLaws
+mod EntryLaws
+mod InsertedLaws
+mod InsertionLaws

@@ -1,0 +1,13 @@
+// Ranked paths and candidates, kept in a workspace of numbers: slots of n + 16 words, each of which
+// can hold an entry, and the order in which they stand. A place is a position in that order.
+mod clearing;
+mod insertion;
+mod slots;
+
+pub use clearing::clear;
+pub use insertion::insert;
+pub use insertion::reset;
+pub use slots::cost_at;
+pub use slots::parent_at;
+pub use slots::shared_at;
+pub use slots::tail_length_at;
