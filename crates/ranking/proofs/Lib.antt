@@ -11,3 +11,4 @@ pub mod NetworkLaws
 pub mod ExitLaws
 pub mod LaidLaws
 pub mod FirstLaws
+pub mod BarLaws

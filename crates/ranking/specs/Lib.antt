@@ -7,4 +7,5 @@ pub mod Parts
 pub mod Pool
 pub mod Search
 pub mod Star
+pub mod State
 pub mod Walks

@@ -1,0 +1,55 @@
+-- The state of the ranking: the entries of the workspace as ranked paths and candidates. Assumes nothing.
+use Prim.Native.Nat.{ℕ, _-_, _≤_, _<_}
+use mathlib.Core.Path.{_≡_}
+use mathlib.Core.Bool.{cond}
+use mathlib.Core.List.{List, [], map}
+use lib.Dec.{eqb}
+use lib.ListN.{length, take, drop, getD}
+use Rattle.terms.specs.Network.{Graph}
+use Rattle.terms.specs.Paths.{Route, cost}
+use Rattle.candidates.specs.Slots.{Entry, none}
+use Rattle.candidates.specs.Routes.{beginning, route, routes, Family, ByRanked}
+use Rattle.candidates.specs.Bars.{bars}
+use Rattle.ranking.specs.Branches.{Branch, branch}
+use Rattle.ranking.specs.Pool.{Candidate}
+use Rattle.ranking.specs.Search.{Search}
+
+-- ---- an entry e of E, for paths from s
+-- the nodes that must not follow the beginning that it takes over: none, if it has no parent
+unfoldable pub barred-after : List Entry → Entry → List ℕ
+barred-after E e = cond (eqb (e .parent) 0) [] (bars E (e .parent - 1) (e .shared))
+
+-- the branch whose first path it is
+unfoldable pub branch-of : ℕ → List Entry → Entry → Branch
+branch-of s E e = branch (beginning s (routes s E) e) (barred-after E e)
+
+unfoldable pub candidate : ℕ → List Entry → Entry → Candidate Branch
+candidate s E e = record { route = route s (routes s E) e; part = branch-of s E e }
+
+-- those from place j on
+unfoldable pub candidates-from : ℕ → List Entry → ℕ → List (Candidate Branch)
+candidates-from s E j = map (candidate s E) (drop j E)
+
+-- ---- all entries
+-- E has ranked paths at the places below j, and candidates from there on; whether they are the right ones is not said
+pub record Entered (n : ℕ) (g : Graph) (s : ℕ) (E : List Entry) (j : ℕ) : Type 0 where
+  -- parents stand before their children, and each route can be recovered
+  pub family : Family n E
+  -- each parent is a ranked path
+  pub by-ranked : ByRanked j E
+  pub border : j ≤ length E
+  -- each entry has the cost of its route
+  pub costs : (p : ℕ) → p < length E → getD E p none .cost ≡ cost g (getD (routes s E) p [])
+
+-- a path that need not be ranked
+abbrev pub Beyond : Graph → ℕ → Route → Type 0
+Beyond g limit p = limit ≤ cost g p
+
+-- the search for the paths from s to t in M places, with the paths that cost less than the limit; `waiting` are branches whose
+-- first path has not been looked for yet
+abbrev pub Searching : ℕ → Graph → ℕ → ℕ → ℕ → ℕ → List Entry → ℕ → List Branch → Type 0
+Searching n g s t M limit E j waiting = Search n g s t M (Beyond g limit) (take j (routes s E)) (candidates-from s E j) waiting
+
+pub record State (n : ℕ) (g : Graph) (s t M limit : ℕ) (E : List Entry) (j : ℕ) (waiting : List Branch) : Type 0 where
+  pub entered : Entered n g s E j
+  pub search : Searching n g s t M limit E j waiting
