@@ -12,3 +12,5 @@ pub mod ExitLaws
 pub mod LaidLaws
 pub mod FirstLaws
 pub mod BarLaws
+pub mod PutLaws
+pub mod StateLaws

@@ -17,7 +17,7 @@ use Rattle.ranking.specs.Parts.{Apart, alone, beside, Split}
 use Rattle.ranking.specs.Pool.{Candidate, routes, put, Crowded, Place, ranked, held, waits, crowded, lost, Pool}
 
 -- ---- the beginning of a rising list
-take-map : {A C : Type 0} (f : A → C) (n : ℕ) (l : List A) → map f (take n l) ≡ take n (map f l)
+pub take-map : {A C : Type 0} (f : A → C) (n : ℕ) (l : List A) → map f (take n l) ≡ take n (map f l)
 take-map f zero l = refl
 take-map f (suc n) [] = refl
 take-map f (suc n) (x ∷ l) = ap (λ k. f x ∷ k) (take-map f n l)

@@ -1,8 +1,8 @@
 -- The state of the ranking: the entries of the workspace as ranked paths and candidates. Assumes nothing.
-use Prim.Native.Nat.{ℕ, _-_, _≤_, _<_}
+use Prim.Native.Nat.{ℕ, _-_, _≤_}
 use mathlib.Core.Path.{_≡_}
 use mathlib.Core.Bool.{cond}
-use mathlib.Core.List.{List, [], map}
+use mathlib.Core.List.{List, [], map, reverseAux}
 use lib.Dec.{eqb}
 use lib.ListN.{length, take, drop, getD}
 use Rattle.terms.specs.Network.{Graph}
@@ -11,6 +11,7 @@ use Rattle.candidates.specs.Slots.{Entry, none}
 use Rattle.candidates.specs.Routes.{beginning, route, routes, Family, ByRanked}
 use Rattle.candidates.specs.Bars.{bars}
 use Rattle.ranking.specs.Branches.{Branch, branch}
+use Rattle.ranking.specs.Parts.{parts}
 use Rattle.ranking.specs.Pool.{Candidate}
 use Rattle.ranking.specs.Search.{Search}
 
@@ -39,7 +40,7 @@ pub record Entered (n : ℕ) (g : Graph) (s : ℕ) (E : List Entry) (j : ℕ) : 
   pub by-ranked : ByRanked j E
   pub border : j ≤ length E
   -- each entry has the cost of its route
-  pub costs : (p : ℕ) → p < length E → getD E p none .cost ≡ cost g (getD (routes s E) p [])
+  pub costs : map (λ e. e .cost) E ≡ map (cost g) (routes s E)
 
 -- a path that need not be ranked
 abbrev pub Beyond : Graph → ℕ → Route → Type 0
@@ -53,3 +54,16 @@ Searching n g s t M limit E j waiting = Search n g s t M (Beyond g limit) (take 
 pub record State (n : ℕ) (g : Graph) (s t M limit : ℕ) (E : List Entry) (j : ℕ) (waiting : List Branch) : Type 0 where
   pub entered : Entered n g s E j
   pub search : Searching n g s t M limit E j waiting
+
+-- ---- the path at place r, when it is ranked
+-- the parts of its branch without it
+unfoldable pub parts-of : ℕ → List Entry → ℕ → List Branch
+parts-of s E r = parts (branch-of s E (getD E r none)) (getD (routes s E) r [])
+
+-- those that leave it after fewer than d nodes, the longest beginning first
+unfoldable pub waiting-to : ℕ → List Entry → ℕ → ℕ → List Branch
+waiting-to s E r d = reverseAux (take (d - getD E r none .shared) (parts-of s E r)) []
+
+-- an entry, before its tail is known, that takes over d nodes
+abbrev pub taking-over : ℕ → ℕ → Entry
+taking-over d parent = record { cost = 0; shared = d; parent = parent; tail = [] }
