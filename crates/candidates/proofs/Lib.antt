@@ -3,3 +3,8 @@ mod SlotLaws
 mod EntryLaws
 mod InsertedLaws
 mod InsertionLaws
+mod RouteLaws
+mod FamilyLaws
+mod RootedLaws
+mod LayingLaws
+mod BarLaws

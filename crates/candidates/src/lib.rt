@@ -1,12 +1,16 @@
 // Ranked paths and candidates, kept in a workspace of numbers: slots of n + 16 words, each of which
 // can hold an entry, and the order in which they stand. A place is a position in that order.
+mod bars;
 mod clearing;
 mod insertion;
+mod routes;
 mod slots;
 
+pub use bars::set_bars;
 pub use clearing::clear;
 pub use insertion::insert;
 pub use insertion::reset;
+pub use routes::lay_out;
 pub use slots::cost_at;
 pub use slots::parent_at;
 pub use slots::shared_at;
