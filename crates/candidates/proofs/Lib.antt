@@ -1,10 +1,12 @@
+-- for the layers above
+pub mod EntryLaws
+pub mod InsertedLaws
+pub mod RouteLaws
+pub mod FamilyLaws
+pub mod RootedLaws
+pub mod BarLaws
+-- for the proofs of this crate
 mod PartLaws
 mod SlotLaws
-mod EntryLaws
-mod InsertedLaws
 mod InsertionLaws
-mod RouteLaws
-mod FamilyLaws
-mod RootedLaws
 mod LayingLaws
-mod BarLaws

@@ -11,6 +11,5 @@ pub mod NetworkLaws
 pub mod ExitLaws
 pub mod LaidLaws
 pub mod FirstLaws
-pub mod BarLaws
 pub mod PutLaws
 pub mod StateLaws

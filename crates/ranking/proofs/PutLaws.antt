@@ -1,4 +1,4 @@
--- An element put in at a place of a list: what lies behind a border, what a function makes of it, each element of it; and of
+-- An element put in at a place of a list: what lies behind a border, what a function makes of it; and of
 -- candidates in the ranking order, that the place which was found is the one where `put` puts it. Assumes nothing.
 use Prim.Native.Nat.{ℕ, zero, suc, _+_, _-_, _≤_, _<_}
 use native.Mathlib.Omega.{arith}
@@ -62,17 +62,6 @@ module _ {A : Type 0} (p : ℕ) (x : A) (l : List A) where
   pub take-put-in : (M j : ℕ) → j ≤ M → j ≤ p → p ≤ length l → take j (put-in M p x l) ≡ take j l
   unfolding put-in
   take-put-in M j m h k = take-take j M (inserted p x l) m ∙ take-inserted p x l k j h
-
-  -- to show something of each element
-  pub put-in-each : (M : ℕ) (d : A) (P : ℕ → A → Type 0) → p ≤ length l → ((i : ℕ) → i < p → P i (getD l i d)) → P p x → ((i : ℕ) → p ≤ i → i < length l → P (i + 1) (getD l i d))
-      → (i : ℕ) → i < length (put-in M p x l) → P i (getD (put-in M p x l) i d)
-  unfolding put-in
-  put-in-each M d P h front new back i b =
-      rw (getD-take M (inserted p x l) i d (omega (arith, length-put p x l h M)))
-      (⊎-elim (λ a. ⊎-elim (λ z. rw (← z, inserted-at x d p l h) new) (λ c. behind (i - 1) (omega arith) (omega arith)) (eq-or-lt-of-le a)) (λ a. rw (inserted-before x d p l i a h) (front i a)) (le-or-lt p i))
-    where
-      behind : (k : ℕ) → i ≡ k + 1 → p ≤ k → P i (getD (inserted p x l) i d)
-      behind k e a = rw (e, inserted-after x d p l k a h) (back k a (omega (arith, length-put p x l h M)))
 
 -- ---- candidates
 -- stands for a candidate that is not there

@@ -20,19 +20,20 @@ use Rattle.terms.proofs.RankingLaws.{before-cost}
 use Rattle.candidates.specs.Slots.{Entry, none}
 use Rattle.candidates.specs.Keeping.{inserted, put-in}
 use Rattle.candidates.specs.Routes.{beginning, route, routes, size, Fits, Family, ByRanked}
-use Rattle.candidates.specs.Bars.{bars}
+use Rattle.candidates.specs.Bars.{bars, barred}
 use Rattle.candidates.specs.Placing.{ahead, Placed}
 use Rattle.candidates.proofs.InsertedLaws.{length-put}
+use Rattle.candidates.proofs.BarLaws.{bars-take, bars-own, bars-shared, barred-start, barred-child}
+use Rattle.candidates.proofs.FamilyLaws.{fits-at, family-put, ranked-put, ranked-next, beginning-length, route-length}
 use Rattle.candidates.proofs.RouteLaws.{beginning-start, beginning-parent, length-routes, routes-take, routes-at, routes-put}
 use Rattle.ranking.specs.Branches.{Branch, branch, First}
 use Rattle.ranking.specs.Parts.{parts}
 use Rattle.ranking.specs.Pool.{Candidate, put}
 use Rattle.ranking.specs.Pool as pool
 use Rattle.ranking.specs.Search.{Search}
-use Rattle.ranking.specs.State.{barred-after, branch-of, candidate, candidates-from, Entered, Beyond, Searching, State, parts-of, waiting-to, taking-over}
-use Rattle.ranking.proofs.BarLaws.{Known, same-barred, bars-at}
+use Rattle.ranking.specs.State.{branch-of, candidate, candidates-from, Entered, Beyond, Searching, State, parts-of, waiting-to, taking-over}
 use Rattle.ranking.proofs.PartLaws.{reverse-take}
-use Rattle.ranking.proofs.PutLaws.{map-same, drop-put-in, map-put-in, take-put-in, put-in-each, put-place}
+use Rattle.ranking.proofs.PutLaws.{map-same, drop-put-in, map-put-in, take-put-in, put-place}
 use Rattle.ranking.proofs.SearchLaws.{found, rank-first-back}
 use Rattle.ranking.proofs.SplitLaws.{splits-at, parts-length}
 
@@ -54,14 +55,23 @@ module _ (s p : ℕ) (E E′ : List Entry) (same : take p E ≡ take p E′) whe
           let z : e .parent ≡ r + 1 = omega arith in
           beginning-parent s (routes s E) e r z ∙ ap (take (e .shared)) (route-same r (omega arith)) ∙ sym (beginning-parent s (routes s E′) e r z)
 
-  module _ (known : Known p E) (e : Entry) (h : e .parent ≤ p) where
+  module _ {n : ℕ} (m : Family n E) (m′ : Family n E′) (low : p ≤ length E) (low′ : p ≤ length E′) (e : Entry) (h : e .parent ≤ p) where
+    barred-same : barred E e ≡ barred E′ e
+    barred-same = ⊎-elim (λ t. let z = eqb-true (e .parent) 0 t in barred-start E e z ∙ sym (barred-start E′ e z)) (λ t. child (eqb-false (e .parent) 0 t)) (split (eqb (e .parent) 0))
+      where
+        child : (e .parent ≡ 0 → ⊥) → barred E e ≡ barred E′ e
+        child f =
+            let r = e .parent - 1 in
+            let z : e .parent ≡ r + 1 = omega arith in
+            barred-child E e r z ∙ sym (bars-take m r (e .shared) p (omega arith) (omega arith)) ∙ ap (λ (l : List Entry). bars l r (e .shared)) same ∙ bars-take m′ r (e .shared) p (omega arith) (omega arith) ∙ sym (barred-child E′ e r z)
+
     pub branch-same : branch-of s E e ≡ branch-of s E′ e
     unfolding branch-of
-    branch-same = ap₂ (λ b F. branch b F) (beginning-same e h) (same-barred p E E′ entry-same known e h)
+    branch-same = ap₂ (λ b F. branch b F) (beginning-same e h) barred-same
 
     pub candidate-same : candidate s E e ≡ candidate s E′ e
     unfolding candidate branch-of route
-    candidate-same = ap₂ (λ b F. record { route = b ++ e .tail; part = branch b F }) (beginning-same e h) (same-barred p E E′ entry-same known e h)
+    candidate-same = ap₂ (λ b F. record { route = b ++ e .tail; part = branch b F }) (beginning-same e h) barred-same
 
 getD-map-in : {A C : Type 0} (f : A → C) (l : List A) (i : ℕ) (d : A) (d′ : C) → i < length l → getD (map f l) i d′ ≡ f (getD l i d)
 getD-map-in f [] i d d′ h = absurd (omega arith)
@@ -75,41 +85,6 @@ module _ {n : ℕ} {g : Graph} {s : ℕ} {E : List Entry} {j : ℕ} (T : Entered
 
   pub entry-route : (p : ℕ) → p < length E → getD (routes s E) p [] ≡ route s (routes s E) (getD E p none)
   entry-route p b = routes-at s p E b (T .family .fits p b .known)
-
-  pub known-to : (p : ℕ) → p ≤ length E → Known p E
-  known-to p b i h = T .family .fits i (omega arith) .known
-
-  -- ---- lengths
-  long-beginning : (p : ℕ) → p < length E → ((r : ℕ) → r < p → length (getD (routes s E) r []) ≡ size (getD E r none)) → length (beginning s (routes s E) (getD E p none)) ≡ getD E p none .shared
-  long-beginning p b ih = ⊎-elim (λ t. root (eqb-true (e .parent) 0 t)) (λ t. child (eqb-false (e .parent) 0 t)) (split (eqb (e .parent) 0))
-    where
-      e : Entry
-      e = getD E p none
-
-      f : Fits n E p e
-      f = T .family .fits p b
-
-      root : e .parent ≡ 0 → length (beginning s (routes s E) e) ≡ e .shared
-      root z = ap length (beginning-start s (routes s E) e z) ∙ sym (f .from-start z)
-
-      child : (e .parent ≡ 0 → ⊥) → length (beginning s (routes s E) e) ≡ e .shared
-      child m =
-          let r = e .parent - 1 in
-          let z : e .parent ≡ r + 1 = omega arith in
-          ap length (beginning-parent s (routes s E) e r z) ∙ omega (arith, length-take (e .shared) (getD (routes s E) r []), ih r (omega (arith, f .known)), f .leaves-inside r z)
-
-  long-upto : (m p : ℕ) → p < m → p < length E → length (getD (routes s E) p []) ≡ size (getD E p none)
-  unfolding route
-  long-upto zero p h b = absurd (omega arith)
-  long-upto (suc m) p h b =
-      ap length (entry-route p b) ∙ length-append (beginning s (routes s E) (getD E p none)) (getD E p none .tail)
-      ∙ ap (λ k. k + length (getD E p none .tail)) (long-beginning p b (λ r a. long-upto m r (omega arith) (omega arith)))
-
-  pub route-length : (p : ℕ) → p < length E → length (getD (routes s E) p []) ≡ size (getD E p none)
-  route-length p b = long-upto (suc p) p (omega arith) b
-
-  pub beginning-length : (p : ℕ) → p < length E → length (beginning s (routes s E) (getD E p none)) ≡ getD E p none .shared
-  beginning-length p b = long-beginning p b (λ r h. route-length r (omega arith))
 
   -- ---- the candidates
   length-done : length (take j (routes s E)) ≡ j
@@ -137,32 +112,16 @@ module _ {n : ℕ} {g : Graph} {s : ℕ} {E : List Entry} {j : ℕ} (T : Entered
     pub routes-after : routes s E′ ≡ put-in M place (route s (routes s E) e) (routes s E)
     routes-after = routes-put s place e E high (omega (arith, fit .known)) (λ q a b. omega (arith, T .by-ranked .ranked q b)) M
 
-    by-ranked-put : ByRanked j E′
-    by-ranked-put = record { ranked = put-in-each place e E M none (λ i f. f .parent ≤ j) high (λ i b. T .by-ranked .ranked i (omega arith)) (fit .known) (λ i a b. T .by-ranked .ranked i b) }
+    by-ranked-after : ByRanked j E′
+    by-ranked-after = ranked-put place e E high low (T .by-ranked) (fit .known) M
 
-    fits-put : {i k : ℕ} {f : Entry} → i ≤ k → f .parent ≤ j → Fits n E i f → Fits n E′ k f
-    fits-put {i} {k} {f} h b F = record {
-      some = F .some;
-      short = F .short;
-      nodes = F .nodes;
-      from-start = F .from-start;
-      known = omega (arith, F .known);
-      leaves = λ r z. rw (entry-same s j E′ E ranked-kept r (omega arith)) (F .leaves r z);
-      leaves-inside = λ r z. rw (entry-same s j E′ E ranked-kept r (omega arith)) (F .leaves-inside r z);
-    }
-
-    family-put : Family n E′
-    family-put = record {
-      fits = put-in-each place e E M none (λ i f. Fits n E′ i f) high
-          (λ i b. fits-put {i = i} {k = i} (omega arith) (T .by-ranked .ranked i (omega arith)) (T .family .fits i (omega arith)))
-          (fits-put low (fit .known) fit)
-          (λ i a b. fits-put {i = i} {k = i + 1} (omega arith) (T .by-ranked .ranked i b) (T .family .fits i b));
-    }
+    family-after : Family n E′
+    family-after = family-put place e E high low (T .by-ranked) (fit .known) M (fits-at place (omega (arith, fit .known)) fit) (T .family)
 
     pub entered-put : e .cost ≡ cost g (route s (routes s E) e) → Entered n g s E′ j
     entered-put c = record {
-      family = family-put;
-      by-ranked = by-ranked-put;
+      family = family-after;
+      by-ranked = by-ranked-after;
       border = omega (arith, length-put place e E high M, T .border);
       costs = map-put-in place e E M (λ (f : Entry). f .cost) ∙ ap₂ (λ a l. put-in M place a l) c (T .costs) ∙ sym (map-put-in place (route s (routes s E) e) (routes s E) M (cost g)) ∙ ap (map (cost g)) (sym routes-after);
     }
@@ -171,8 +130,8 @@ module _ {n : ℕ} {g : Graph} {s : ℕ} {E : List Entry} {j : ℕ} (T : Entered
     unfolding candidates-from
     candidates-put =
         map-same (candidate s E′) (candidate s E) (drop j E′) none
-        (λ i b. candidate-same s j E′ E ranked-kept (λ k h. family-put .fits k (omega (arith, length-put place e E high M, T .border)) .known) (getD (drop j E′) i none)
-            (rw (getD-drop j E′ i none) (by-ranked-put .ranked (j + i) (omega (arith, length-drop j E′)))))
+        (λ i b. candidate-same s j E′ E ranked-kept family-after (T .family) (omega (arith, length-put place e E high M, T .border)) (T .border) (getD (drop j E′) i none)
+            (rw (getD-drop j E′ i none) (by-ranked-after .ranked (j + i) (omega (arith, length-drop j E′)))))
         ∙ ap (map (candidate s E)) (drop-put-in place e E M j low high) ∙ map-put-in (place - j) e (drop j E) (M - j) (candidate s E)
 
 -- ---- the search
@@ -246,7 +205,7 @@ module _ {n : ℕ} {g : Graph} {s t M limit : ℕ} {E : List Entry} {j : ℕ} (w
         (λ h. omega (arith, entry-cost T j, ap (cost g) (entry-route T j b))))
 
 pub entered-rank : {n : ℕ} {g : Graph} {s : ℕ} {E : List Entry} {j : ℕ} → Entered n g s E j → j < length E → Entered n g s E (j + 1)
-entered-rank T b = record { family = T .family; by-ranked = record { ranked = λ p h. omega (arith, T .by-ranked .ranked p h) }; border = omega arith; costs = T .costs }
+entered-rank T b = record { family = T .family; by-ranked = ranked-next (T .by-ranked); border = omega arith; costs = T .costs }
 
 -- ---- the waiting branches
 eqb-sub : (d k : ℕ) → k ≤ d → eqb (d - k) 0 ≡ eqb d k
@@ -255,9 +214,18 @@ eqb-sub d k h = ⊎-elim (λ t. let z = eqb-true d k t in t′ z ∙ sym t) (λ 
     t′ : d ≡ k → eqb (d - k) 0 ≡ true
     t′ z = eq-eqb (d - k) 0 (omega arith)
 
-barred-child : (E : List Entry) (r d : ℕ) → barred-after E (taking-over d (r + 1)) ≡ bars E r d
-unfolding barred-after
-barred-child E r d = let z : r + 1 - 1 ≡ r = omega arith in rw (ne-eqb (r + 1) 0 (λ e. omega arith), z)
+-- the next node of the path is barred, and where it leaves its parent's route, those barred there
+bars-at : {n : ℕ} {E : List Entry} → Family n E → (r d : ℕ) → r < length E → bars E r d ≡ getD (getD E r none .tail) (d - getD E r none .shared) 0 ∷ cond (eqb d (getD E r none .shared)) (barred E (getD E r none)) []
+bars-at {E = E} m r d h = ⊎-elim here (λ t. bars-own m r d h e refl (eqb-false d (e .shared) t) ∙ rw t refl) (split (eqb d (getD E r none .shared)))
+  where
+    e : Entry
+    e = getD E r none
+
+    here : eqb d (e .shared) ≡ true → bars E r d ≡ getD (e .tail) (d - e .shared) 0 ∷ cond (eqb d (e .shared)) (barred E e) []
+    here t =
+        let z = eqb-true d (e .shared) t in
+        let y : 0 ≡ d - e .shared = omega arith in
+        ap (bars E r) z ∙ bars-shared m r h e refl ∙ ap (λ k. getD (e .tail) k 0 ∷ barred E e) y ∙ rw t refl
 
 module _ {n : ℕ} {g : Graph} {s : ℕ} {E : List Entry} {j : ℕ} (T : Entered n g s E j) (r : ℕ) (b : r < length E) where
   abbrev e : Entry
@@ -268,7 +236,7 @@ module _ {n : ℕ} {g : Graph} {s : ℕ} {E : List Entry} {j : ℕ} (T : Entered
 
   length-parts : length (parts-of s E r) ≡ length (e .tail)
   unfolding parts-of branch-of
-  length-parts = parts-length (branch-of s E e) p ∙ omega (arith, route-length T r b, beginning-length T r b)
+  length-parts = parts-length (branch-of s E e) p ∙ omega (arith, route-length s (T .family) r b, beginning-length s (T .family) r b)
 
   -- all parts
   pub waiting-all : waiting-to s E r (size e) ≡ reverseAux (parts-of s E r) []
@@ -291,19 +259,19 @@ module _ {n : ℕ} {g : Graph} {s : ℕ} {E : List Entry} {j : ℕ} (T : Entered
   next-node : (d : ℕ) → e .shared ≤ d → getD p d 0 ≡ getD (e .tail) (d - e .shared) 0
   unfolding lead
   next-node d lo =
-      let z : d ≡ length lead + (d - e .shared) = omega (arith, beginning-length T r b) in
+      let z : d ≡ length lead + (d - e .shared) = omega (arith, beginning-length s (T .family) r b) in
       ap₂ (λ (l : Route) (k : ℕ). getD l k 0) path-split z ∙ getD-append-add lead (e .tail) (d - e .shared) 0
 
-  part-barred : (d : ℕ) → e .shared ≤ d → getD p d 0 ∷ cond (eqb (d - e .shared) 0) (barred-after E e) [] ≡ barred-after E (taking-over d (r + 1))
+  part-barred : (d : ℕ) → e .shared ≤ d → getD p d 0 ∷ cond (eqb (d - e .shared) 0) (barred E e) [] ≡ barred E (taking-over d (r + 1))
   part-barred d lo =
-      ap₂ (λ (y : ℕ) (t : Bool). y ∷ cond t (barred-after E e) []) (next-node d lo) (eqb-sub d (e .shared) lo) ∙ sym (bars-at (length E) E (known-to T (length E) (omega arith)) r d b) ∙ sym (barred-child E r d)
+      ap₂ (λ (y : ℕ) (t : Bool). y ∷ cond t (barred E e) []) (next-node d lo) (eqb-sub d (e .shared) lo) ∙ sym (bars-at (T .family) r d b) ∙ sym (barred-child E (taking-over d (r + 1)) r refl)
 
   part-at : (d : ℕ) → e .shared ≤ d → d < size e → getD (parts-of s E r) (d - e .shared) (branch [] []) ≡ branch-of s E (taking-over d (r + 1))
   unfolding parts-of parts branch-of lead
   part-at d lo hi =
-      splits-at lead (barred-after E e) (drop (length lead) p) (branch [] []) p (d - e .shared) d
+      splits-at lead (barred E e) (drop (length lead) p) (branch [] []) p (d - e .shared) d
       (path-split ∙ ap (λ (l : Route). lead ++ l) (sym (ap (drop (length lead)) path-split ∙ drop-at lead (e .tail) (length lead) refl)))
-      (omega (arith, beginning-length T r b)) (omega (arith, length-drop (length lead) p, route-length T r b, beginning-length T r b))
+      (omega (arith, beginning-length s (T .family) r b)) (omega (arith, length-drop (length lead) p, route-length s (T .family) r b, beginning-length s (T .family) r b))
       ∙ ap₂ (λ q F. branch q F) (sym (beginning-parent s (routes s E) (taking-over d (r + 1)) r refl)) (part-barred d lo)
 
   pub waiting-next : (d : ℕ) → e .shared ≤ d → d < size e → waiting-to s E r (d + 1) ≡ branch-of s E (taking-over d (r + 1)) ∷ waiting-to s E r d
@@ -314,9 +282,9 @@ module _ {n : ℕ} {g : Graph} {s : ℕ} {E : List Entry} {j : ℕ} (T : Entered
       ∙ ap (λ β. β ∷ reverseAux (take (d - e .shared) (parts-of s E r)) []) (part-at d lo hi)
 
 -- they stay the same when entries change behind the border
-pub waiting-same : {n : ℕ} {g : Graph} {s : ℕ} {E : List Entry} (E′ : List Entry) {j : ℕ} (r d : ℕ) → Entered n g s E j → take j E′ ≡ take j E → r < j → waiting-to s E′ r d ≡ waiting-to s E r d
+pub waiting-same : {n : ℕ} {g : Graph} {s : ℕ} (E E′ : List Entry) {j : ℕ} (r d : ℕ) → Entered n g s E j → Entered n g s E′ j → take j E′ ≡ take j E → r < j → waiting-to s E′ r d ≡ waiting-to s E r d
 unfolding waiting-to parts-of
-waiting-same {s} {E} E′ {j} r d T same h =
+waiting-same {s} E E′ {j} r d T T′ same h =
     let z : getD E′ r none ≡ getD E r none = entry-same s j E′ E same r h in
     ap₂ (λ (k : ℕ) (l : List Branch). reverseAux (take (d - k) l) []) (ap (λ (e : Entry). e .shared) z)
-    (ap₂ (λ (β : Branch) (p : Route). parts β p) (ap (branch-of s E′) z ∙ sym (branch-same s j E E′ (sym same) (known-to T j (T .border)) (getD E r none) (T .by-ranked .ranked r (omega (arith, T .border))))) (route-same s j E′ E same r h))
+    (ap₂ (λ (β : Branch) (p : Route). parts β p) (ap (branch-of s E′) z ∙ branch-same s j E′ E same (T′ .family) (T .family) (T′ .border) (T .border) (getD E r none) (T .by-ranked .ranked r (omega (arith, T .border)))) (route-same s j E′ E same r h))

@@ -1,28 +1,22 @@
 -- The state of the ranking: the entries of the workspace as ranked paths and candidates. Assumes nothing.
 use Prim.Native.Nat.{ℕ, _-_, _≤_}
 use mathlib.Core.Path.{_≡_}
-use mathlib.Core.Bool.{cond}
 use mathlib.Core.List.{List, [], map, reverseAux}
-use lib.Dec.{eqb}
 use lib.ListN.{length, take, drop, getD}
 use Rattle.terms.specs.Network.{Graph}
 use Rattle.terms.specs.Paths.{Route, cost}
 use Rattle.candidates.specs.Slots.{Entry, none}
 use Rattle.candidates.specs.Routes.{beginning, route, routes, Family, ByRanked}
-use Rattle.candidates.specs.Bars.{bars}
+use Rattle.candidates.specs.Bars.{barred}
 use Rattle.ranking.specs.Branches.{Branch, branch}
 use Rattle.ranking.specs.Parts.{parts}
 use Rattle.ranking.specs.Pool.{Candidate}
 use Rattle.ranking.specs.Search.{Search}
 
 -- ---- an entry e of E, for paths from s
--- the nodes that must not follow the beginning that it takes over: none, if it has no parent
-unfoldable pub barred-after : List Entry → Entry → List ℕ
-barred-after E e = cond (eqb (e .parent) 0) [] (bars E (e .parent - 1) (e .shared))
-
 -- the branch whose first path it is
 unfoldable pub branch-of : ℕ → List Entry → Entry → Branch
-branch-of s E e = branch (beginning s (routes s E) e) (barred-after E e)
+branch-of s E e = branch (beginning s (routes s E) e) (barred E e)
 
 unfoldable pub candidate : ℕ → List Entry → Entry → Candidate Branch
 candidate s E e = record { route = route s (routes s E) e; part = branch-of s E e }
