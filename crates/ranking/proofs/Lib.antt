@@ -13,3 +13,4 @@ pub mod LaidLaws
 pub mod FirstLaws
 pub mod PutLaws
 pub mod StateLaws
+pub mod EnterLaws

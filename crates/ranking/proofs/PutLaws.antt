@@ -75,7 +75,7 @@ rising-index g (first {p} {l} a r) zero (suc k) h b = a (getD l k []) (getD-mem 
 rising-index g (first a r) (suc i) zero h b = absurd (omega arith)
 rising-index g (first a r) (suc i) (suc k) h b = rising-index g r i k (omega arith) (omega arith)
 
-mem-index : {A : Type 0} (l : List A) (d : A) {x : A} → x ∈ l → (i : ℕ) × (i < length l) × (x ≡ getD l i d)
+pub mem-index : {A : Type 0} (l : List A) (d : A) {x : A} → x ∈ l → (i : ℕ) × (i < length l) × (x ≡ getD l i d)
 mem-index l d {x} m = let k = mem-place (length l) l d {x = x} (rw (take-length l) m) in (k .0, k .1, k .3)
 
 module _ (g : Graph) (x : Candidate Branch) (l : List (Candidate Branch)) (q : ℕ) (h : q ≤ length l) (rising : Rising g (routes l)) (new : (c : Candidate Branch) → c ∈ l → x .route ≢ c .route)

@@ -1,11 +1,12 @@
 -- The entries as ranked paths and candidates: what an entry that is put in, and a border that moves on, do to them. Assumes nothing.
 use Prim.Native.Nat.{ℕ, zero, suc, _+_, _-_, _≤_, _<_, min}
 use native.Mathlib.Omega.{arith}
+use native.Mathlib.Nat.{eq-or-lt-of-le}
 use native.Mathlib.Numerals.{add-one}
 use mathlib.Core.Path.{_≡_, refl, sym, _∙_, ap, ap₂, subst, subst₂}
 use mathlib.Core.Bool.{Bool, true, false, cond}
-use mathlib.Core.Logic.{_≢_, ⊎-elim}
-use mathlib.Core.List.{List, [], _∷_, _++_, map, map-map, reverseAux, List·Memᴰ·head}
+use mathlib.Core.Logic.{_≢_, inl, inr, ⊎-elim}
+use mathlib.Core.List.{List, [], _∷_, _++_, map, map-map, reverseAux, List·Memᴰ·head, Memᴰ·map}
 use lib.Dec.{eqb}
 use lib.ListN.{length, take, drop, getD, length-append, length-take, length-drop, length-map, List·getD-map}
 use lib.Seq.{take-suc, drop-cons, getD-take, getD-drop, getD-append-add, drop-at, take-all}
@@ -16,7 +17,7 @@ use Rattle.terms.specs.Paths.{Route, cost}
 use Rattle.terms.specs.Ranking.{before, by-first, lex}
 use Rattle.terms.proofs.ListLaws.{split}
 use Rattle.terms.proofs.PathLaws.{Within}
-use Rattle.terms.proofs.RankingLaws.{before-cost}
+use Rattle.terms.proofs.RankingLaws.{NoLater, Rising, before-cost}
 use Rattle.candidates.specs.Slots.{Entry, none}
 use Rattle.candidates.specs.Keeping.{inserted, put-in}
 use Rattle.candidates.specs.Routes.{beginning, route, routes, size, Fits, Family, ByRanked}
@@ -33,7 +34,7 @@ use Rattle.ranking.specs.Pool as pool
 use Rattle.ranking.specs.Search.{Search}
 use Rattle.ranking.specs.State.{branch-of, candidate, candidates-from, Entered, Beyond, Searching, State, parts-of, waiting-to, taking-over}
 use Rattle.ranking.proofs.PartLaws.{reverse-take}
-use Rattle.ranking.proofs.PutLaws.{map-same, drop-put-in, map-put-in, take-put-in, put-place}
+use Rattle.ranking.proofs.PutLaws.{rising-index, mem-index, map-same, drop-put-in, map-put-in, take-put-in, put-place}
 use Rattle.ranking.proofs.SearchLaws.{found, rank-first-back}
 use Rattle.ranking.proofs.SplitLaws.{splits-at, parts-length}
 
@@ -87,7 +88,7 @@ module _ {n : ℕ} {g : Graph} {s : ℕ} {E : List Entry} {j : ℕ} (T : Entered
   entry-route p b = routes-at s p E b (T .family .fits p b .known)
 
   -- ---- the candidates
-  length-done : length (take j (routes s E)) ≡ j
+  pub length-done : length (take j (routes s E)) ≡ j
   length-done = omega (arith, length-take j (routes s E), length-routes s E, T .border)
 
   candidate-route : (i : ℕ) → j + i < length E → getD (pool.routes (candidates-from s E j)) i [] ≡ getD (routes s E) (j + i) []
@@ -97,9 +98,23 @@ module _ {n : ℕ} {g : Graph} {s : ℕ} {E : List Entry} {j : ℕ} (T : Entered
       ap (λ (l : List Route). getD l i []) (map-map (λ (c : Candidate Branch). c .route) (candidate s E) (drop j E))
       ∙ getD-map-in (λ (e : Entry). candidate s E e .route) (drop j E) i none [] h ∙ ap (route s (routes s E)) (getD-drop j E i none) ∙ sym (entry-route (j + i) b)
 
-  length-candidates : length (candidates-from s E j) ≡ length E - j
+  pub length-candidates : length (candidates-from s E j) ≡ length E - j
   unfolding candidates-from
   length-candidates = length-map (drop j E) (candidate s E) ∙ length-drop j E
+
+  -- the last one comes after the others
+  pub last-candidate : Rising g (pool.routes (candidates-from s E j)) → (c : Candidate Branch) → c ∈ candidates-from s E j → NoLater g (c .route) (getD (routes s E) (length E - 1) [])
+  last-candidate r c m = up (mem-index (pool.routes (candidates-from s E j)) [] (Memᴰ·map (λ (z : Candidate Branch). z .route) m))
+    where
+      long : length (pool.routes (candidates-from s E j)) ≡ length E - j
+      long = length-map (candidates-from s E j) (λ (z : Candidate Branch). z .route) ∙ length-candidates
+
+      up : (i : ℕ) × (i < length (pool.routes (candidates-from s E j))) × (c .route ≡ getD (pool.routes (candidates-from s E j)) i []) → NoLater g (c .route) (getD (routes s E) (length E - 1) [])
+      up (i, b, e) =
+          let k = length E - 1 - j in
+          let z : j + k ≡ length E - 1 = omega (arith, long) in
+          let w = candidate-route k (omega (arith, long)) ∙ ap (λ h. getD (routes s E) h []) z in
+          rw (e, ← w) (⊎-elim (λ h. inl (ap (λ h. getD (pool.routes (candidates-from s E j)) h []) (sym h))) (λ h. inr (rising-index g r i k h (omega (arith, long)))) (eq-or-lt-of-le {n = i} {m = k} (omega (arith, long))))
 
   -- ---- an entry is put in behind the border
   module _ (M place : ℕ) (e : Entry) (low : j ≤ place) (high : place ≤ length E) (room : j ≤ M) (fit : Fits n E j e) where
