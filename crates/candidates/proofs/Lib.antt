@@ -10,3 +10,4 @@ mod PartLaws
 mod SlotLaws
 mod InsertionLaws
 mod LayingLaws
+mod PlacingLaws

@@ -4,7 +4,7 @@ use Prim.Native.Nat.{ℕ, _+_, _≤_, _<_}
 use native.Mathlib.Omega.{arith}
 use mathlib.Core.Path.{_≡_, sym, _∙_, ap, subst}
 use mathlib.Core.List.{List, [], _∷_, _++_}
-use lib.ListN.{length, getD, take}
+use lib.ListN.{length, getD, take, length-append}
 use lib.Seq.{getD-take}
 use Rattle.terms.specs.Paths.{Route}
 use Rattle.candidates.specs.Slots.{Entry, none, entry-at, entries}
@@ -77,3 +77,6 @@ module _ (n : ℕ) (w : List ℕ) (p : ℕ) (root : Rooted n w p) where
     pub route-is : route-at s n w p ≡ taken ++ e .tail
     unfolding route-at route
     route-is = routes-at s p E inside (root .family .fits p inside .known) ∙ ap (route s (routes s E)) at-p
+
+    pub route-size : length (route-at s n w p) ≡ size e
+    route-size = ap length route-is ∙ length-append taken (e .tail) ∙ ap (λ (x : ℕ). x + length (e .tail)) taken-length

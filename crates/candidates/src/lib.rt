@@ -3,6 +3,7 @@
 mod bars;
 mod clearing;
 mod insertion;
+mod ordering;
 mod routes;
 mod slots;
 
@@ -10,6 +11,7 @@ pub use bars::set_bars;
 pub use clearing::clear;
 pub use insertion::insert;
 pub use insertion::reset;
+pub use ordering::place_for;
 pub use routes::lay_out;
 pub use slots::cost_at;
 pub use slots::parent_at;

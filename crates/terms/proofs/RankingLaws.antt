@@ -8,7 +8,7 @@ use mathlib.Core.List.{List, [], _∷_, _++_, List·Memᴰ·head, List·Memᴰ·
 use lib.Dec.{eqb, ltb}
 use lib.ListN.{length, take, getD, length-take}
 use lib.Seq.{take-all}
-use borrow.Author.Tests.{eqb-true, eq-eqb, ltb-true, ltb-false, lt-ltb, le-ltb}
+use borrow.Author.Tests.{eqb-true, eq-eqb, ne-eqb, ltb-true, ltb-false, lt-ltb, le-ltb}
 use Rattle.terms.specs.Lists.{_∈_, keep}
 use Rattle.terms.specs.Network.{Graph}
 use Rattle.terms.specs.Paths.{Route, Path, cost, paths}
@@ -24,6 +24,10 @@ by-first-true a b r e = ⊎-elim (λ h. inl (ltb-true a b h)) (λ h. let k = and
 pub by-first-lt : (a b : ℕ) (r : Bool) → a < b → by-first a b r ≡ true
 unfolding by-first
 by-first-lt a b r h = rw (lt-ltb a b h)
+
+pub by-first-gt : (a b : ℕ) (r : Bool) → b < a → by-first a b r ≡ false
+unfolding by-first
+by-first-gt a b r h = rw (le-ltb a b (omega arith), ne-eqb a b (λ e. omega arith))
 
 pub by-first-eq : (a b : ℕ) (r : Bool) → a ≡ b → by-first a b r ≡ r
 unfolding by-first
