@@ -11,14 +11,14 @@ use Rattle.terms.specs.Network.{Graph}
 use Rattle.terms.specs.Paths.{Route, Path, cost}
 use Rattle.terms.proofs.ListLaws.{outside-apart}
 use Rattle.terms.proofs.PathLaws.{PathFrom, step}
-use Rattle.ranking.specs.Branches.{branch, In, First, Beginning}
+use Rattle.ranking.specs.Branches.{Branch, branch, In, First, Beginning}
 use Rattle.ranking.specs.Exits.{Unmarked}
 use Rattle.ranking.specs.Flags.{Flagged, Fresh}
-use Rattle.ranking.specs.Found.{Ahead, Begun, Extent, Kept}
+use Rattle.ranking.specs.Found.{Ahead, Begun, Extent, Kept, FirstFound}
 use Rattle.ranking.specs.Laid.{Laid, Longer, Arrives, Tried}
 use Rattle.ranking.specs.Walks.{Consistent, Exit, Choice, Allowed}
 use Rattle.ranking.specs.declared.first.Found.{Found}
-use Rattle.ranking.specs.declared.first.Found.the-variants.{Tail}
+use Rattle.ranking.specs.declared.first.Found.the-variants.{Tail, Empty}
 use Rattle.ranking.proofs.BranchLaws.{ends, met, in-path, in-tail, arrived-first, beginning-path}
 use Rattle.ranking.proofs.FlagLaws.{unflagged}
 use Rattle.ranking.proofs.LaidLaws.{take-more, last-more, laid-room, laid-place, laid-last, longer-more}
@@ -185,3 +185,23 @@ tried-kept t = record { flags = t .flags; kept = t .kept; reach = Extent.extent 
 -- and what is kept after it
 pub kept-again : {d len : ℕ} {used path used′ path′ used″ path″ : List ℕ} {r : Found} → Tried used path d used′ path′ len → Kept used′ path′ d used″ path″ r → Kept used path d used″ path″ r
 kept-again t k = record { flags = k .flags ∙ t .flags; kept = k .kept ∙ t .kept; reach = k .reach }
+
+-- ---- what was found, by its kind
+no-tail : {A : Type 0} {len rest : ℕ} → _≡_ {A = Found} Empty (Tail len rest) → A
+no-tail e = let z : _≡_ {A = ℕ} 0 1 = cc in absurd (omega arith)
+
+pub extent-tail : {d len rest : ℕ} {path : List ℕ} {r : Found} → Extent d path r → r ≡ Tail len rest → (d < len) × (len ≤ length path)
+extent-tail {len} (Extent.extent {len = n} a b) e = let h : n ≡ len = cc in rw (← h) (a, b)
+extent-tail Extent.nothing e = no-tail e
+
+module _ {g : Graph} {s t : ℕ} {β : Branch} {path : List ℕ} where
+  pub found-tail : {len rest : ℕ} {r : Found} → FirstFound g s t β path r → r ≡ Tail len rest → First g s t β (take len path) × (cost g (take len path) ≡ cost g (β .beginning) + rest)
+  found-tail {len} {rest} (FirstFound.found {len = n} {rest = m} f c) e =
+      let h : n ≡ len = cc in
+      let k : m ≡ rest = cc in
+      rw (← h, ← k) (f, c)
+  found-tail (FirstFound.none n) e = no-tail e
+
+  pub found-empty : {r : Found} → FirstFound g s t β path r → r ≡ Empty → (p : Route) → In g s t β p → ⊥
+  found-empty (FirstFound.found f c) e = no-tail (sym e)
+  found-empty (FirstFound.none n) e = n

@@ -22,6 +22,10 @@ use Rattle.ranking.specs.Flags.{Flagged}
 use Rattle.ranking.proofs.BranchLaws.{elem-snoc, loopless-snoc}
 use Rattle.ranking.proofs.WalkLaws.{Attained, Exact}
 
+-- no flag is set
+pub flags-none : {flags : List ℕ} → ((x : ℕ) → getD flags x 0 ≡ 0) → Flagged flags []
+flags-none none = record { inside = λ x m. elim m [ ]; outside = λ x _. none x }
+
 module _ {flags q : List ℕ} (f : Flagged flags q) where
   -- a flag says whether the node is in the list
   pub unflagged : (x : ℕ) → getD flags x 0 ≡ 0 → elem x q ≡ false

@@ -10,20 +10,20 @@ use lib.ListN.{length, take, getD, set, length-set}
 use lib.Seq.{take-suc, take-suc-set, take-set-le, getD-set-same, length-take-le, append-snoc, take-take}
 use Rattle.terms.specs.Lists.{elem}
 use Rattle.terms.specs.Network.{Graph}
-use Rattle.terms.specs.Paths.{Route, Loopless, fresh}
+use Rattle.terms.specs.Paths.{Route, Loopless, empty, fresh}
 use Rattle.terms.proofs.ListLaws.{place-mem, outside-cons, cons-outside}
 use Rattle.ranking.specs.Flags.{Flagged, Fresh}
 use Rattle.ranking.specs.Walks.{Tight, TightWalk, arrived, follow}
 use Rattle.ranking.specs.Exits.{Unused}
 use Rattle.ranking.specs.Laid.{Laid, Longer, Arrives, Tried}
 use Rattle.ranking.proofs.BranchLaws.{elem-snoc, loopless-snoc}
-use Rattle.ranking.proofs.FlagLaws.{unflagged, flag-place, flag-more, flag-less, flags-same, flagged-room}
+use Rattle.ranking.proofs.FlagLaws.{flags-none, unflagged, flag-place, flag-more, flag-less, flags-same, flagged-room}
 use Rattle.ranking.proofs.WalkLaws.{tight-open}
 
 -- the last of the nodes of a list that has none twice
 loopless-last : (q : Route) (y : ℕ) → Loopless (q ++ (y ∷ [])) → Loopless q × (elem y q ≡ false)
 unfolding elem
-loopless-last [] y l = (Loopless.empty, refl)
+loopless-last [] y l = (empty, refl)
 loopless-last (x ∷ q) y (fresh f l) =
     let k = loopless-last q y l in
     let d = outside-cons x y q (sym (elem-snoc x q y) ∙ f) in
@@ -35,6 +35,11 @@ take-more path at y h = rw (add-one at) (take-suc-set path at y h)
 
 pub take-last : (path : List ℕ) (at : ℕ) → at < length path → take (at + 1) path ≡ take at path ++ (getD path at 0 ∷ [])
 take-last path at h = rw (add-one at) (take-suc path at 0 h)
+
+-- no node yet
+pub laid-none : {k : ℕ} {used path : List ℕ} → k ≤ length path + 1 → length used ≡ k → ((x : ℕ) → getD used x 0 ≡ 0) → Laid k used path 0
+unfolding elem
+laid-none room long none = record { upto = omega arith; room = room; flags-long = long; nodes = refl; loopless = empty; flagged = flags-none none }
 
 module _ {k at : ℕ} {used path : List ℕ} where
   -- a node that is not flagged finds room

@@ -14,3 +14,4 @@ pub mod FirstLaws
 pub mod PutLaws
 pub mod StateLaws
 pub mod EnterLaws
+pub mod AllLaws

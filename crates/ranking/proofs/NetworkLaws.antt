@@ -1,11 +1,11 @@
 -- What a graph in arrays gives to the functions that read it: places for every index, small labels, exact labels. Assumes nothing.
 use Prim.Native.Nat.{ℕ, _+_}
 use native.Mathlib.Omega.{arith}
-use mathlib.Core.Path.{_≡_, sym, _∙_}
+use mathlib.Core.Path.{_≡_, refl, sym, _∙_}
 use mathlib.Core.Bool.{false}
 use mathlib.Core.Logic.{⊎-elim}
 use mathlib.Core.List.{List}
-use lib.ListN.{length, List·getD-eq-default}
+use lib.ListN.{length, getD, List·getD-eq-default}
 use Rattle.terms.specs.Lists.{elem}
 use Rattle.terms.proofs.ListLaws.{le-or-lt}
 use Rattle.labels.specs.Arcs.{graph, heaviest, Arcs}
@@ -16,9 +16,9 @@ use Rattle.labels.proofs.LabelLaws.{label-le}
 use Rattle.ranking.specs.Exits.{Unmarked}
 use Rattle.ranking.specs.Flags.{Flagged, Fresh}
 use Rattle.ranking.specs.Star.{Star, Network, Heads, Starts, Small}
-use Rattle.ranking.specs.Walks.{Choice}
-use Rattle.ranking.proofs.FlagLaws.{least-exact}
-use Rattle.ranking.proofs.WalkLaws.{Exact}
+use Rattle.ranking.specs.Walks.{Consistent, Choice}
+use Rattle.ranking.proofs.FlagLaws.{flags-none, least-exact}
+use Rattle.ranking.proofs.WalkLaws.{Exact, consistent-more}
 
 -- ---- of arcs between n nodes, with those out of each node
 module _ {n : ℕ} {ts hs ws : List ℕ} (arcs : Arcs n ts hs ws) where
@@ -57,6 +57,11 @@ module _ {k : ℕ} {ts hs ws outs ins nexts : List ℕ} (net : Network k ts hs w
 
     pub network-exact : {q : List ℕ} → Flagged bars q → elem t q ≡ false → Exact (graph ts hs ws) t ls q
     network-exact f u = least-exact (net .arcs) (omega (arith, net .places)) f l u
+
+    -- with nothing barred they will do for any beginning
+    pub network-consistent : ((x : ℕ) → getD bars x 0 ≡ 0) → (q : List ℕ) → Consistent (graph ts hs ws) t ls q
+    unfolding elem
+    network-consistent none q = consistent-more q (λ x _. refl) (network-exact (flags-none none) refl .consistent)
 
   -- the chosen exit is a node
   pub choice-fresh : {ls used barred : List ℕ} {v l y : ℕ} → Choice (graph ts hs ws) ls (Unmarked used barred) v l y → Fresh k used y

@@ -27,6 +27,19 @@ pub record Begun (k : ℕ) (used barred path : List ℕ) (d : ℕ) : Type 0 wher
   pub some : 1 ≤ d
   pub barred-long : length barred ≡ k
 
+-- no node is flagged
+pub record Idle (k : ℕ) (used barred : List ℕ) : Type 0 where
+  pub barred-long : length barred ≡ k
+  pub none-used : (x : ℕ) → getD used x 0 ≡ 0
+  pub none-barred : (x : ℕ) → getD barred x 0 ≡ 0
+
+-- start and goal are two nodes, which have the places from 1 to below k
+pub record Ends (k start goal : ℕ) : Type 0 where
+  pub start-from : 1 ≤ start
+  pub start-place : start < k
+  pub goal-place : goal < k
+  pub apart : start ≡ goal → ⊥
+
 -- the path reaches beyond its first d nodes, which hold the beginning
 pub data Extent (d : ℕ) (path : List ℕ) : Found → Type 0 where
   extent : {len rest : ℕ} → d < len → len ≤ length path → Extent d path (Tail len rest)

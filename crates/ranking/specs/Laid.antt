@@ -32,7 +32,7 @@ pub record Arrives (g : Graph) (t : ℕ) (ls : List ℕ) (q : Route) (x : ℕ) (
   pub whole : p ≡ q ++ rest
   pub tight : TightWalk g t ls q x rest
 
--- the first `at` places of path, all flags and the length are as before, and len is among the places behind
+-- all flags and the first `at` places of path are as before, and the path now reaches beyond these
 pub record Tried (used path : List ℕ) (at : ℕ) (used′ path′ : List ℕ) (len : ℕ) : Type 0 where
   pub flags : used′ ≡ used
   pub kept : take at path′ ≡ take at path

@@ -75,7 +75,7 @@ fn steps(
 }
 
 // The first of the paths that go on from path[..d] with y, step by step. The flags are then as before.
-fn surely(
+fn by_steps(
     tails: &[u16],
     heads: &[u16],
     weights: &[u32],
@@ -163,7 +163,7 @@ fn exact_path(
     if end.arrived {
         return Found::Tail(end.len, l);
     }
-    let len = surely(
+    let len = by_steps(
         tails,
         heads,
         weights,

@@ -1,51 +1,40 @@
-use Prim.Native.Nat.{_+_}
-use native.Mathlib.Omega.{arith}
-use Rattle.ranking.proofs.ExitLaws.{scanned-chosen, scanned-usable}
-use borrow.Author.Needs.{needs}
+-- `exits::least_exit` scans the arcs out of v: the best of their numbers is the choice among the exits. Assumes nothing.
 use Rattle.ranking.proofs.exits.least_exit.Statement.{statement}
 use Rattle.ranking.proofs.exits.least_exit.Tie as tie
-use Rattle.ranking.proofs.exits.least_exit.Reads as reads
-use Rattle.ranking.proofs.exits.least_exit.Lts as lts
-use Rattle.ranking.proofs.exits.scan.Reads as scan-reads
+use Prim.Native.Nat.{_+_}
+use native.Mathlib.Omega.{arith}
+use borrow.Author.Needs.{needs}
+use Rattle.ranking.proofs.ExitLaws.{scanned-chosen, scanned-usable}
 
 abbrev start : tie.After-shared-slice-known8 → tie.Start
 start c = c .before .before .before .before .before .before .before .before
 
--- src/exits.rt:89:16
 mul-from : tie.Need-mul-from
 mul-from c = search needs
 
--- src/exits.rt:89:16
 shared-slice-read-from : tie.Need-shared-slice-read-from
 shared-slice-read-from c = search needs
 
--- src/exits.rt:89:16
 cast-from : tie.Need-cast-from
 cast-from c = omega (arith, c .shared-slice-known7 .given (c .before .before .before .before .before .before .before .args .v))
 
--- src/exits.rt:90:24
 add-to : tie.Need-add-to
 add-to c = search needs
 
--- src/exits.rt:90:14
 mul-to : tie.Need-mul-to
 mul-to c = search needs
 
--- src/exits.rt:90:14
 shared-slice-read-to : tie.Need-shared-slice-read-to
 shared-slice-read-to c = search needs
 
--- src/exits.rt:90:14
 cast-to : tie.Need-cast-to
 cast-to c = omega (arith, c .shared-slice-known8 .given (start c .args .v + 1))
 
--- src/exits.rt:91:5
 scan-requires : tie.Need-scan-requires
 scan-requires c κs =
     let p = start c .pre in
     (p .0, ((p .1 .1 .0, p .1 .0 .0 .ordered _ (p .1 .0 .1), p .1 .0 .0 .within _ (omega arith)), p .1 .1 .1))
 
--- src/exits.rt:73:1
 returns : tie.Need-returns
 returns c =
     let s = start (c .before) in

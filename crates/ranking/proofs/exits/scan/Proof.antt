@@ -1,14 +1,12 @@
+-- `exits::scan` goes through the indices once. The loop: the least number so far, and the first head that has it. Assumes nothing.
+use Rattle.ranking.proofs.exits.scan.Statement.{statement}
+use Rattle.ranking.proofs.exits.scan.Tie as tie
 use mathlib.Core.Logic.{⊎-elim}
 use mathlib.Core.Path.{sym}
 use Prim.Native.Nat.{_-_, _≤_}
+use native.Mathlib.Omega.{arith}
 use Rattle.ranking.specs.Exits.{via-arc}
 use Rattle.ranking.proofs.ExitLaws.{Scan, scan-start, scan-take, scan-pass, scan-none, scan-best}
-use native.Mathlib.Omega.{arith}
-use Rattle.ranking.proofs.exits.scan.Statement.{statement}
-use Rattle.ranking.proofs.exits.scan.Tie as tie
-use Rattle.ranking.proofs.exits.scan.Reads as reads
-use Rattle.ranking.proofs.exits.scan.Lts as lts
-use Rattle.ranking.proofs.exits.via.Reads as via-reads
 
 abbrev Inv-loop : tie.InvT-loop
 Inv-loop heads weights from to labels used barred best₀ node₀ i₀ best node i =
@@ -23,46 +21,36 @@ start c = c .before .before .before .before .before .before
 abbrev head : tie.After-via Inv-loop μ-loop → tie.At-loop Inv-loop μ-loop
 head c = c .before .before .before .before
 
--- src/exits.rt:56:5
 loop-holds : tie.Need-loop-holds Inv-loop μ-loop
 loop-holds c = (omega arith, omega (arith, c .before .before .before .before .before .pre .1 .0), scan-start)
 
--- src/exits.rt:57:17
 mul-y : tie.Need-mul-y Inv-loop μ-loop
 mul-y c = omega arith
 
--- src/exits.rt:57:17
 shared-slice-read-y : tie.Need-shared-slice-read-y Inv-loop μ-loop
 shared-slice-read-y c = omega arith
 
--- src/exits.rt:58:21
 cast-via : tie.Need-cast-via Inv-loop μ-loop
 cast-via c = omega (arith, c .shared-slice-known6 .given (c .before .before .loop .i))
 
--- src/exits.rt:58:33
 mul-via : tie.Need-mul-via Inv-loop μ-loop
 mul-via c = omega arith
 
--- src/exits.rt:58:33
 shared-slice-read-via : tie.Need-shared-slice-read-via Inv-loop μ-loop
 shared-slice-read-via c = omega arith
 
--- src/exits.rt:58:13
 via-requires : tie.Need-via-requires Inv-loop μ-loop
 via-requires c κs =
     let l = c .before .before .before in
     let p = start l .pre in
     ((p .0 .head-in _ (omega arith), p .1 .0 .0 .low _), p .1 .1)
 
--- src/exits.rt:63:9
 add-i : tie.Need-add-i Inv-loop μ-loop
 add-i c = omega arith
 
--- src/exits.rt:56:5
 loop-less : tie.Need-loop-less Inv-loop μ-loop
 loop-less c = omega arith
 
--- src/exits.rt:56:5
 loop-again : tie.Need-loop-again Inv-loop μ-loop
 loop-again c =
     let v = c .before in
@@ -73,11 +61,9 @@ loop-again c =
           (λ w. rw (w .1, w .2) (scan-pass (sym (v .via .ensures)) (w .0 .left) (omega arith) (l .loop .inv .2))) (c .if1 .came),
     )
 
--- src/exits.rt:66:9
 returns : tie.Need-returns Inv-loop μ-loop
 returns c = scan-none (omega arith) (c .if2 .taken) (c .before .before .loop .inv .2)
 
--- src/exits.rt:39:1
 returns-2 : tie.Need-returns-2 Inv-loop μ-loop
 returns-2 c = scan-best (omega arith) (c .if2 .left) (c .before .before .loop .inv .2)
 

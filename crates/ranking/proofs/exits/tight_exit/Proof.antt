@@ -1,14 +1,13 @@
+-- `exits::tight_exit` stops at the first arc that keeps to the label; heads rise, so that it goes to the smallest node. The loop: no arc passed keeps to it.
+-- Assumes nothing.
+use Rattle.ranking.proofs.exits.tight_exit.Statement.{statement}
+use Rattle.ranking.proofs.exits.tight_exit.Tie as tie
 use mathlib.Core.Path.{_≡_}
 use Prim.Native.Nat.{ℕ, _+_, _-_, _≤_, _<_}
+use native.Mathlib.Omega.{arith}
 use lib.ListN.{length, getD}
 use Rattle.ranking.specs.Exits.{Usable, Stepped}
 use Rattle.ranking.proofs.ExitLaws.{up-to, kept, strayed, first-tight}
-use native.Mathlib.Omega.{arith}
-use Rattle.ranking.proofs.exits.tight_exit.Statement.{statement}
-use Rattle.ranking.proofs.exits.tight_exit.Tie as tie
-use Rattle.ranking.proofs.exits.tight_exit.Reads as reads
-use Rattle.ranking.proofs.exits.tight_exit.Lts as lts
-use Rattle.ranking.proofs.exits.keeps.Reads as keeps-reads
 
 abbrev Inv-loop : tie.InvT-loop
 Inv-loop heads weights first-out x labels used want i₀ to i =
@@ -31,73 +30,56 @@ in-arcs c = let s = start (c .before) in (omega (arith, s .pre .1 .0 .0 .within 
 abbrev head : tie.After-keeps Inv-loop μ-loop → tie.At-loop Inv-loop μ-loop
 head c = c .before .before .before .before
 
--- src/exits.rt:128:16
 mul-want : tie.Need-mul-want Inv-loop μ-loop
 mul-want c = omega arith
 
--- src/exits.rt:128:16
 shared-slice-read-want : tie.Need-shared-slice-read-want Inv-loop μ-loop
 shared-slice-read-want c = omega arith
 
--- src/exits.rt:129:17
 mul-i : tie.Need-mul-i Inv-loop μ-loop
 mul-i c = omega arith
 
--- src/exits.rt:129:17
 shared-slice-read-i : tie.Need-shared-slice-read-i Inv-loop μ-loop
 shared-slice-read-i c = omega arith
 
--- src/exits.rt:129:17
 cast-i : tie.Need-cast-i Inv-loop μ-loop
 cast-i c = omega (arith, c .shared-slice-known7 .given (c .before .before .before .before .before .before .before .args .x))
 
--- src/exits.rt:130:24
 add-to : tie.Need-add-to Inv-loop μ-loop
 add-to c = omega arith
 
--- src/exits.rt:130:14
 mul-to : tie.Need-mul-to Inv-loop μ-loop
 mul-to c = omega arith
 
--- src/exits.rt:130:14
 shared-slice-read-to : tie.Need-shared-slice-read-to Inv-loop μ-loop
 shared-slice-read-to c = omega arith
 
--- src/exits.rt:130:14
 cast-to : tie.Need-cast-to Inv-loop μ-loop
 cast-to c = omega (arith, c .shared-slice-known8 .given (entry c .args .x + 1))
 
--- src/exits.rt:131:5
 loop-holds : tie.Need-loop-holds Inv-loop μ-loop
 loop-holds c = (omega arith, entry c .pre .1 .0 .0 .ordered _ (entry c .pre .1 .0 .1), λ j lo hi. absurd (omega arith))
 
--- src/exits.rt:132:17
 mul-y : tie.Need-mul-y Inv-loop μ-loop
 mul-y c = omega (arith, in-arcs c)
 
--- src/exits.rt:132:17
 shared-slice-read-y : tie.Need-shared-slice-read-y Inv-loop μ-loop
 shared-slice-read-y c = omega (arith, in-arcs (c .before))
 
--- src/exits.rt:133:18
 cast-keeps : tie.Need-cast-keeps Inv-loop μ-loop
 cast-keeps c = omega (arith, c .shared-slice-known9 .given (c .before .before .loop .i))
 
--- src/exits.rt:133:30
 mul-keeps : tie.Need-mul-keeps Inv-loop μ-loop
 mul-keeps c = omega (arith, in-arcs (c .before))
 
--- src/exits.rt:133:30
 shared-slice-read-keeps : tie.Need-shared-slice-read-keeps Inv-loop μ-loop
 shared-slice-read-keeps c = omega (arith, in-arcs (c .before .before))
 
--- src/exits.rt:133:12
 keeps-requires : tie.Need-keeps-requires Inv-loop μ-loop
 keeps-requires c κs =
     let s = start (c .before .before .before) in
     (s .pre .0 .head-in _ (in-arcs (c .before .before) .0), s .pre .1 .1)
 
--- src/exits.rt:134:13
 returns : tie.Need-returns Inv-loop μ-loop
 returns c =
     let l = head (c .before) in
@@ -106,21 +88,17 @@ returns c =
     let top = in-arcs (c .before .before .before .before) .0 in
     (Usable.usable (record { from = p .0 .head-from _ top; upto = p .0 .head-in _ top; unflagged = k .0 }), λ n ts arcs star reached. Stepped.tight (first-tight arcs star (omega (arith, star .long, p .1 .0 .0 .long)) (start l .args .labels .now) (start l .args .used .now) (l .loop .i) (l .loop .inv .0) (omega arith) reached (k .0) (k .1) (l .loop .inv .2)))
 
--- src/exits.rt:136:9
 add-i : tie.Need-add-i Inv-loop μ-loop
 add-i c = omega (arith, in-arcs (c .before .before .before .before))
 
--- src/exits.rt:131:5
 loop-less : tie.Need-loop-less Inv-loop μ-loop
 loop-less c = omega arith
 
--- src/exits.rt:131:5
 loop-again : tie.Need-loop-again Inv-loop μ-loop
 loop-again c =
     let l = head (c .before) in
     (omega arith, omega arith, up-to _ _ _ (l .loop .inv .2) (strayed (c .before .keeps .ensures) (c .if1 .left)))
 
--- src/exits.rt:114:1
 returns-2 : tie.Need-returns-2 Inv-loop μ-loop
 returns-2 c = (Usable.none, λ n ts arcs star reached. Stepped.stuck)
 

@@ -1,14 +1,13 @@
-use Prim.Native.Nat.{_<_}
-use lib.ListN.{getD}
-use Rattle.labels.specs.Labels.{far}
-use mathlib.Core.Path.{sym}
-use native.Mathlib.Omega.{arith}
-use Rattle.ranking.proofs.ExitLaws.{via-open, via-shut}
-use borrow.Author.Needs.{needs}
+-- `exits::via` tests used, barred and label in turn, as the definition does. Assumes nothing.
 use Rattle.ranking.proofs.exits.via.Statement.{statement}
 use Rattle.ranking.proofs.exits.via.Tie as tie
-use Rattle.ranking.proofs.exits.via.Reads as reads
-use Rattle.ranking.proofs.exits.via.Lts as lts
+use mathlib.Core.Path.{sym}
+use Prim.Native.Nat.{_<_}
+use native.Mathlib.Omega.{arith}
+use borrow.Author.Needs.{needs}
+use lib.ListN.{getD}
+use Rattle.labels.specs.Labels.{far}
+use Rattle.ranking.proofs.ExitLaws.{via-open, via-shut}
 
 abbrev start : tie.Else3 → tie.Start
 start c = c .before .before .before .before .before .before
@@ -16,39 +15,30 @@ start c = c .before .before .before .before .before .before
 reached : (c : tie.Else3) → getD (start c .args .labels .now) (start c .args .y) 0 < far
 reached c = omega (arith, c .before .shared-slice-known3 .given (start c .args .y))
 
--- src/exits.rt:25:8
 shared-slice-read-if1 : tie.Need-shared-slice-read-if1
 shared-slice-read-if1 c = search needs
 
--- src/exits.rt:26:9
 returns : tie.Need-returns
 returns c = sym (via-shut _ _ _ _ _ (λ u _. c .if1 .taken (u .unused)))
 
--- src/exits.rt:28:8
 shared-slice-read-if2 : tie.Need-shared-slice-read-if2
 shared-slice-read-if2 c = search needs
 
--- src/exits.rt:29:9
 returns-2 : tie.Need-returns-2
 returns-2 c = sym (via-shut _ _ _ _ _ (λ u _. c .if2 .taken (u .free)))
 
--- src/exits.rt:31:16
 mul-rest : tie.Need-mul-rest
 mul-rest c = search needs
 
--- src/exits.rt:31:16
 shared-slice-read-rest : tie.Need-shared-slice-read-rest
 shared-slice-read-rest c = search needs
 
--- src/exits.rt:33:9
 returns-3 : tie.Need-returns-3
 returns-3 c = sym (via-shut _ _ _ _ _ (λ _ k. omega arith))
 
--- src/exits.rt:35:5
 add-result : tie.Need-add-result
 add-result c = let k = start c .pre .0 .1 (reached c) in omega arith
 
--- src/exits.rt:20:1
 returns-4 : tie.Need-returns-4
 returns-4 c = sym (via-open _ _ _ _ _ (record { unused = c .before .before .before .before .if1 .left; free = c .before .before .if2 .left }) (reached c))
 

@@ -1,13 +1,17 @@
-use Rattle.ranking.specs.Exits.{Unmarked}
-use Rattle.ranking.specs.Walks.{Choice}
+-- `first::exact_path`: with no exit the branch is empty; a walk that arrives is its first path, and so is the path step by step. Assumes nothing.
+use Rattle.ranking.proofs.first.exact_path.Statement.{statement}
+use Rattle.ranking.proofs.first.exact_path.Tie as tie
 use mathlib.Core.Path.{_≡_, refl, _∙_}
 use mathlib.Core.List.{List}
 use Prim.Native.Nat.{ℕ, _-_}
 use native.Mathlib.Omega.{arith}
+use borrow.Author.Needs.{needs}
 use lib.ListN.{length, take, getD}
 use Rattle.terms.specs.Network.{Graph}
 use Rattle.labels.specs.Arcs.{graph}
 use Rattle.labels.specs.Labels.{Least}
+use Rattle.ranking.specs.Exits.{Unmarked}
+use Rattle.ranking.specs.Walks.{Choice}
 use Rattle.ranking.specs.Flags.{Fresh}
 use Rattle.ranking.specs.Found.{Begun, Extent, FirstFound}
 use Rattle.ranking.specs.Laid.{Laid, Tried}
@@ -18,15 +22,6 @@ use Rattle.ranking.proofs.FirstLaws.{branch-empty, branch-walked, branc
 use Rattle.ranking.proofs.LaidLaws.{laid-place, laid-kept, tried-again}
 use Rattle.ranking.proofs.NetworkLaws.{network-heads, network-starts, network-arrays, network-small, network-exact}
 use Rattle.ranking.proofs.WalkLaws.{Exact}
-use borrow.Author.Needs.{needs}
-use Rattle.ranking.proofs.first.exact_path.Statement.{statement}
-use Rattle.ranking.proofs.first.exact_path.Tie as tie
-use Rattle.ranking.proofs.first.exact_path.Reads as reads
-use Rattle.ranking.proofs.first.exact_path.Lts as lts
-use Rattle.labels.proofs.least.Reads as least-reads
-use Rattle.ranking.proofs.exits.least_exit.Reads as least-exit-reads
-use Rattle.ranking.proofs.first.surely.Reads as surely-reads
-use Rattle.ranking.proofs.walk.attempt.Reads as attempt-reads
 
 -- the start of the function, and the calls
 abbrev entry : tie.After-least-arg4 → tie.Start
@@ -47,10 +42,10 @@ told c = c .before .before .before .before
 abbrev walked : tie.After-slice-known11 → tie.After-attempt
 walked c = c .before .before .before .before
 
-abbrev stepped : tie.After-slice-known16 → tie.After-surely
+abbrev stepped : tie.After-slice-known16 → tie.After-by-steps
 stepped c = c .before .before .before .before .before .before .before .before .before .before
 
-abbrev strayed : tie.After-surely → tie.After-attempt
+abbrev strayed : tie.After-by-steps → tie.After-attempt
 strayed c = walked (c .before .before .before .before .before .before .before)
 
 -- the labels, from the call that chooses the exit
@@ -103,29 +98,23 @@ walk-tried c = c .attempt .ensures .0
 walk-laid : (c : tie.After-attempt) → let s = start (with-labels (chosen (told c))) in Laid (length (s .args .used .now)) (s .args .used .now) (c .attempt .last .1 .1 .1 .1 .1 .1 .0) (s .args .d)
 walk-laid c = laid-kept (walk-tried c .kept) (c .attempt .kept .1 .1 .1 .1 .1 .1 .0) (begun (with-labels (chosen (told c))) .laid)
 
--- src/first.rt:147:5
 least-requires : tie.Need-least-requires
 least-requires c κs =
     let p = entry c .pre in
     rw (p .1 .1 .1 .labels-long) (network-arrays (p .0) (p .1 .0 .laid .flags-long), (record { place = p .1 .1 .0 .place; free = p .1 .1 .0 .unmet }, record { dirty-long = p .1 .1 .1 .dirty-long; queue-long = p .1 .1 .1 .queue-long }))
 
--- src/first.rt:148:18
 sub-v : tie.Need-sub-v
 sub-v c = search needs
 
--- src/first.rt:148:13
 mul-v : tie.Need-mul-v
 mul-v c = omega (arith, begun (labelled c) .laid, start (labelled c) .good)
 
--- src/first.rt:148:13
 slice-read-v : tie.Need-slice-read-v
 slice-read-v c = search needs
 
--- src/first.rt:148:13
 cast-v : tie.Need-cast-v
 cast-v c = omega (arith, c .slice-known9 .given (start (labelled (c .before)) .args .d - 1))
 
--- src/first.rt:149:28
 least-exit-requires : tie.Need-least-exit-requires
 least-exit-requires c κs =
     let a = labelled (c .before .before .before) in
@@ -133,31 +122,24 @@ least-exit-requires c κs =
     let n = network a in
     rw (made-long a) (network-heads n, ((network-starts n, laid-place (s .args .d - 1) (omega (arith, begun a .some)) (begun a .laid)), (network-small n (made-long a) (made-least a), (refl, begun a .barred-long))))
 
--- src/first.rt:149:20
 enum-known-y : tie.Need-enum-known-y
 enum-known-y c = search needs
 
--- src/first.rt:150:9
 enum-told : tie.Need-enum-told
 enum-told c = search needs
 
--- src/first.rt:150:9
 same-length : tie.Need-same-length
 same-length c = search needs
 
--- src/first.rt:150:9
 same-length-2 : tie.Need-same-length-2
 same-length-2 c = search needs
 
--- src/first.rt:150:9
 same-length-3 : tie.Need-same-length-3
 same-length-3 c = search needs
 
--- src/first.rt:150:9
 same-length-4 : tie.Need-same-length-4
 same-length-4 c = search needs
 
--- src/first.rt:150:9
 returns : tie.Need-returns
 returns c =
     let x = c .before .before in
@@ -165,7 +147,6 @@ returns c =
     let n = network a in
     (record { flags = refl; kept = refl; reach = Extent.nothing }, λ s F B h. FirstFound.none (branch-empty (begun a) h B (made-exact a .consistent) (chosen-nothing (x .least-exit .ensures .1 _ _ (n .arcs) (n .star)) (c .enum-told .given .1))))
 
--- src/first.rt:152:9
 attempt-requires : tie.Need-attempt-requires
 attempt-requires c κs =
     let t = c .before .before .before in
@@ -173,27 +154,21 @@ attempt-requires c κs =
     let n = network a in
     rw (made-long a) (network-heads n, (network-starts n, (begun a .laid, usable t)))
 
--- src/first.rt:154:9
 same-length-5 : tie.Need-same-length-5
 same-length-5 c = search needs
 
--- src/first.rt:154:9
 same-length-6 : tie.Need-same-length-6
 same-length-6 c = search needs
 
--- src/first.rt:154:9
 same-length-7 : tie.Need-same-length-7
 same-length-7 c = search needs
 
--- src/first.rt:154:9
 same-length-8 : tie.Need-same-length-8
 same-length-8 c = search needs
 
--- src/first.rt:154:9
 same-length-9 : tie.Need-same-length-9
 same-length-9 c = search needs
 
--- src/first.rt:154:9
 returns-2 : tie.Need-returns-2
 returns-2 c =
     let w = walked (c .before) in
@@ -202,51 +177,44 @@ returns-2 c =
     let n = network a in
     (tried-kept (walk-tried w), λ s F B h. let r = branch-walked (begun a) h B (choice t) (made-exact a .consistent) (w .attempt .ensures .1 _ _ (n .arcs) (n .star) (choice t .exit .reached) (c .if1 .taken)) in FirstFound.found (r .0) (r .1))
 
--- src/first.rt:156:9
-surely-requires : tie.Need-surely-requires
-surely-requires c κs =
+by-steps-requires : tie.Need-by-steps-requires
+by-steps-requires c κs =
     let w = walked (c .before .before .before .before .before .before) in
     let t = told w in
     let a = with-labels (chosen t) in
     let p = start a .pre in
     rw (walk-tried w .flags) (p .0, ((walk-laid w, usable t), (p .1 .1 .0, record { dirty-long = a .least .kept .1 .1 .1 .1 .1 .1 .0 ∙ p .1 .1 .1 .dirty-long; queue-long = a .least .kept .1 .1 .1 .1 .1 .1 .1 .0 ∙ p .1 .1 .1 .queue-long; labels-long = made-long a })))
 
--- src/first.rt:124:1
 same-length-10 : tie.Need-same-length-10
 same-length-10 c = search needs
 
--- src/first.rt:124:1
 same-length-11 : tie.Need-same-length-11
 same-length-11 c = search needs
 
--- src/first.rt:124:1
 same-length-12 : tie.Need-same-length-12
 same-length-12 c =
     let w = stepped c in
-    w .surely .kept .1 .1 .1 .1 .1 .1 .1 .1 .1 .1 .1 .0 ∙ with-labels (chosen (told (strayed w))) .least .kept .1 .1 .1 .1 .1 .1 .0
+    w .by-steps .kept .1 .1 .1 .1 .1 .1 .1 .1 .1 .1 .1 .0 ∙ with-labels (chosen (told (strayed w))) .least .kept .1 .1 .1 .1 .1 .1 .0
 
--- src/first.rt:124:1
 same-length-13 : tie.Need-same-length-13
 same-length-13 c =
     let w = stepped c in
-    w .surely .kept .1 .1 .1 .1 .1 .1 .1 .1 .1 .1 .1 .1 .0 ∙ with-labels (chosen (told (strayed w))) .least .kept .1 .1 .1 .1 .1 .1 .1 .0
+    w .by-steps .kept .1 .1 .1 .1 .1 .1 .1 .1 .1 .1 .1 .1 .0 ∙ with-labels (chosen (told (strayed w))) .least .kept .1 .1 .1 .1 .1 .1 .1 .0
 
--- src/first.rt:124:1
 same-length-14 : tie.Need-same-length-14
 same-length-14 c =
     let w = stepped c in
-    w .surely .kept .1 .1 .1 .1 .1 .1 .1 .1 .1 .1 .1 .1 .1 .0 ∙ with-labels (chosen (told (strayed w))) .least .kept .1 .1 .1 .1 .1 .1 .1 .1 .0
+    w .by-steps .kept .1 .1 .1 .1 .1 .1 .1 .1 .1 .1 .1 .1 .1 .0 ∙ with-labels (chosen (told (strayed w))) .least .kept .1 .1 .1 .1 .1 .1 .1 .1 .0
 
--- src/first.rt:124:1
 returns-3 : tie.Need-returns-3
 returns-3 c =
     let u = stepped c in
     let w = strayed u in
     let t = told w in
     let a = with-labels (chosen t) in (
-      tried-kept (tried-again (walk-tried w) (u .surely .ensures .0)),
+      tried-kept (tried-again (walk-tried w) (u .by-steps .ensures .0)),
       λ s F B h.
-          let r = branch-stepped (begun a) h B (choice t) (made-exact a) (λ p i. rw (walk-tried w .kept) at (u .surely .ensures .1 s p (rw (walk-tried w .kept) i))) in
+          let r = branch-stepped (begun a) h B (choice t) (made-exact a) (λ p i. rw (walk-tried w .kept) at (u .by-steps .ensures .1 s p (rw (walk-tried w .kept) i))) in
           FirstFound.found (r .0) (r .1),
     )
 
@@ -274,7 +242,7 @@ exact-path-spec =
     same-length-8
     same-length-9
     returns-2
-    surely-requires
+    by-steps-requires
     same-length-10
     same-length-11
     same-length-12

@@ -1,15 +1,13 @@
+-- `first::first_path`: a walk along any consistent labels that arrives is the first path of the branch; else it is searched by exact labels.
+-- Assumes nothing.
+use Rattle.ranking.proofs.first.first_path.Statement.{statement}
+use Rattle.ranking.proofs.first.first_path.Tie as tie
+use borrow.Author.Needs.{needs}
 use Rattle.ranking.specs.Found.{FirstFound}
 use Rattle.ranking.specs.Laid.{Tried}
 use Rattle.ranking.proofs.FirstLaws.{branch-walked, tried-kept, kept-again}
 use Rattle.ranking.proofs.LaidLaws.{laid-kept}
 use Rattle.ranking.proofs.NetworkLaws.{network-heads, network-starts, choice-fresh}
-use borrow.Author.Needs.{needs}
-use Rattle.ranking.proofs.first.first_path.Statement.{statement}
-use Rattle.ranking.proofs.first.first_path.Tie as tie
-use Rattle.ranking.proofs.first.first_path.Reads as reads
-use Rattle.ranking.proofs.first.first_path.Lts as lts
-use Rattle.ranking.proofs.first.exact_path.Reads as exact-path-reads
-use Rattle.ranking.proofs.walk.attempt.Reads as attempt-reads
 
 -- the start of the function, and the walk
 abbrev entry : tie.After-attempt-arg2 → tie.Start
@@ -28,21 +26,17 @@ walk-tried : (c : tie.After-attempt) → let s = start c in
     Tried (s .args .used .now) (s .args .path .now) (s .args .d) (c .attempt .last .1 .1 .1 .1 .1 .0) (c .attempt .last .1 .1 .1 .1 .1 .1 .0) (c .attempt .result .len)
 walk-tried c = c .attempt .ensures .0
 
--- src/first.rt:216:9
 attempt-requires : tie.Need-attempt-requires
 attempt-requires c κs =
     let p = entry c .pre in
     rw (p .1 .1 .1 .1 .0 .1) (network-heads (p .0), (network-starts (p .0), (p .1 .0 .laid, choice-fresh (p .0) (p .1 .1 .1 .1 .1))))
 
--- src/first.rt:218:9
 same-length : tie.Need-same-length
 same-length c = search needs
 
--- src/first.rt:218:9
 same-length-2 : tie.Need-same-length-2
 same-length-2 c = search needs
 
--- src/first.rt:218:9
 returns : tie.Need-returns
 returns c =
     let w = walked (c .before) in
@@ -54,34 +48,27 @@ returns c =
           FirstFound.found (r .0) (r .1),
     )
 
--- src/first.rt:220:5
 exact-path-requires : tie.Need-exact-path-requires
 exact-path-requires c κs =
     let w = strayed c in
     let p = start w .pre in
     rw (walk-tried w .flags) (p .0, (record { laid = laid-kept (walk-tried w .kept) (w .attempt .kept .1 .1 .1 .1 .1 .1 .0) (p .1 .0 .laid); some = p .1 .0 .some; barred-long = p .1 .0 .barred-long }, (p .1 .1 .0, p .1 .1 .1 .0)))
 
--- src/first.rt:188:1
 same-length-3 : tie.Need-same-length-3
 same-length-3 c = search needs
 
--- src/first.rt:188:1
 same-length-4 : tie.Need-same-length-4
 same-length-4 c = search needs
 
--- src/first.rt:188:1
 same-length-5 : tie.Need-same-length-5
 same-length-5 c = search needs
 
--- src/first.rt:188:1
 same-length-6 : tie.Need-same-length-6
 same-length-6 c = search needs
 
--- src/first.rt:188:1
 same-length-7 : tie.Need-same-length-7
 same-length-7 c = search needs
 
--- src/first.rt:188:1
 returns-2 : tie.Need-returns-2
 returns-2 c =
     let e = c .before .before .before .before .before .before .before .before .before .before in

@@ -1,29 +1,27 @@
-use Rattle.terms.specs.Network.{Graph}
-use Rattle.labels.specs.Labels.{Least}
-use Rattle.ranking.specs.Flags.{Fresh}
-use Rattle.ranking.specs.Star.{Network}
-use Rattle.ranking.proofs.FlagLaws.{unflagged}
-use Rattle.ranking.proofs.LaidLaws.{laid-room}
-use Rattle.ranking.proofs.WalkLaws.{Exact}
+-- `first::steps` goes from node to node along exact labels. The loop: the branch of the nodes so far has a path, and its first path is that of the branch at
+-- the start; so there always is an exit. The room behind the path falls. Assumes nothing.
+use Rattle.ranking.proofs.first.steps.Statement.{statement}
+use Rattle.ranking.proofs.first.steps.Tie as tie
 use mathlib.Core.Path.{refl, sym, _∙_}
 use mathlib.Core.List.{List, []}
 use Prim.Native.Nat.{ℕ, _-_, _<_}
+use native.Mathlib.Omega.{arith}
 use borrow.Author.Needs.{needs}
 use lib.ListN.{length, take, length-set}
+use Rattle.terms.specs.Network.{Graph}
 use Rattle.terms.specs.Paths.{Route}
+use Rattle.labels.specs.Labels.{Least}
 use Rattle.labels.specs.Arcs.{graph}
+use Rattle.ranking.specs.Flags.{Fresh}
+use Rattle.ranking.specs.Star.{Network}
 use Rattle.ranking.specs.Branches.{branch, In}
 use Rattle.ranking.specs.Found.{Room}
+use Rattle.ranking.proofs.FlagLaws.{unflagged}
+use Rattle.ranking.proofs.LaidLaws.{laid-room}
+use Rattle.ranking.proofs.WalkLaws.{Exact}
 use Rattle.ranking.proofs.ExitLaws.{usable-node, chosen-node, chosen-nothing}
 use Rattle.ranking.proofs.FirstLaws.{Stepping, stepping-place, stepping-more, stepping-onward, stepping-stuck, stepping-end, Onward, onward-start}
 use Rattle.ranking.proofs.NetworkLaws.{network-heads, network-starts, network-arrays, network-small, network-exact}
-use native.Mathlib.Omega.{arith}
-use Rattle.ranking.proofs.first.steps.Statement.{statement}
-use Rattle.ranking.proofs.first.steps.Tie as tie
-use Rattle.ranking.proofs.first.steps.Reads as reads
-use Rattle.ranking.proofs.first.steps.Lts as lts
-use Rattle.labels.proofs.least.Reads as least-reads
-use Rattle.ranking.proofs.exits.least_exit.Reads as least-exit-reads
 
 abbrev Inv-loop : tie.InvT-loop
 Inv-loop tails heads weights first-out first-in next-in goal used₀ path₀ at dirty₀ queue₀ labels₀ len₀ x₀ used path dirty queue labels len x =
@@ -94,29 +92,23 @@ short c =
     let l = head (labelled (chosen c .before)) in
     omega (arith, l .loop .inv .0 .same, start l .good .1 .1 .1 .1 .1 .1 .1 .1 .0)
 
--- src/first.rt:53:22
 sub-x : tie.Need-sub-x Inv-loop μ-loop
 sub-x c = omega arith
 
--- src/first.rt:53:17
 mul-x : tie.Need-mul-x Inv-loop μ-loop
 mul-x c = omega arith
 
--- src/first.rt:53:17
 slice-read-x : tie.Need-slice-read-x Inv-loop μ-loop
 slice-read-x c = omega arith
 
--- src/first.rt:53:17
 cast-x : tie.Need-cast-x Inv-loop μ-loop
 cast-x c = omega (arith, c .slice-known6 .given (entry c .args .at - 1))
 
--- src/first.rt:54:5
 loop-holds : tie.Need-loop-holds Inv-loop μ-loop
 loop-holds c =
     let p = entry c .pre in
     (record { longer = record { no-shorter = omega arith; laid = p .1 .0 .0; kept = refl }; same = refl; some = p .1 .0 .1; last = refl; goal-ahead = p .1 .1 .0 .1 }, p .1 .1 .1, λ s r i. onward-start i)
 
--- src/first.rt:55:9
 least-requires : tie.Need-least-requires Inv-loop μ-loop
 least-requires c κs =
     let l = turn c .before in
@@ -124,7 +116,6 @@ least-requires c κs =
     let p = start l .pre in
     rw (i .1 .labels-long) (network-arrays (p .0) (i .0 .longer .laid .flags-long), (record { place = p .1 .1 .0 .0; free = i .0 .goal-ahead (turn c .loop-test .taken) }, record { dirty-long = i .1 .dirty-long; queue-long = i .1 .queue-long }))
 
--- src/first.rt:56:32
 least-exit-requires : tie.Need-least-exit-requires Inv-loop μ-loop
 least-exit-requires c κs =
     let a = labelled c in
@@ -133,41 +124,33 @@ least-exit-requires c κs =
     let flags = l .loop .inv .0 .longer .laid .flags-long in
     rw (made-room a .labels-long) (network-heads n, ((network-starts n, stepping-place (l .loop .inv .0)), (network-small n (made-room a .labels-long) (made-least a), (flags, flags))))
 
--- src/first.rt:56:24
 enum-known-y : tie.Need-enum-known-y Inv-loop μ-loop
 enum-known-y c = search needs
 
--- src/first.rt:57:13
 enum-told : tie.Need-enum-told Inv-loop μ-loop
 enum-told c = search needs
 
--- src/first.rt:57:13
 same-length : tie.Need-same-length Inv-loop μ-loop
 same-length c = omega arith
 
--- src/first.rt:57:13
 same-length-2 : tie.Need-same-length-2 Inv-loop μ-loop
 same-length-2 c = omega arith
 
--- src/first.rt:57:13
 same-length-3 : tie.Need-same-length-3 Inv-loop μ-loop
 same-length-3 c =
     let a = labelled (c .before .before .before) in
     made-room a .dirty-long ∙ sym (start (head a) .pre .1 .1 .1 .dirty-long)
 
--- src/first.rt:57:13
 same-length-4 : tie.Need-same-length-4 Inv-loop μ-loop
 same-length-4 c =
     let a = labelled (c .before .before .before) in
     made-room a .queue-long ∙ sym (start (head a) .pre .1 .1 .1 .queue-long)
 
--- src/first.rt:57:13
 same-length-5 : tie.Need-same-length-5 Inv-loop μ-loop
 same-length-5 c =
     let a = labelled (c .before .before .before) in
     made-room a .labels-long ∙ sym (start (head a) .pre .1 .1 .1 .labels-long)
 
--- src/first.rt:57:13
 returns : tie.Need-returns Inv-loop μ-loop
 returns c =
     let x = c .before .before in
@@ -177,31 +160,24 @@ returns c =
     let n = turn (a .before) .loop-test .taken in
     (i .0 .longer, λ s p k. absurd (stepping-stuck (i .0) (i .2 s p k) n (made-exact a) (chosen-nothing (x .least-exit .ensures .1 _ _ (network l .arcs) (network l .star)) (c .enum-told .given .1))))
 
--- src/first.rt:59:9
 mul-path : tie.Need-mul-path Inv-loop μ-loop
 mul-path c = omega (arith, room c, short c)
 
--- src/first.rt:59:9
 slice-write-path : tie.Need-slice-write-path Inv-loop μ-loop
 slice-write-path c = room c
 
--- src/first.rt:60:13
 cast-x-2 : tie.Need-cast-x-2 Inv-loop μ-loop
 cast-x-2 c = omega arith
 
--- src/first.rt:61:9
 slice-write-used : tie.Need-slice-write-used Inv-loop μ-loop
 slice-write-used c = omega (arith, usable c .upto, head (labelled (chosen c .before)) .loop .inv .0 .longer .laid .flags-long)
 
--- src/first.rt:62:9
 add-len : tie.Need-add-len Inv-loop μ-loop
 add-len c = omega (arith, room c, short c)
 
--- src/first.rt:54:5
 loop-less : tie.Need-loop-less Inv-loop μ-loop
 loop-less c = simp length-set (omega (arith, room c))
 
--- src/first.rt:54:5
 loop-again : tie.Need-loop-again Inv-loop μ-loop
 loop-again c =
     let a = labelled (chosen c .before) in
@@ -213,27 +189,21 @@ loop-again c =
       λ s p k. stepping-onward (i .0) (i .2 s p k) n (made-exact a) (usable c) (chosen-node (chosen c .least-exit .ensures .1 _ _ (network l .arcs) (network l .star)) (c .before .y .given .1)),
     )
 
--- src/first.rt:30:1
 same-length-6 : tie.Need-same-length-6 Inv-loop μ-loop
 same-length-6 c = omega arith
 
--- src/first.rt:30:1
 same-length-7 : tie.Need-same-length-7 Inv-loop μ-loop
 same-length-7 c = omega arith
 
--- src/first.rt:30:1
 same-length-8 : tie.Need-same-length-8 Inv-loop μ-loop
 same-length-8 c = omega arith
 
--- src/first.rt:30:1
 same-length-9 : tie.Need-same-length-9 Inv-loop μ-loop
 same-length-9 c = omega arith
 
--- src/first.rt:30:1
 same-length-10 : tie.Need-same-length-10 Inv-loop μ-loop
 same-length-10 c = omega arith
 
--- src/first.rt:30:1
 returns-2 : tie.Need-returns-2 Inv-loop μ-loop
 returns-2 c =
     let i = c .before .loop .inv in

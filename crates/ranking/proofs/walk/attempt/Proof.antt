@@ -1,15 +1,12 @@
+-- `walk::attempt` lengthens the path by y and the walk from there, and clears the flags behind d again. Assumes nothing.
+use Rattle.ranking.proofs.walk.attempt.Statement.{statement}
+use Rattle.ranking.proofs.walk.attempt.Tie as tie
 use mathlib.Core.Path.{_∙_}
 use Prim.Native.Nat.{_<_}
 use native.Mathlib.Omega.{arith}
+use borrow.Author.Needs.{needs}
 use lib.ListN.{length, length-set}
 use Rattle.ranking.proofs.LaidLaws.{take-more, last-more, laid-room, laid-more, tried}
-use borrow.Author.Needs.{needs}
-use Rattle.ranking.proofs.walk.attempt.Statement.{statement}
-use Rattle.ranking.proofs.walk.attempt.Tie as tie
-use Rattle.ranking.proofs.walk.attempt.Reads as reads
-use Rattle.ranking.proofs.walk.attempt.Lts as lts
-use Rattle.ranking.proofs.walk.unmark.Reads as unmark-reads
-use Rattle.ranking.proofs.walk.walk.Reads as walk-reads
 
 -- the start of the function, and the calls
 abbrev entry : tie.After-slice-known2 → tie.Start
@@ -27,47 +24,38 @@ cleared c = c .before .before
 room : (s : tie.Start) → s .args .d < length (s .args .path .now)
 room s = laid-room (s .pre .1 .1 .0) (s .pre .1 .1 .1)
 
--- src/walk.rt:83:5
 mul-path : tie.Need-mul-path
 mul-path c = search needs
 
--- src/walk.rt:83:5
 slice-write-path : tie.Need-slice-write-path
 slice-write-path c = room (entry c)
 
--- src/walk.rt:84:5
 slice-write-used : tie.Need-slice-write-used
 slice-write-used c = search needs
 
--- src/walk.rt:85:73
 add-walk : tie.Need-add-walk
 add-walk c = search needs
 
--- src/walk.rt:85:9
 walk-requires : tie.Need-walk-requires
 walk-requires c κs =
     let s = entry (c .before .before) in
     let p = s .pre in
     (p .0, (p .1 .0, (laid-more (p .1 .1 .0) (p .1 .1 .1), omega arith)))
 
--- src/walk.rt:87:5
 unmark-requires : tie.Need-unmark-requires
 unmark-requires c κs =
     let w = walked c in
     let l = w .walk .ensures .0 in
     (rw (l .laid .flags-long) (l .laid), omega (arith, l .no-shorter))
 
--- src/walk.rt:66:1
 same-length : tie.Need-same-length
 same-length c = search needs
 
--- src/walk.rt:66:1
 same-length-2 : tie.Need-same-length-2
 same-length-2 c =
     let w = walked (cleared c .before) in
     w .walk .kept .1 .1 .1 .1 .1 .1 .0 ∙ length-set (start w .args .path .now) _ _
 
--- src/walk.rt:66:1
 returns : tie.Need-returns
 returns c =
     let u = cleared c in

@@ -1,7 +1,11 @@
-use Rattle.ranking.proofs.ExitLaws.{usable-node, stepped-node}
+-- `walk::walk` lengthens the path by tight steps. The loop: the path is laid out and flagged, and the walk so far goes on as a tight walk; the room behind
+-- the path falls. Assumes nothing.
+use Rattle.ranking.proofs.walk.walk.Statement.{statement}
+use Rattle.ranking.proofs.walk.walk.Tie as tie
 use mathlib.Core.Path.{_≡_, refl, _∙_}
 use mathlib.Core.List.{List}
 use Prim.Native.Nat.{ℕ, _-_, _≤_, _<_}
+use native.Mathlib.Omega.{arith}
 use borrow.Author.Needs.{needs}
 use lib.ListN.{length, take, getD, length-set}
 use lib.Seq.{take-set-le}
@@ -11,13 +15,8 @@ use Rattle.labels.specs.Labels.{far}
 use Rattle.ranking.specs.Flags.{Fresh}
 use Rattle.ranking.specs.Laid.{Laid}
 use Rattle.ranking.specs.Star.{Star}
+use Rattle.ranking.proofs.ExitLaws.{usable-node, stepped-node}
 use Rattle.ranking.proofs.LaidLaws.{take-more, Walking, walking-start, walking-step, walking-end, laid-room, laid-more, laid-place}
-use native.Mathlib.Omega.{arith}
-use Rattle.ranking.proofs.walk.walk.Statement.{statement}
-use Rattle.ranking.proofs.walk.walk.Tie as tie
-use Rattle.ranking.proofs.walk.walk.Reads as reads
-use Rattle.ranking.proofs.walk.walk.Lts as lts
-use Rattle.ranking.proofs.exits.tight_exit.Reads as tight-exit-reads
 
 abbrev Inv-loop : tie.InvT-loop
 Inv-loop heads weights first-out goal labels used₀ path₀ at len₀ x₀ used path len x =
@@ -52,82 +51,64 @@ usable c = usable-node (called c .tight-exit .ensures .0) (c .before .y .given .
 room : (c : tie.After-known-told Inv-loop μ-loop) → let l = head (called c) in l .loop .len < length (l .loop .path)
 room c = laid-room (head (called c) .loop .inv .3) (usable c)
 
--- src/walk.rt:39:22
 sub-x : tie.Need-sub-x Inv-loop μ-loop
 sub-x c = omega arith
 
--- src/walk.rt:39:17
 mul-x : tie.Need-mul-x Inv-loop μ-loop
 mul-x c = omega arith
 
--- src/walk.rt:39:17
 slice-read-x : tie.Need-slice-read-x Inv-loop μ-loop
 slice-read-x c = omega arith
 
--- src/walk.rt:39:17
 cast-x : tie.Need-cast-x Inv-loop μ-loop
 cast-x c = omega (arith, c .slice-known3 .given (entry c .args .at - 1))
 
--- src/walk.rt:40:5
 loop-holds : tie.Need-loop-holds Inv-loop μ-loop
 loop-holds c =
     let l = entry c .pre .1 .1 .0 in
     (omega arith, refl, refl, l, laid-place (entry c .args .at - 1) (omega arith) l, λ n ts a s r. (walking-start, r))
 
--- src/walk.rt:41:32
 tight-exit-requires : tie.Need-tight-exit-requires Inv-loop μ-loop
 tight-exit-requires c κs =
     let l = c .before .before in
     let p = start l .pre in
     (p .0, ((p .1 .0, l .loop .inv .4), l .loop .inv .3 .flags-long))
 
--- src/walk.rt:41:24
 enum-known-y : tie.Need-enum-known-y Inv-loop μ-loop
 enum-known-y c = search needs
 
--- src/walk.rt:42:13
 enum-told : tie.Need-enum-told Inv-loop μ-loop
 enum-told c = search needs
 
--- src/walk.rt:42:13
 same-length : tie.Need-same-length Inv-loop μ-loop
 same-length c = omega arith
 
--- src/walk.rt:42:13
 same-length-2 : tie.Need-same-length-2 Inv-loop μ-loop
 same-length-2 c = omega arith
 
--- src/walk.rt:42:13
 returns : tie.Need-returns Inv-loop μ-loop
 returns c =
     let i = c .before .before .before .before .before .loop .inv in
     (record { no-shorter = i .0; laid = i .3; kept = i .2 }, λ n ts a s r e. clash e refl)
 
--- src/walk.rt:44:9
 mul-path : tie.Need-mul-path Inv-loop μ-loop
 mul-path c = omega arith
 
--- src/walk.rt:44:9
 slice-write-path : tie.Need-slice-write-path Inv-loop μ-loop
 slice-write-path c = room c
 
--- src/walk.rt:45:13
 cast-x-2 : tie.Need-cast-x-2 Inv-loop μ-loop
 cast-x-2 c = omega arith
 
--- src/walk.rt:46:9
 slice-write-used : tie.Need-slice-write-used Inv-loop μ-loop
 slice-write-used c = omega (arith, usable c, head (called c) .loop .inv .3 .flags-long)
 
--- src/walk.rt:47:9
 add-len : tie.Need-add-len Inv-loop μ-loop
 add-len c = omega arith
 
--- src/walk.rt:40:5
 loop-less : tie.Need-loop-less Inv-loop μ-loop
 loop-less c = simp length-set (omega (arith, room c))
 
--- src/walk.rt:40:5
 loop-again : tie.Need-loop-again Inv-loop μ-loop
 loop-again c =
     let l = head (called c) in
@@ -145,15 +126,12 @@ loop-again c =
           (rw e (walking-step (i .3 .flagged) (called c .before .before .loop-test .taken) t (w .0)), t .exit .reached),
     )
 
--- src/walk.rt:22:1
 same-length-3 : tie.Need-same-length-3 Inv-loop μ-loop
 same-length-3 c = omega arith
 
--- src/walk.rt:22:1
 same-length-4 : tie.Need-same-length-4 Inv-loop μ-loop
 same-length-4 c = omega arith
 
--- src/walk.rt:22:1
 returns-2 : tie.Need-returns-2 Inv-loop μ-loop
 returns-2 c =
     let i = c .before .loop .inv in

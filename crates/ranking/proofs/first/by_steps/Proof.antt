@@ -1,17 +1,14 @@
+-- `first::by_steps` lengthens the path by y and the steps from there, and clears the flags behind d again. Assumes nothing.
+use Rattle.ranking.proofs.first.by_steps.Statement.{statement}
+use Rattle.ranking.proofs.first.by_steps.Tie as tie
 use mathlib.Core.Path.{_∙_, ap}
 use Prim.Native.Nat.{_+_, _<_}
 use native.Mathlib.Omega.{arith}
+use borrow.Author.Needs.{needs}
 use lib.ListN.{length, set, length-set}
 use Rattle.ranking.specs.Laid.{Longer, Tried}
 use Rattle.ranking.proofs.FirstLaws.{still-ahead}
 use Rattle.ranking.proofs.LaidLaws.{take-more, laid-room, laid-more, tried}
-use borrow.Author.Needs.{needs}
-use Rattle.ranking.proofs.first.surely.Statement.{statement}
-use Rattle.ranking.proofs.first.surely.Tie as tie
-use Rattle.ranking.proofs.first.surely.Reads as reads
-use Rattle.ranking.proofs.first.surely.Lts as lts
-use Rattle.ranking.proofs.first.steps.Reads as steps-reads
-use Rattle.ranking.proofs.walk.unmark.Reads as unmark-reads
 
 -- the start of the function, and the calls
 abbrev entry : tie.After-slice-known5 → tie.Start
@@ -39,23 +36,18 @@ done c =
     let s = start w in
     tried (s .args .y) (s .pre .1 .0 .0) (longer w) (cleared c .unmark .ensures)
 
--- src/first.rt:101:5
 mul-path : tie.Need-mul-path
 mul-path c = search needs
 
--- src/first.rt:101:5
 slice-write-path : tie.Need-slice-write-path
 slice-write-path c = room (entry c)
 
--- src/first.rt:102:5
 slice-write-used : tie.Need-slice-write-used
 slice-write-used c = search needs
 
--- src/first.rt:113:9
 add-steps : tie.Need-add-steps
 add-steps c = search needs
 
--- src/first.rt:103:9
 steps-requires : tie.Need-steps-requires
 steps-requires c κs =
     let s = entry (c .before .before .before .before .before) in
@@ -64,44 +56,37 @@ steps-requires c κs =
     let f = p .1 .0 .1 in
     rw (length-set (s .args .used .now) (s .args .y) 1) (p .0, ((laid-more l f, omega arith), ((p .1 .1 .0 .place, still-ahead l f (p .1 .1 .0)), p .1 .1 .1)))
 
--- src/first.rt:118:5
 unmark-requires : tie.Need-unmark-requires
 unmark-requires c κs =
     let w = stepped c in
     let l = longer w in
     (rw (l .laid .flags-long) (l .laid), omega (arith, l .no-shorter))
 
--- src/first.rt:78:1
 same-length : tie.Need-same-length
 same-length c = ap length (done c .flags)
 
--- src/first.rt:78:1
 same-length-2 : tie.Need-same-length-2
 same-length-2 c =
     let w = stepped (cleared c .before) in
     w .steps .kept .1 .1 .1 .1 .1 .1 .1 .1 .0 ∙ length-set (start w .args .path .now) _ _
 
--- src/first.rt:78:1
 same-length-3 : tie.Need-same-length-3
 same-length-3 c = search needs
 
--- src/first.rt:78:1
 same-length-4 : tie.Need-same-length-4
 same-length-4 c = search needs
 
--- src/first.rt:78:1
 same-length-5 : tie.Need-same-length-5
 same-length-5 c = search needs
 
--- src/first.rt:78:1
 returns : tie.Need-returns
 returns c =
     let w = stepped (cleared c .before) in
     let s = start w in
     (done c, λ v p i. rw (take-more (s .args .path .now) (s .args .d) (s .args .y) (room s)) at (w .steps .ensures .1 v p (rw (take-more (s .args .path .now) (s .args .d) (s .args .y) (room s)) i)))
 
-pub surely-spec : {M : Type 1} → statement M
-surely-spec =
+pub by-steps-spec : {M : Type 1} → statement M
+by-steps-spec =
     tie.close
     (tie.spec
     mul-path
