@@ -10,11 +10,11 @@ use lib.Seq.{take-take, take-all, take-add, take-append-le, getD-take, getD-drop
 use Rattle.terms.specs.Network.{Graph}
 use Rattle.terms.specs.Lists.{_∈_, elem}
 use Rattle.terms.specs.Paths.{Route, ByArcs, Path, cost}
-use Rattle.terms.proofs.ListLaws.{getD-mem}
+use Rattle.terms.proofs.ListLaws.{clash, getD-mem}
 use Rattle.terms.proofs.PathLaws.{Within, of-path, at-most-nodes}
 use Rattle.terms.proofs.RankingLaws.{NoLater}
 use Rattle.labels.specs.Arcs.{graph, heaviest, Arcs}
-use Rattle.labels.proofs.ArcLaws.{graph-within, later-within, path-cost-le}
+use Rattle.labels.proofs.ArcLaws.{linked-at, at-weight, graph-within, later-within, path-cost-le}
 use Rattle.candidates.specs.Slots.{Entry, none, entries}
 use Rattle.candidates.specs.Keeping.{Kept, inserted, put-in, Inserted}
 use Rattle.candidates.specs.Routes.{beginning, route, routes, size, Fits}
@@ -22,12 +22,14 @@ use Rattle.candidates.specs.Bars.{barred}
 use Rattle.candidates.specs.Placing.{Placed}
 use Rattle.ranking.specs.Branches.{Branch, branch, In, First}
 use Rattle.ranking.specs.Exits.{Unmarked}
-use Rattle.ranking.specs.Found.{Ahead}
+use Rattle.ranking.specs.Found.{Ahead, Extent, FirstFound}
 use Rattle.ranking.specs.Pool.{Candidate}
-use Rattle.ranking.specs.Ranking.{Problem, Deviation, Changed, Settled}
+use Rattle.ranking.specs.Ranking.{Problem, Filled, Deviation, Changed, Settled, TooDear}
 use Rattle.ranking.specs.Star.{longest}
 use Rattle.ranking.specs.State.{branch-of, candidate, candidates-from, Beyond, Entered, Searching, taking-over}
 use Rattle.ranking.specs.Walks.{Consistent, Exit, Choice}
+use Rattle.ranking.specs.declared.first.Found.{Found}
+use Rattle.ranking.specs.declared.first.Found.the-variants.{Tail, Empty}
 use Rattle.ranking.proofs.FirstLaws.{branch-empty, branch-floor}
 use Rattle.ranking.proofs.SearchLaws.{none-found, all-lost, too-dear}
 use Rattle.ranking.proofs.StateLaws.{entry-cost, length-done, length-candidates, last-candidate, entered-put, ranked-kept, search-put}
@@ -41,6 +43,35 @@ put-in-full M x l e = take-append-le M (take M l) (x ∷ drop M l) (omega (arith
 -- ---- the entry of a path that was found for the branch
 abbrev pub newcomer : ℕ → ℕ → ℕ → List ℕ → Entry
 newcomer c d parent tail = record { cost = c; shared = d; parent = parent; tail = tail }
+
+-- ---- what was found
+no-tail : {A : Type 0} {len rest : ℕ} → _≡_ {A = Found} Empty (Tail len rest) → A
+no-tail e = let z : _≡_ {A = ℕ} 0 1 = cc in absurd (omega arith)
+
+pub extent-tail : {d len rest : ℕ} {path : List ℕ} {r : Found} → Extent d path r → r ≡ Tail len rest → (d < len) × (len ≤ length path)
+extent-tail {len} (Extent.extent {len = m} lo hi) e = let z : m ≡ len = cc in (omega arith, omega arith)
+extent-tail Extent.nothing e = no-tail e
+
+module _ {g : Graph} {s t : ℕ} {β : Branch} where
+  pub found-tail : {len rest : ℕ} {path : List ℕ} {r : Found} → FirstFound g s t β path r → r ≡ Tail len rest → First g s t β (take len path) × (cost g (take len path) ≡ cost g (β .beginning) + rest)
+  found-tail {len} {rest} (FirstFound.found {len = m} {rest = k} f c) e =
+      let z : m ≡ len = cc in
+      let y : k ≡ rest = cc in
+      rw (← z, ← y) (f, c)
+  found-tail (FirstFound.none n) e = no-tail e
+
+  pub found-empty : {path : List ℕ} {r : Found} → FirstFound g s t β path r → r ≡ Empty → (p : Route) → In g s t β p → ⊥
+  found-empty (FirstFound.found f c) e = no-tail (sym e)
+  found-empty (FirstFound.none n) e = n
+
+pub dear-facts : {M count bound : ℕ} {E : List Entry} {b : Bool} → TooDear M count E bound b → b ≡ true → (count ≡ M) × (getD E (M - 1) none .cost < bound)
+dear-facts {E = E} (TooDear.dear e h) t = (e, let z = ap (λ k. getD E (k - 1) none .cost) e in omega arith)
+dear-facts TooDear.cheap t = clash t refl
+
+-- ---- the workspace
+module _ {n M : ℕ} {g : Graph} {s j : ℕ} {w : List ℕ} {count : ℕ} (F : Filled n M g s j w count) where
+  pub unchanged : Changed n M g s j w count w count
+  unchanged = record { kept = F .kept; entered = F .entered; ranked-same = refl; beyond = refl }
 
 -- ---- nodes of paths
 module _ {n s t : ℕ} {ts hs ws outs ins nexts overall : List ℕ} (P : Problem n s t ts hs ws outs ins nexts overall) where
@@ -63,6 +94,12 @@ module _ {n s t : ℕ} {ts hs ws outs ins nexts overall : List ℕ} (P : Problem
 
   pub path-small : {p : Route} → Path (graph ts hs ws) s t p → cost (graph ts hs ws) p ≤ longest
   path-small r = path-cost-le problem-arcs heaviest (problem-arcs .light) r
+
+  -- weight and label of an exit can be added to the cost of a beginning
+  pub choice-small : {used bars : List ℕ} {v l y : ℕ} → Choice (graph ts hs ws) overall (Unmarked used bars) v l y → l ≤ longest + heaviest
+  choice-small {v} {y} c =
+      let a = linked-at problem-arcs v y (c .exit .arc) in
+      omega (arith, c .attains, P .small .low y (c .exit .reached), at-weight problem-arcs (a .1), problem-arcs .light (a .0) (a .1 .below))
 
   -- ---- the branch of a beginning that is laid out
   module _ {E : List Entry} {j : ℕ} {used bars path : List ℕ} {parent d before : ℕ} (D : Deviation n (graph ts hs ws) s t E j used bars path parent d before) where
@@ -133,6 +170,9 @@ module _ {n s t : ℕ} {ts hs ws outs ins nexts overall : List ℕ} (P : Problem
         leaves-inside = D .fits .leaves-inside;
       }
 
+      pub rest-short : Path g s t (take len path′) → length rest ≤ n
+      rest-short r = omega (arith, fits-new 0 r .short)
+
       -- it is put in at its place
       module _ (r c : ℕ) (f : First g s t (branch (take d path) (barred E (taking-over d parent))) (take len path′)) (z : cost g (take len path′) ≡ cost g (take d path) + r) (e : c ≡ before + r) where
         abbrev entry : Entry
@@ -163,3 +203,15 @@ module _ {n s t : ℕ} {ts hs ws outs ins nexts overall : List ℕ} (P : Problem
 
           pub same-found : j ≤ M → take j (put-in M place entry E) ≡ take j E
           same-found room = ranked-kept T M place entry (at .lower) (at .upper) room (fits-new c (f .member .path))
+
+          -- where it falls out at once
+          pub settled-out : place ≡ M → length E ≤ M → (limit : ℕ) → Settled n g s t M limit E j β E
+          settled-out z h limit = subst (λ l. Settled n g s t M limit E j β l) (ap (λ k. put-in M k entry E) z ∙ put-in-full M entry E (omega (arith, at .upper))) (settled-found limit)
+
+-- an entry was put into the workspace
+module _ {n M : ℕ} {g : Graph} {s j : ℕ} {place count count′ : ℕ} {e : Entry} {w w′ : List ℕ} (I : Inserted n M place e w count w′ count′) where
+  pub changed-put : Entered n g s (put-in M place e (entries n w count)) j → take j (put-in M place e (entries n w count)) ≡ take j (entries n w count) → Changed n M g s j w count w′ count′
+  changed-put T same = record { kept = I .kept; entered = rw (I .all) T; ranked-same = ap (take j) (I .all) ∙ same; beyond = I .beyond }
+
+  pub settled-put : {t limit : ℕ} {β : Branch} → Settled n g s t M limit (entries n w count) j β (put-in M place e (entries n w count)) → Settled n g s t M limit (entries n w count) j β (entries n w′ count′)
+  settled-put S = rw (I .all) S
