@@ -15,3 +15,4 @@ pub mod PutLaws
 pub mod StateLaws
 pub mod EnterLaws
 pub mod AllLaws
+pub mod DeviateLaws

@@ -5,7 +5,7 @@ use mathlib.Core.Bool.{Bool, true, false}
 use mathlib.Core.List.{List, [], _∷_}
 use lib.ListN.{length, take, drop, getD}
 use Rattle.terms.specs.Network.{Graph}
-use Rattle.terms.specs.Paths.{Route, Path, cost}
+use Rattle.terms.specs.Paths.{Loopless, Path, cost}
 use Rattle.terms.specs.Ranking.{ranked}
 use Rattle.labels.specs.Arcs.{graph}
 use Rattle.candidates.specs.Slots.{Entry, none, entries}
@@ -76,3 +76,37 @@ pub record Settled (n : ℕ) (g : Graph) (s t M limit : ℕ) (E : List Entry) (j
 pub data TooDear (M count : ℕ) (E : List Entry) (bound : ℕ) : Bool → Type 0 where
   dear : count ≡ M → getD E (count - 1) none .cost < bound → TooDear M count E bound true
   cheap : TooDear M count E bound false
+
+-- ---- the branches along the path at place r
+-- its first d nodes are laid out and flagged, and cost `before`; no node is barred
+pub record Along (n : ℕ) (g : Graph) (s t : ℕ) (E : List Entry) (r : ℕ) (used bars path : List ℕ) (d before : ℕ) : Type 0 where
+  pub laid : Laid (n + 1) used path d
+  pub none-barred : Flagged bars []
+  pub bars-long : length bars ≡ n + 1
+  pub inside : r < length E
+  pub is-path : Path g s t (getD (routes s E) r [])
+  pub same : take d path ≡ take d (getD (routes s E) r [])
+  -- not before the nodes that it takes over
+  pub lower : getD E r none .shared ≤ d
+  pub upper : d ≤ size (getD E r none)
+  pub costs : before ≡ cost g (take d path)
+  pub small : before ≤ longest
+
+-- all that waited has been looked into
+pub record Emptied (n : ℕ) (g : Graph) (s t M limit : ℕ) (E : List Entry) (j : ℕ) (waiting : List Branch) (E′ : List Entry) : Type 0 where
+  pub goes-on : Searching n g s t M limit E j waiting → Searching n g s t M limit E′ j []
+
+-- nodes that can be laid out and flagged
+pub record Markable (k : ℕ) (used path : List ℕ) (len : ℕ) : Type 0 where
+  pub upto : len ≤ length path
+  pub room : k ≤ length path + 1
+  pub flags-long : length used ≡ k
+  pub none-used : (x : ℕ) → getD used x 0 ≡ 0
+  pub nodes : (i : ℕ) → i < len → (1 ≤ getD path i 0) × (getD path i 0 < k)
+  pub loopless : Loopless (take len path)
+
+-- the path at place j is the next to be ranked
+pub record Due (n : ℕ) (g : Graph) (s t M limit : ℕ) (E : List Entry) (j : ℕ) : Type 0 where
+  pub inside : j < length E
+  pub cheap : getD E j none .cost < limit
+  pub search : Searching n g s t M limit E j []

@@ -6,6 +6,7 @@ mod all;
 mod exits;
 mod first;
 mod outs;
+mod splitting;
 mod walk;
 
 pub use all::shortest;
