@@ -16,3 +16,4 @@ pub mod StateLaws
 pub mod EnterLaws
 pub mod AllLaws
 pub mod DeviateLaws
+pub mod BackLaws

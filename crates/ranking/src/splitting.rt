@@ -2,7 +2,7 @@
 // of its nodes from those on that it takes over, and these are looked into.
 ghost use mathlib.Core.Path.{_≡_};
 ghost use mathlib.Core.Bool.{true};
-ghost use mathlib.Core.List.{List};
+ghost use mathlib.Core.List.{List, []};
 ghost use Prim.Native.Nat.{ℕ, _+_, _-_, _≤_, _<_};
 ghost use lib.ListN.{length, getD};
 ghost use Rattle.terms.specs.Network.{linked, weight};
@@ -136,5 +136,153 @@ fn deviate(
         before,
     );
     set_bars(work, n, rank, d, barred, 0);
+    now
+}
+
+// All parts, from the path's end backwards. The path has len nodes, of which it takes over `shared`, and
+// costs `cost`; all of it is laid out and flagged.
+fn deviations(
+    tails: &[u16],
+    heads: &[u16],
+    weights: &[u32],
+    first_out: &[u16],
+    first_in: &[u16],
+    next_in: &[u16],
+    start: u16,
+    goal: usize,
+    overall: &[u64],
+    used: &mut [u8],
+    barred: &mut [u8],
+    path: &mut [u16],
+    dirty: &mut [u8],
+    queue: &mut [u16],
+    labels: &mut [u64],
+    scratch: &mut [u16],
+    work: &mut [u32],
+    n: usize,
+    slots: usize,
+    count: usize,
+    limit: u64,
+    rank: usize,
+    shared: usize,
+    len: usize,
+    cost: u64,
+) -> usize
+    requires { ⌜ Problem n start goal (now tails) (now heads) (now weights) (now «first_out») (now «first_in») (now «next_in») (now overall) ⌝ }
+    requires { ⌜ Desk n (now dirty) (now queue) (now labels) (now scratch) ⌝ }
+    requires { ⌜ Filled n slots (graph (now tails) (now heads) (now weights)) start (rank + 1) (now work) count ⌝ }
+    requires { ⌜ Along n (graph (now tails) (now heads) (now weights)) start goal (entries n (now work) count) rank (now used) (now barred) (now path) len cost ⌝ }
+    requires { ⌜ shared ≡ getD (entries n (now work) count) rank none .shared ⌝ }
+    ensures { λ _. ⌜ Laid (n + 1) (now (used .exit)) (now (path .exit)) shared ⌝ }
+    ensures { λ _. ⌜ now (barred .exit) ≡ now (barred .entry) ⌝ }
+    ensures { λ r. ⌜ Changed n slots (graph (now (tails .entry)) (now (heads .entry)) (now (weights .entry))) start (rank + 1) (now (work .entry)) count (now (work .exit)) r ⌝ }
+    ensures { λ r. ⌜ Emptied n (graph (now (tails .entry)) (now (heads .entry)) (now (weights .entry))) start goal slots limit (entries n (now (work .entry)) count) (rank + 1) (waiting-to start (entries n (now (work .entry)) count) rank len) (entries n (now (work .exit)) r) ⌝ }
+{
+    let mut now = count;
+    let mut d = len;
+    let mut before = cost;
+    while shared < d {
+        d -= 1;
+        before -= step_back(heads, weights, first_out, used, path, d);
+        now = deviate(
+            tails,
+            heads,
+            weights,
+            first_out,
+            first_in,
+            next_in,
+            start,
+            goal,
+            overall,
+            used,
+            barred,
+            path,
+            dirty,
+            queue,
+            labels,
+            scratch,
+            work,
+            n,
+            slots,
+            now,
+            limit,
+            rank,
+            d,
+            before,
+        );
+    }
+    now
+}
+
+// Ranks the path at the place `rank`, which is the next, and costs less than `limit`: the first paths of
+// the parts of its branch are put in their places, but for those that cost `limit` at least. Returns
+// how many entries there are then. No node is flagged, before and after.
+pub fn split(
+    tails: &[u16],
+    heads: &[u16],
+    weights: &[u32],
+    first_out: &[u16],
+    first_in: &[u16],
+    next_in: &[u16],
+    start: u16,
+    goal: usize,
+    overall: &[u64],
+    used: &mut [u8],
+    barred: &mut [u8],
+    path: &mut [u16],
+    dirty: &mut [u8],
+    queue: &mut [u16],
+    labels: &mut [u64],
+    scratch: &mut [u16],
+    work: &mut [u32],
+    n: usize,
+    slots: usize,
+    count: usize,
+    limit: u64,
+    rank: usize,
+) -> usize
+    requires { ⌜ Problem n start goal (now tails) (now heads) (now weights) (now «first_out») (now «first_in») (now «next_in») (now overall) ⌝ }
+    requires { ⌜ Desk n (now dirty) (now queue) (now labels) (now scratch) ⌝ }
+    requires { ⌜ Filled n slots (graph (now tails) (now heads) (now weights)) start rank (now work) count ⌝ }
+    requires { ⌜ Idle (n + 1) (now used) (now barred) × (length (now used) ≡ n + 1) × (n ≤ length (now path)) ⌝ }
+    requires { ⌜ Due n (graph (now tails) (now heads) (now weights)) start goal slots limit (entries n (now work) count) rank ⌝ }
+    ensures { λ _. ⌜ now (used .exit) ≡ now (used .entry) ⌝ }
+    ensures { λ _. ⌜ now (barred .exit) ≡ now (barred .entry) ⌝ }
+    ensures { λ r. ⌜ Changed n slots (graph (now (tails .entry)) (now (heads .entry)) (now (weights .entry))) start (rank + 1) (now (work .entry)) count (now (work .exit)) r ⌝ }
+    ensures { λ r. ⌜ Searching n (graph (now (tails .entry)) (now (heads .entry)) (now (weights .entry))) start goal slots limit (entries n (now (work .exit)) r) (rank + 1) [] ⌝ }
+{
+    let shared = shared_at(work, n, rank);
+    let len = shared + tail_length_at(work, n, rank);
+    lay_out(work, n, rank, len, start, path);
+    mark(path, len, used);
+    let cost = cost_at(work, n, rank);
+    let now = deviations(
+        tails,
+        heads,
+        weights,
+        first_out,
+        first_in,
+        next_in,
+        start,
+        goal,
+        overall,
+        used,
+        barred,
+        path,
+        dirty,
+        queue,
+        labels,
+        scratch,
+        work,
+        n,
+        slots,
+        count,
+        limit,
+        rank,
+        shared,
+        len,
+        cost,
+    );
+    unmark(path, 0, shared, used);
     now
 }
