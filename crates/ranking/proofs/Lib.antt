@@ -17,3 +17,4 @@ pub mod EnterLaws
 pub mod AllLaws
 pub mod DeviateLaws
 pub mod BackLaws
+pub mod DueLaws

@@ -13,7 +13,7 @@ use lib.Seq.{take-suc, drop-cons, getD-take, getD-drop, getD-append-add, drop-at
 use borrow.Author.Tests.{eqb-true, eqb-false, eq-eqb, ne-eqb}
 use Rattle.terms.specs.Lists.{_∈_}
 use Rattle.terms.specs.Network.{Graph}
-use Rattle.terms.specs.Paths.{Route, cost}
+use Rattle.terms.specs.Paths.{Route, Path, cost}
 use Rattle.terms.specs.Ranking.{before, by-first, lex}
 use Rattle.terms.proofs.ListLaws.{split}
 use Rattle.terms.proofs.PathLaws.{Within}
@@ -209,6 +209,10 @@ module _ {n : ℕ} {g : Graph} {s t M limit : ℕ} {E : List Entry} {j : ℕ} (w
 
     in-front : Search n g s t M (Beyond g limit) (take j (routes s E)) (candidate s E top ∷ candidates-from s E (j + 1)) []
     in-front = subst (λ l. Search n g s t M (Beyond g limit) (take j (routes s E)) l []) candidates-next P
+
+    pub next-is-path : Path g s t (getD (routes s E) j [])
+    unfolding candidate
+    next-is-path = subst (Path g s t) (sym (entry-route T j b)) (in-front .member (candidate s E top) (List·Memᴰ·head refl) .path)
 
     -- the first candidate is ranked, and the parts of its branch wait
     pub search-rank : top .cost < limit → Searching n g s t M limit E (j + 1) (reverseAux (parts-of s E j) [])
