@@ -25,7 +25,7 @@ use Rattle.ranking.proofs.FlagLaws.{flags-same}
 use Rattle.ranking.proofs.StateLaws.{entry-cost, entered-rank, next-is-path, search-rank, waiting-all}
 
 -- no flag is set
-flags-none : {flags : List ℕ} → ((x : ℕ) → getD flags x 0 ≡ 0) → Flagged flags []
+pub flags-none : {flags : List ℕ} → ((x : ℕ) → getD flags x 0 ≡ 0) → Flagged flags []
 flags-none h = record { inside = λ x m. elim m [ ]; outside = λ x e. h x }
 
 -- with no node laid out the flags are as they were when none was set

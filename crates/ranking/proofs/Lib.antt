@@ -18,3 +18,4 @@ pub mod AllLaws
 pub mod DeviateLaws
 pub mod BackLaws
 pub mod DueLaws
+pub mod RankedLaws

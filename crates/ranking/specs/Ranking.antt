@@ -8,13 +8,14 @@ use Rattle.terms.specs.Network.{Graph}
 use Rattle.terms.specs.Paths.{Loopless, Path, cost}
 use Rattle.terms.specs.Ranking.{ranked}
 use Rattle.labels.specs.Arcs.{graph}
+use Rattle.labels.specs.Labels.{far}
 use Rattle.candidates.specs.Slots.{Entry, none, entries}
 use Rattle.candidates.specs.Keeping.{Kept}
 use Rattle.candidates.specs.Routes.{beginning, routes, size, Fits}
 use Rattle.candidates.specs.Bars.{barred}
 use Rattle.ranking.specs.Branches.{Branch, Beginning}
 use Rattle.ranking.specs.Flags.{Flagged}
-use Rattle.ranking.specs.Found.{Room, Begun}
+use Rattle.ranking.specs.Found.{Room, Begun, Idle}
 use Rattle.ranking.specs.Laid.{Laid}
 use Rattle.ranking.specs.Star.{Network, Small, longest}
 use Rattle.ranking.specs.State.{Entered, Searching, taking-over}
@@ -110,3 +111,34 @@ pub record Due (n : ℕ) (g : Graph) (s t M limit : ℕ) (E : List Entry) (j : �
   pub inside : j < length E
   pub cheap : getD E j none .cost < limit
   pub search : Searching n g s t M limit E j []
+
+-- ---- the ranked list
+-- room for M slots
+pub record Space (n M : ℕ) (w : List ℕ) : Type 0 where
+  pub some : 1 ≤ M
+  pub few : M ≤ 257
+  pub room : M * (n + 16) ≤ length w
+
+-- the places for nodes, in which nothing is flagged
+pub record Blank (n : ℕ) (used bars path : List ℕ) : Type 0 where
+  pub idle : Idle (n + 1) used bars
+  pub used-long : length used ≡ n + 1
+  pub path-long : n ≤ length path
+
+-- the search has begun: nothing is ranked, and the first path of all, if there is one, is the candidate
+pub record Begins (n M : ℕ) (g : Graph) (s t : ℕ) (w w′ : List ℕ) (count′ : ℕ) : Type 0 where
+  pub filled : Filled n M g s 0 w′ count′
+  pub search : Searching n g s t M far (entries n w′ count′) 0 []
+  pub beyond : drop (M * (n + 16)) w′ ≡ drop (M * (n + 16)) w
+
+-- j paths are ranked: no branch is waiting, or no more paths are wanted
+pub data Stage (n : ℕ) (g : Graph) (s t M : ℕ) (E : List Entry) (j : ℕ) : Type 0 where
+  going : Searching n g s t M far E j [] → Stage n g s t M E j
+  full : j ≡ M → (waiting : List Branch) → Searching n g s t M far E j waiting → Stage n g s t M E j
+
+-- the entries are the first M paths, or all, in the ranking order, with their costs
+pub record Ranked (n M : ℕ) (g : Graph) (s t : ℕ) (w w′ : List ℕ) (count′ : ℕ) : Type 0 where
+  pub kept : Kept n M w′ count′
+  pub entered : Entered n g s (entries n w′ count′) count′
+  pub paths : routes s (entries n w′ count′) ≡ take M (ranked n g s t)
+  pub beyond : drop (M * (n + 16)) w′ ≡ drop (M * (n + 16)) w

@@ -6,6 +6,7 @@ mod all;
 mod exits;
 mod first;
 mod outs;
+mod ranking;
 mod splitting;
 mod walk;
 
@@ -15,3 +16,6 @@ pub use exits::least_exit;
 pub use first::Found;
 pub use first::first_path;
 pub use outs::star;
+pub use ranking::begin;
+pub use ranking::rank_paths;
+pub use splitting::split;

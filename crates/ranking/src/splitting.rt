@@ -9,9 +9,8 @@ ghost use Rattle.terms.specs.Network.{linked, weight};
 ghost use Rattle.labels.specs.Arcs.{graph, Arcs};
 ghost use Rattle.candidates.specs.Slots.{entries, none};
 ghost use Rattle.candidates.specs.Routes.{size};
-ghost use Rattle.ranking.specs.Found.{Idle};
 ghost use Rattle.ranking.specs.Laid.{Laid};
-ghost use Rattle.ranking.specs.Ranking.{Problem, Desk, Filled, Restored, Changed, Settled, Along, Emptied, Markable, Due};
+ghost use Rattle.ranking.specs.Ranking.{Problem, Desk, Filled, Restored, Changed, Settled, Along, Emptied, Markable, Due, Blank};
 ghost use Rattle.ranking.specs.Star.{Star, Heads, Starts};
 ghost use Rattle.ranking.specs.State.{Searching, branch-of, taking-over, waiting-to};
 use crate::branches::consider;
@@ -244,7 +243,7 @@ pub fn split(
     requires { ⌜ Problem n start goal (now tails) (now heads) (now weights) (now «first_out») (now «first_in») (now «next_in») (now overall) ⌝ }
     requires { ⌜ Desk n (now dirty) (now queue) (now labels) (now scratch) ⌝ }
     requires { ⌜ Filled n slots (graph (now tails) (now heads) (now weights)) start rank (now work) count ⌝ }
-    requires { ⌜ Idle (n + 1) (now used) (now barred) × (length (now used) ≡ n + 1) × (n ≤ length (now path)) ⌝ }
+    requires { ⌜ Blank n (now used) (now barred) (now path) ⌝ }
     requires { ⌜ Due n (graph (now tails) (now heads) (now weights)) start goal slots limit (entries n (now work) count) rank ⌝ }
     ensures { λ _. ⌜ now (used .exit) ≡ now (used .entry) ⌝ }
     ensures { λ _. ⌜ now (barred .exit) ≡ now (barred .entry) ⌝ }

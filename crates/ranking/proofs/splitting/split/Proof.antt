@@ -67,10 +67,10 @@ filled : (s : tie.Start) → Filled (s .args .n) (s .args .slots) (net s) (s .ar
 filled s = s .pre .1 .1 .0
 
 idle : (s : tie.Start) → Idle (s .args .n + 1) (s .args .used .now) (s .args .barred .now)
-idle s = s .pre .1 .1 .1 .0 .0
+idle s = s .pre .1 .1 .1 .0 .idle
 
 used-long : (s : tie.Start) → length (s .args .used .now) ≡ s .args .n + 1
-used-long s = s .pre .1 .1 .1 .0 .1
+used-long s = s .pre .1 .1 .1 .0 .used-long
 
 due : (s : tie.Start) → Due (s .args .n) (net s) (s .args .start) (s .args .goal) (s .args .slots) (s .args .limit) (kept-entries s) (s .args .rank)
 due s = s .pre .1 .1 .1 .1
@@ -126,14 +126,14 @@ lay-out-requires c κs = let x = c .before .before in
     let P = problem s in
     let F = filled s in
     let Q = due s in
-    (due-rooted P F Q, rw (due-entry P F Q) (omega (arith, total-is x, due-some P F Q), omega (arith, total-is x), omega (arith, total-is x, due-short P F Q, s .pre .1 .1 .1 .0 .2)))
+    (due-rooted P F Q, rw (due-entry P F Q) (omega (arith, total-is x, due-some P F Q), omega (arith, total-is x), omega (arith, total-is x, due-short P F Q, s .pre .1 .1 .1 .0 .path-long)))
 
 -- src/splitting.rt:257:5
 mark-requires : tie.Need-mark-requires
 mark-requires c κs = let o = c .before .before .before .before in
     let x = measured o in
     let s = entry (first x) in
-    rw (used-long s) (due-markable (problem s) (filled s) (due s) (total x) (s .args .path .now) (route o) (total-is x) (o .lay-out .ensures) (idle s) (used-long s) (omega (arith, o .lay-out .kept .1 .1 .1 .1 .1 .0, s .pre .1 .1 .1 .0 .2)))
+    rw (used-long s) (due-markable (problem s) (filled s) (due s) (total x) (s .args .path .now) (route o) (total-is x) (o .lay-out .ensures) (idle s) (used-long s) (omega (arith, o .lay-out .kept .1 .1 .1 .1 .1 .0, s .pre .1 .1 .1 .0 .path-long)))
 
 -- src/splitting.rt:258:9
 cost-at-requires : tie.Need-cost-at-requires
