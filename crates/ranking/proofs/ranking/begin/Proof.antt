@@ -1,3 +1,16 @@
+use Prim.Native.Nat.{ℕ, _+_, _-_, _*_, _≤_, _<_}
+use native.Mathlib.Omega.{arith}
+use mathlib.Core.Path.{_≡_, refl, sym, _∙_, ap, subst}
+use mathlib.Core.List.{List, []}
+use lib.ListN.{length, take, drop, getD, set, length-set}
+use Rattle.terms.specs.Network.{Graph}
+use Rattle.labels.specs.Arcs.{graph}
+use Rattle.labels.specs.Labels.{far}
+use Rattle.candidates.specs.Slots.{Entry, entries}
+use Rattle.candidates.proofs.EntryLaws.{length-entries}
+use Rattle.ranking.specs.Ranking.{Problem, Desk, Filled, Space, Blank, Stage, Ranked}
+use Rattle.ranking.specs.State.{Searching}
+use Rattle.ranking.proofs.RankedLaws.{filled-none, first-deviation, first-cleared, begun}
 use borrow.Author.Needs.{needs}
 use Rattle.ranking.proofs.ranking.begin.Statement.{statement}
 use Rattle.ranking.proofs.ranking.begin.Tie as tie
@@ -5,6 +18,28 @@ use Rattle.ranking.proofs.ranking.begin.Reads as reads
 use Rattle.ranking.proofs.ranking.begin.Lts as lts
 use Rattle.candidates.proofs.reset.Reads as reset-reads
 use Rattle.ranking.proofs.branches.consider.Reads as consider-reads
+
+-- the start of the function, and the calls
+abbrev start : tie.After-slice-known7 → tie.Start
+start c = c .before .before .before .before .before .before .before .before .before .before .before .before .before .before .before
+
+abbrev entry : tie.After-reset → tie.Start
+entry c = start (c .before .before)
+
+abbrev freed : tie.After-consider → tie.After-reset
+freed c = c .before .before .before .before .before .before .before .before .before .before
+
+abbrev looked : tie.After-slice-known15 → tie.After-consider
+looked c = c .before .before .before .before .before .before .before .before .before .before .before .before .before .before
+
+problem : (s : tie.Start) → Problem (s .args .n) (s .args .start) (s .args .goal) (s .args .tails .now) (s .args .heads .now) (s .args .weights .now) (s .args .first-out .now) (s .args .first-in .now) (s .args .next-in .now) (s .args .overall .now)
+problem s = s .pre .0
+
+space : (s : tie.Start) → Space (s .args .n) (s .args .slots) (s .args .work .now)
+space s = s .pre .1 .1 .0
+
+blank : (s : tie.Start) → Blank (s .args .n) (s .args .used .now) (s .args .barred .now) (s .args .path .now)
+blank s = s .pre .1 .1 .1
 
 -- src/ranking.rt:47:5
 reset-requires : tie.Need-reset-requires
@@ -20,19 +55,28 @@ slice-write-used c = search needs
 
 -- src/ranking.rt:50:9
 consider-requires : tie.Need-consider-requires
-consider-requires c κs = ?
+consider-requires c κs = let x = c .before .before .before .before .before .before .before .before .before in
+    let s = entry x in
+    let P = problem s in
+    (P, (s .pre .1 .0, (filled-none P (space s) (x .reset .ensures .0), first-deviation P (blank s) (x .reset .last .0))))
 
 -- src/ranking.rt:77:5
 slice-write-used-2 : tie.Need-slice-write-used-2
-slice-write-used-2 c = ?
+slice-write-used-2 c = let x = looked c in
+    let s = entry (freed x) in
+    omega (arith, x .consider .kept .1 .1 .1 .1 .1 .1 .1 .1 .1 .0, length-set (s .args .used .now) (s .args .start) 1, blank s .used-long, problem s .start-to)
 
 -- src/ranking.rt:18:1
 same-length : tie.Need-same-length
-same-length c = ?
+same-length c = let x = looked c in
+    let s = entry (freed x) in
+    omega (arith, x .consider .kept .1 .1 .1 .1 .1 .1 .1 .1 .1 .0, length-set (s .args .used .now) (s .args .start) 1, length-set (x .consider .last .1 .1 .1 .1 .1 .1 .1 .1 .1 .0) (s .args .start) 0)
 
 -- src/ranking.rt:18:1
 same-length-2 : tie.Need-same-length-2
-same-length-2 c = ?
+same-length-2 c = let x = looked c in
+    let s = entry (freed x) in
+    omega (arith, x .consider .kept .1 .1 .1 .1 .1 .1 .1 .1 .1 .1 .1 .0, length-set (s .args .path .now) 0 (s .args .start))
 
 -- src/ranking.rt:18:1
 same-length-3 : tie.Need-same-length-3
@@ -56,7 +100,11 @@ same-length-7 c = search needs
 
 -- src/ranking.rt:18:1
 returns : tie.Need-returns
-returns c = ?
+returns c = let x = looked c in
+    let y = freed x in
+    let s = entry y in
+    let E = x .consider .ensures in
+    (first-cleared (problem s) (blank s) (E .0 .flags), begun (problem s) (space s) (y .reset .ensures .0) (y .reset .ensures .1) (E .1 .0) (E .1 .1))
 
 pub begin-spec : {M : Type 1} → statement M
 begin-spec =
