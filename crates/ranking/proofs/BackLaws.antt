@@ -2,19 +2,17 @@
 -- it after fewer and fewer nodes are looked into. Assumes nothing.
 use Prim.Native.Nat.{ℕ, zero, suc, _+_, _-_, _≤_, _<_}
 use native.Mathlib.Omega.{arith}
-use native.Mathlib.Numerals.{add-one}
-use mathlib.Core.Path.{_≡_, refl, sym, _∙_, ap, ap₂, subst, subst₂}
-use mathlib.Core.Bool.{true, false}
+use mathlib.Core.Path.{_≡_, refl, sym, _∙_, ap, ap₂, subst}
+use mathlib.Core.Bool.{true}
 use mathlib.Core.List.{List, [], _∷_, _++_}
-use lib.ListN.{length, take, drop, getD}
+use lib.ListN.{length, take, getD}
 use lib.Seq.{append-snoc, take-take, getD-take}
 use Rattle.terms.specs.Network.{Graph, linked, weight}
-use Rattle.terms.specs.Paths.{Route, ByArcs, single, along, Path, cost, cost-from}
+use Rattle.terms.specs.Paths.{Route, ByArcs, single, along, cost, cost-from}
 use Rattle.terms.proofs.PrefixLaws.{cost-append}
 use Rattle.candidates.specs.Slots.{Entry, none, entries}
 use Rattle.candidates.specs.Routes.{routes, size}
 use Rattle.candidates.proofs.FamilyLaws.{route-length}
-use Rattle.ranking.specs.Branches.{Branch}
 use Rattle.ranking.specs.Laid.{Laid}
 use Rattle.ranking.specs.Ranking.{Filled, Restored, Changed, Settled, Along, Emptied}
 use Rattle.ranking.specs.State.{branch-of, Entered, Searching, taking-over, waiting-to}

@@ -1,32 +1,30 @@
 -- The branches along a path that is ranked: the arcs of the path, the flags, the barred nodes, and the part that leaves it after d
 -- nodes. Assumes nothing.
-use Prim.Native.Nat.{ℕ, zero, suc, _+_, _-_, _≤_, _<_}
+use Prim.Native.Nat.{ℕ, _+_, _≤_, _<_}
 use native.Mathlib.Omega.{arith}
-use mathlib.Core.Path.{_≡_, refl, sym, _∙_, ap, ap₂, subst}
+use mathlib.Core.Path.{_≡_, refl, sym, _∙_, ap, subst}
 use mathlib.Core.Bool.{true, false}
 use mathlib.Core.Logic.{⊎-elim}
 use mathlib.Core.List.{List, [], _∷_, _++_}
-use lib.ListN.{length, take, drop, getD, set, length-take, length-set}
-use lib.Seq.{take-take, getD-take, set-getD, take-set-le, ext-getD}
+use lib.ListN.{length, take, getD, set}
+use lib.Seq.{take-take, getD-take, set-getD, ext-getD}
 use Rattle.terms.specs.Lists.{_∈_, elem}
 use Rattle.terms.specs.Network.{Graph, linked, weight}
-use Rattle.terms.specs.Paths.{Route, Loopless, Path, cost}
+use Rattle.terms.specs.Paths.{Loopless}
 use Rattle.terms.proofs.ListLaws.{split, elem-mem}
 use Rattle.labels.specs.Arcs.{graph, Arcs}
 use Rattle.labels.proofs.ArcLaws.{At, linked-at, at-weight, tail-within}
 use Rattle.candidates.specs.Slots.{Entry, none, entry-at, entries}
-use Rattle.candidates.specs.Keeping.{Kept}
-use Rattle.candidates.specs.Routes.{beginning, routes, size, Fits, Rooted}
+use Rattle.candidates.specs.Routes.{routes, size, Fits, Rooted}
 use Rattle.candidates.specs.Bars.{bars, barred, marked}
 use Rattle.candidates.proofs.EntryLaws.{kept-readable, length-entries, entries-at, entries-take}
 use Rattle.candidates.proofs.RouteLaws.{beginning-parent}
 use Rattle.candidates.proofs.FamilyLaws.{route-length}
 use Rattle.candidates.proofs.RootedLaws.{family-rooted}
 use Rattle.candidates.proofs.BarLaws.{bars-take, bars-nodes, barred-child, length-marked, marked-outside, marked-inside}
-use Rattle.ranking.specs.Branches.{Beginning}
 use Rattle.ranking.specs.Flags.{Flagged, Fresh}
 use Rattle.ranking.specs.Laid.{Laid}
-use Rattle.ranking.specs.Ranking.{Problem, Filled, Deviation, Changed, Along, Markable}
+use Rattle.ranking.specs.Ranking.{Filled, Deviation, Changed, Along, Markable}
 use Rattle.ranking.specs.Star.{Star}
 use Rattle.ranking.specs.State.{taking-over}
 use Rattle.ranking.proofs.BranchLaws.{loopless-take, beginning-path}

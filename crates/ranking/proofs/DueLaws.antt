@@ -1,11 +1,11 @@
 -- The next path to be ranked: it is laid out and flagged, and the parts of its branch wait. Assumes nothing.
-use Prim.Native.Nat.{ℕ, _+_, _-_, _≤_, _<_}
+use Prim.Native.Nat.{ℕ, _+_, _≤_, _<_}
 use native.Mathlib.Omega.{arith}
-use mathlib.Core.Path.{_≡_, refl, sym, _∙_, ap, subst}
+use mathlib.Core.Path.{_≡_, sym, _∙_, ap, subst}
 use mathlib.Core.List.{List, [], _++_}
-use lib.ListN.{length, take, drop, getD, length-append, length-take, length-drop}
+use lib.ListN.{length, take, drop, getD}
 use lib.Seq.{take-at, take-all, getD-take}
-use Rattle.terms.specs.Lists.{_∈_, elem}
+use Rattle.terms.specs.Lists.{_∈_}
 use Rattle.terms.specs.Paths.{Route, Loopless, Path, cost}
 use Rattle.terms.proofs.ListLaws.{getD-mem}
 use Rattle.labels.specs.Arcs.{graph}
@@ -20,7 +20,7 @@ use Rattle.ranking.specs.Found.{Idle}
 use Rattle.ranking.specs.Laid.{Laid}
 use Rattle.ranking.specs.Ranking.{Problem, Filled, Along, Markable, Due}
 use Rattle.ranking.specs.State.{Searching, waiting-to}
-use Rattle.ranking.proofs.EnterLaws.{problem-within, path-short, path-nodes, path-small}
+use Rattle.ranking.proofs.EnterLaws.{problem-within, path-nodes, path-small}
 use Rattle.ranking.proofs.FlagLaws.{flags-same}
 use Rattle.ranking.proofs.StateLaws.{entry-cost, entered-rank, next-is-path, search-rank, waiting-all}
 

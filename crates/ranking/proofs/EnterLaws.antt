@@ -1,11 +1,11 @@
 -- One branch is looked into: its first path is put in its place, or it is left out. Assumes nothing.
-use Prim.Native.Nat.{ℕ, suc, _+_, _-_, _*_, _≤_, _<_, min}
+use Prim.Native.Nat.{ℕ, _+_, _-_, _≤_, _<_}
 use native.Mathlib.Omega.{arith}
-use mathlib.Core.Path.{_≡_, refl, sym, _∙_, ap, ap₂, subst, subst₂}
-use mathlib.Core.Bool.{Bool, true, false}
+use mathlib.Core.Path.{_≡_, refl, sym, _∙_, ap, subst, subst₂}
+use mathlib.Core.Bool.{Bool, true}
 use mathlib.Core.Logic.{⊎-elim}
 use mathlib.Core.List.{List, [], _∷_, _++_, tail, List·Memᴰ·cases-cons}
-use lib.ListN.{length, take, drop, getD, length-append, length-take, length-drop, take-append-drop}
+use lib.ListN.{length, take, drop, getD, length-take, length-drop}
 use lib.Seq.{take-take, take-all, take-add, take-append-le, getD-take, getD-drop}
 use Rattle.terms.specs.Network.{Graph}
 use Rattle.terms.specs.Lists.{_∈_, elem}
@@ -16,8 +16,8 @@ use Rattle.terms.proofs.RankingLaws.{NoLater}
 use Rattle.labels.specs.Arcs.{graph, heaviest, Arcs}
 use Rattle.labels.proofs.ArcLaws.{linked-at, at-weight, graph-within, later-within, path-cost-le}
 use Rattle.candidates.specs.Slots.{Entry, none, entries}
-use Rattle.candidates.specs.Keeping.{Kept, inserted, put-in, Inserted}
-use Rattle.candidates.specs.Routes.{beginning, route, routes, size, Fits}
+use Rattle.candidates.specs.Keeping.{inserted, put-in, Inserted}
+use Rattle.candidates.specs.Routes.{beginning, route, routes, Fits}
 use Rattle.candidates.specs.Bars.{barred}
 use Rattle.candidates.specs.Placing.{Placed}
 use Rattle.ranking.specs.Branches.{Branch, branch, In, First}
@@ -26,7 +26,7 @@ use Rattle.ranking.specs.Found.{Ahead, Extent, FirstFound}
 use Rattle.ranking.specs.Pool.{Candidate}
 use Rattle.ranking.specs.Ranking.{Problem, Filled, Deviation, Changed, Settled, TooDear}
 use Rattle.ranking.specs.Star.{longest}
-use Rattle.ranking.specs.State.{branch-of, candidate, candidates-from, Beyond, Entered, Searching, taking-over}
+use Rattle.ranking.specs.State.{branch-of, Beyond, Entered, Searching, taking-over}
 use Rattle.ranking.specs.Walks.{Consistent, Exit, Choice}
 use Rattle.ranking.specs.declared.first.Found.{Found}
 use Rattle.ranking.specs.declared.first.Found.the-variants.{Tail, Empty}

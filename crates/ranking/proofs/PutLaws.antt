@@ -5,18 +5,18 @@ use native.Mathlib.Omega.{arith}
 use native.Mathlib.Nat.{eq-or-lt-of-le}
 use mathlib.Core.Path.{_≡_, refl, sym, _∙_, ap, subst}
 use mathlib.Core.Bool.{true, false}
-use mathlib.Core.Logic.{_≢_, _⊎_, inl, inr, ⊎-elim}
-use mathlib.Core.List.{List, [], _∷_, _++_, map, map-append, List·Memᴰ·head, List·Memᴰ·cases-cons}
+use mathlib.Core.Logic.{_≢_, _⊎_, ⊎-elim}
+use mathlib.Core.List.{List, [], _∷_, _++_, map, map-append}
 use lib.ListN.{length, take, drop, getD, length-take, length-drop, length-map, take-append-drop, List·getD-map}
-use lib.Seq.{take-nil, take-length, take-take, drop-append-le, drop-drop, getD-take, getD-drop}
+use lib.Seq.{take-nil, take-length, take-take, drop-append-le, drop-drop, getD-drop}
 use Rattle.terms.specs.Lists.{_∈_}
 use Rattle.terms.specs.Network.{Graph}
 use Rattle.terms.specs.Paths.{Route}
 use Rattle.terms.specs.Ranking.{before}
-use Rattle.terms.proofs.ListLaws.{le-or-lt, clash, mem-place, getD-mem}
+use Rattle.terms.proofs.ListLaws.{clash, mem-place, getD-mem}
 use Rattle.terms.proofs.RankingLaws.{Rising, none-left, first, before-trans, before-or-no-later}
 use Rattle.candidates.specs.Keeping.{inserted, put-in}
-use Rattle.candidates.proofs.InsertedLaws.{length-inserted, length-put, take-inserted, inserted-before, inserted-at, inserted-after}
+use Rattle.candidates.proofs.InsertedLaws.{take-inserted}
 use Rattle.ranking.specs.Branches.{Branch, branch}
 use Rattle.ranking.specs.Pool.{Candidate, routes, put}
 use Rattle.ranking.proofs.PoolLaws.{take-map, put-at}

@@ -1,23 +1,21 @@
 -- The ranked list: how the ranking begins, goes on and ends. Assumes nothing.
-use Prim.Native.Nat.{ℕ, _+_, _-_, _*_, _≤_, _<_}
+use Prim.Native.Nat.{ℕ, _+_, _*_, _≤_, _<_}
 use native.Mathlib.Omega.{arith}
 use mathlib.Core.Path.{_≡_, refl, sym, _∙_, ap, ap₂, subst}
-use mathlib.Core.Bool.{false}
-use mathlib.Core.Logic.{inl, inr, ⊎-elim}
+use mathlib.Core.Logic.{inl, inr}
 use mathlib.Core.List.{List, [], _∷_, map, reverseAux}
-use lib.ListN.{length, take, drop, getD, set, drop-of-length-le}
+use lib.ListN.{length, take, drop, set, drop-of-length-le}
 use lib.Seq.{take-all}
-use Rattle.terms.specs.Lists.{_∈_, numbers}
+use Rattle.terms.specs.Lists.{numbers}
 use Rattle.terms.specs.Network.{Graph}
-use Rattle.terms.specs.Paths.{Route, cost}
+use Rattle.terms.specs.Paths.{cost}
 use Rattle.terms.specs.Ranking.{ranked}
 use Rattle.terms.proofs.RankingLaws.{ranked-path}
 use Rattle.labels.specs.Arcs.{graph}
 use Rattle.labels.specs.Labels.{far}
-use Rattle.candidates.specs.Slots.{Entry, none, entries}
+use Rattle.candidates.specs.Slots.{Entry, entries}
 use Rattle.candidates.specs.Keeping.{Kept}
-use Rattle.candidates.specs.Routes.{routes, routes-onto, Fits, Family, ByRanked}
-use Rattle.candidates.specs.Bars.{barred}
+use Rattle.candidates.specs.Routes.{routes, routes-onto}
 use Rattle.candidates.proofs.EntryLaws.{length-entries}
 use Rattle.candidates.proofs.RouteLaws.{beginning-start, length-routes}
 use Rattle.candidates.proofs.BarLaws.{barred-start}
@@ -28,12 +26,12 @@ use Rattle.ranking.specs.Ranking.{Problem, Filled, Deviation, Changed, S
 use Rattle.ranking.specs.Search.{Search}
 use Rattle.ranking.specs.State.{branch-of, candidate, candidates-from, Beyond, Entered, Searching, parts-of, taking-over}
 use Rattle.ranking.proofs.AllLaws.{start-begun, start-path, start-cleared, cost-start}
-use Rattle.ranking.proofs.BranchLaws as branches
-use Rattle.ranking.proofs.DueLaws.{flags-none, due-filled, due-path}
-use Rattle.ranking.proofs.EnterLaws.{problem-arcs, problem-within, path-small}
+use Rattle.ranking.proofs.DueLaws.{flags-none}
+use Rattle.ranking.proofs.EnterLaws.{problem-within, path-small}
 use Rattle.ranking.proofs.PoolLaws.{lose}
-use Rattle.ranking.proofs.SearchLaws as search
 use Rattle.ranking.proofs.StateLaws.{entry-cost, entered-rank, next-is-path, search-rank, length-done}
+use Rattle.ranking.proofs.BranchLaws as branches
+use Rattle.ranking.proofs.SearchLaws as search
 
 -- with a smaller limit more paths need not be ranked
 pub search-less : (n : ℕ) {g : Graph} (s t : ℕ) {M limit : ℕ} (E : List Entry) (j : ℕ) {waiting : List Branch} (limit′ : ℕ) → limit′ ≤ limit → Searching n g s t M limit E j waiting → Searching n g s t M limit′ E j waiting

@@ -1,14 +1,14 @@
 -- The entries as ranked paths and candidates: what an entry that is put in, and a border that moves on, do to them. Assumes nothing.
-use Prim.Native.Nat.{ℕ, zero, suc, _+_, _-_, _≤_, _<_, min}
+use Prim.Native.Nat.{ℕ, zero, suc, _+_, _-_, _≤_, _<_}
 use native.Mathlib.Omega.{arith}
 use native.Mathlib.Nat.{eq-or-lt-of-le}
 use native.Mathlib.Numerals.{add-one}
 use mathlib.Core.Path.{_≡_, refl, sym, _∙_, ap, ap₂, subst, subst₂}
 use mathlib.Core.Bool.{Bool, true, false, cond}
-use mathlib.Core.Logic.{_≢_, inl, inr, ⊎-elim}
+use mathlib.Core.Logic.{inl, inr, ⊎-elim}
 use mathlib.Core.List.{List, [], _∷_, _++_, map, map-map, reverseAux, List·Memᴰ·head, Memᴰ·map}
 use lib.Dec.{eqb}
-use lib.ListN.{length, take, drop, getD, length-append, length-take, length-drop, length-map, List·getD-map}
+use lib.ListN.{length, take, drop, getD, length-take, length-drop, length-map, List·getD-map}
 use lib.Seq.{take-suc, drop-cons, getD-take, getD-drop, getD-append-add, drop-at, take-all}
 use borrow.Author.Tests.{eqb-true, eqb-false, eq-eqb, ne-eqb}
 use Rattle.terms.specs.Lists.{_∈_}
@@ -30,13 +30,13 @@ use Rattle.candidates.proofs.RouteLaws.{beginning-start, beginning-parent, leng
 use Rattle.ranking.specs.Branches.{Branch, branch, First}
 use Rattle.ranking.specs.Parts.{parts}
 use Rattle.ranking.specs.Pool.{Candidate, put}
-use Rattle.ranking.specs.Pool as pool
 use Rattle.ranking.specs.Search.{Search}
-use Rattle.ranking.specs.State.{branch-of, candidate, candidates-from, Entered, Beyond, Searching, State, parts-of, waiting-to, taking-over}
+use Rattle.ranking.specs.State.{branch-of, candidate, candidates-from, Entered, Beyond, Searching, parts-of, waiting-to, taking-over}
 use Rattle.ranking.proofs.PartLaws.{reverse-take}
 use Rattle.ranking.proofs.PutLaws.{rising-index, mem-index, map-same, drop-put-in, map-put-in, take-put-in, put-place}
 use Rattle.ranking.proofs.SearchLaws.{found, rank-first-back}
 use Rattle.ranking.proofs.SplitLaws.{splits-at, parts-length}
+use Rattle.ranking.specs.Pool as pool
 
 -- ---- the first p entries alone decide on an entry whose parent is among them
 module _ (s p : ℕ) (E E′ : List Entry) (same : take p E ≡ take p E′) where
@@ -146,7 +146,7 @@ module _ {n : ℕ} {g : Graph} {s : ℕ} {E : List Entry} {j : ℕ} (T : Entered
     candidates-put =
         map-same (candidate s E′) (candidate s E) (drop j E′) none
         (λ i b. candidate-same s j E′ E ranked-kept family-after (T .family) (omega (arith, length-put place e E high M, T .border)) (T .border) (getD (drop j E′) i none)
-            (rw (getD-drop j E′ i none) (by-ranked-after .ranked (j + i) (omega (arith, length-drop j E′)))))
+        (rw (getD-drop j E′ i none) (by-ranked-after .ranked (j + i) (omega (arith, length-drop j E′)))))
         ∙ ap (map (candidate s E)) (drop-put-in place e E M j low high) ∙ map-put-in (place - j) e (drop j E) (M - j) (candidate s E)
 
 -- ---- the search

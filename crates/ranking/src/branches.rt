@@ -73,7 +73,23 @@ fn enter(
     ensures { λ r. ⌜ ((limit : ℕ) → Settled n (graph (now (tails .entry)) (now (heads .entry)) (now (weights .entry))) start goal slots limit (entries n (now (work .entry)) count) from (branch-of start (entries n (now (work .entry)) count) (taking-over d parent)) (entries n (now (work .exit)) r)) ⌝ }
 {
     let Found::Tail(len, rest) = first_path(
-        tails, heads, weights, first_out, first_in, next_in, goal, overall, used, barred, path, d, y, l, dirty, queue, labels,
+        tails,
+        heads,
+        weights,
+        first_out,
+        first_in,
+        next_in,
+        goal,
+        overall,
+        used,
+        barred,
+        path,
+        d,
+        y,
+        l,
+        dirty,
+        queue,
+        labels,
     ) else {
         return count;
     };
@@ -82,7 +98,17 @@ fn enter(
     if place == slots {
         return count;
     }
-    insert(work, n, slots, count, place, cost, d as u32, parent as u32, &path[d..len])
+    insert(
+        work,
+        n,
+        slots,
+        count,
+        place,
+        cost,
+        d as u32,
+        parent as u32,
+        &path[d..len],
+    )
 }
 
 // The same, but a branch is left out that has no path, or whose paths cost `limit` at least, or more

@@ -1,8 +1,8 @@
 // The ranked list of paths: branches, the first path of each, and the candidates among these.
 // Arc i goes from tails[i] to heads[i] and costs weights[i]; the arcs rise by tail, then head, and
 // those out of v are at the indices from first_out[v] to below first_out[v + 1].
-mod branches;
 mod all;
+mod branches;
 mod exits;
 mod first;
 mod outs;

@@ -1,8 +1,9 @@
-use Prim.Native.Nat.{ℕ, _+_, _-_, _≤_, _<_}
+-- the start of the function, and the exit
+use Prim.Native.Nat.{_+_, _-_, _<_}
 use native.Mathlib.Omega.{arith}
-use mathlib.Core.Path.{_≡_, refl, sym, _∙_, ap}
+use mathlib.Core.Path.{refl, _∙_}
 use mathlib.Core.List.{List}
-use lib.ListN.{length, take, getD}
+use lib.ListN.{getD}
 use Rattle.terms.specs.Network.{Graph}
 use Rattle.labels.specs.Arcs.{graph}
 use Rattle.candidates.specs.Slots.{Entry, entries}
@@ -17,13 +18,7 @@ use Rattle.ranking.proofs.NetworkLaws.{network-heads, network-starts}
 use borrow.Author.Needs.{needs}
 use Rattle.ranking.proofs.branches.consider.Statement.{statement}
 use Rattle.ranking.proofs.branches.consider.Tie as tie
-use Rattle.ranking.proofs.branches.consider.Reads as reads
-use Rattle.ranking.proofs.branches.consider.Lts as lts
-use Rattle.ranking.proofs.branches.enter.Reads as enter-reads
-use Rattle.ranking.proofs.branches.too_dear.Reads as too-dear-reads
-use Rattle.ranking.proofs.exits.least_exit.Reads as least-exit-reads
 
--- the start of the function, and the exit
 abbrev start : tie.After-slice-known8 → tie.Start
 start c = c .before .before .before .before .before .before .before .before .before .before .before .before .before .before .before .before
 
@@ -57,75 +52,59 @@ choice : (c : tie.After-known-told) → let s = entry (told c) in
     Choice (net s) (s .args .overall .now) (Unmarked (s .args .used .now) (s .args .barred .now)) (getD (s .args .path .now) (s .args .d - 1) 0) (c .before .y .given .0 .1 .0) (c .before .y .given .0 .0)
 choice c = let n = problem (entry (told c)) .network in chosen-node (told c .least-exit .ensures .1 _ _ (n .arcs) (n .star)) (c .before .y .given .1)
 
--- src/branches.rt:125:18
 sub-v : tie.Need-sub-v
 sub-v c = search needs
 
--- src/branches.rt:125:13
 mul-v : tie.Need-mul-v
 mul-v c = search needs
 
--- src/branches.rt:125:13
 slice-read-v : tie.Need-slice-read-v
 slice-read-v c = search needs
 
--- src/branches.rt:125:13
 cast-v : tie.Need-cast-v
 cast-v c = omega (arith, last-place (start c), problem (start c) .start-to, filled (start c) .kept .few)
 
--- src/branches.rt:126:28
 least-exit-requires : tie.Need-least-exit-requires
 least-exit-requires c κs = let s = start (c .before) in
     let P = problem s in
     let b = deviation s .begun in
     rw (P .small .long) (network-heads (P .network), ((network-starts (P .network), last-place s), (P .small, (b .laid .flags-long, b .barred-long))))
 
--- src/branches.rt:126:20
 enum-known-y : tie.Need-enum-known-y
 enum-known-y c = search needs
 
--- src/branches.rt:127:9
 enum-told : tie.Need-enum-told
 enum-told c = search needs
 
--- src/branches.rt:127:9
 same-length : tie.Need-same-length
 same-length c = search needs
 
--- src/branches.rt:127:9
 returns : tie.Need-returns
 returns c = let x = c .before .before in
     let s = entry x in
     let n = problem s .network in
     (record { flags = refl; kept = refl }, (unchanged (filled s), settled-none (problem s) (deviation s) _ _ (filled s .entered) (chosen-nothing (x .least-exit .ensures .1 _ _ (n .arcs) (n .star)) (c .enum-told .given .1))))
 
--- src/branches.rt:129:17
 add-bound : tie.Need-add-bound
 add-bound c = let s = entry (told c) in omega (arith, choice-small (problem s) (choice c), deviation s .small)
 
--- src/branches.rt:131:9
 same-length-2 : tie.Need-same-length-2
 same-length-2 c = search needs
 
--- src/branches.rt:131:9
 returns-2 : tie.Need-returns-2
 returns-2 c = let k = c .before in
     let s = entry (told k) in
     (record { flags = refl; kept = refl }, (unchanged (filled s), settled-beyond (problem s) (deviation s) _ _ (filled s .entered) (choice k) (c .if1 .taken)))
 
--- src/branches.rt:133:8
 too-dear-requires : tie.Need-too-dear-requires
 too-dear-requires c κs = let F = filled (entry (told (c .before .before))) in (F .kept, F .some)
 
--- src/branches.rt:134:9
 same-length-3 : tie.Need-same-length-3
 same-length-3 c = search needs
 
--- src/branches.rt:134:9
 same-length-4 : tie.Need-same-length-4
 same-length-4 c = search needs
 
--- src/branches.rt:134:9
 returns-3 : tie.Need-returns-3
 returns-3 c = let x = c .before in
     let k = x .before .before .before in
@@ -134,41 +113,32 @@ returns-3 c = let x = c .before in
     let d = dear-facts (x .too-dear .ensures) (c .if2 .taken) in
     (record { flags = refl; kept = refl }, (unchanged F, settled-dear (problem s) (deviation s) _ _ (F .entered) (choice k) (length-entries (s .args .n) (s .args .work .now) (s .args .count) ∙ d .0) (F .some) (d .1)))
 
--- src/branches.rt:136:5
 enter-requires : tie.Need-enter-requires
 enter-requires c κs = let k = c .before .before .before .before .before .before .before .before .before .before .before in
     let s = entry (told k) in
     (problem s, (s .pre .1 .0, (filled s, (deviation s, choice k))))
 
--- src/branches.rt:90:1
 same-length-5 : tie.Need-same-length-5
 same-length-5 c = search needs
 
--- src/branches.rt:90:1
 same-length-6 : tie.Need-same-length-6
 same-length-6 c = search needs
 
--- src/branches.rt:90:1
 same-length-7 : tie.Need-same-length-7
 same-length-7 c = search needs
 
--- src/branches.rt:90:1
 same-length-8 : tie.Need-same-length-8
 same-length-8 c = search needs
 
--- src/branches.rt:90:1
 same-length-9 : tie.Need-same-length-9
 same-length-9 c = search needs
 
--- src/branches.rt:90:1
 same-length-10 : tie.Need-same-length-10
 same-length-10 c = search needs
 
--- src/branches.rt:90:1
 same-length-11 : tie.Need-same-length-11
 same-length-11 c = search needs
 
--- src/branches.rt:90:1
 returns-4 : tie.Need-returns-4
 returns-4 c = let e = c .before .before .before .before .before .before .before .before .before .before .before .before .before .before in
     (e .enter .ensures .0, (e .enter .ensures .1 .0, e .enter .ensures .1 .1 _))

@@ -1,8 +1,9 @@
-use Prim.Native.Nat.{ℕ, _+_, _-_, _≤_, _<_}
+-- the start of the function, and the search for the first path
+use Prim.Native.Nat.{ℕ, _+_, _≤_, _<_}
 use native.Mathlib.Omega.{arith}
-use mathlib.Core.Path.{_≡_, refl, sym, _∙_, ap}
+use mathlib.Core.Path.{_≡_, refl, sym}
 use mathlib.Core.List.{List}
-use lib.ListN.{length, take, getD, length-take, length-drop}
+use lib.ListN.{length, take}
 use lib.Seq.{length-take-le}
 use Rattle.terms.specs.Network.{Graph}
 use Rattle.terms.specs.Paths.{cost}
@@ -18,13 +19,7 @@ use Rattle.ranking.proofs.EnterLaws.{extent-tail, found-tail, found-emp
 use borrow.Author.Needs.{needs}
 use Rattle.ranking.proofs.branches.enter.Statement.{statement}
 use Rattle.ranking.proofs.branches.enter.Tie as tie
-use Rattle.ranking.proofs.branches.enter.Reads as reads
-use Rattle.ranking.proofs.branches.enter.Lts as lts
-use Rattle.candidates.proofs.insert.Reads as insert-reads
-use Rattle.candidates.proofs.place_for.Reads as place-for-reads
-use Rattle.ranking.proofs.first.first_path.Reads as first-path-reads
 
--- the start of the function, and the search for the first path
 abbrev entry : tie.After-first-path-arg5 → tie.Start
 entry c = c .before .before .before .before .before .before .before .before .before .before .before .before .before .before .before .before .before .before .before .before
 
@@ -86,94 +81,73 @@ extent c = extent-tail (told c .first-path .ensures .0 .reach) (c .before .len .
 count-is : (s : tie.Start) → length (kept-entries s) ≡ s .args .count
 count-is s = length-entries (s .args .n) (s .args .work .now) (s .args .count)
 
--- src/branches.rt:75:34
 first-path-requires : tie.Need-first-path-requires
 first-path-requires c κs = let s = entry c in
     let P = problem s in
     let D = deviation s in
     rw (D .begun .laid .flags-long) (P .network, (D .begun, (goal-ahead P D, (s .pre .1 .0 .room, ((still-consistent P D, P .small .long), s .pre .1 .1 .1 .1)))))
 
--- src/branches.rt:75:21
 enum-known-len : tie.Need-enum-known-len
 enum-known-len c = search needs
 
--- src/branches.rt:78:9
 enum-told : tie.Need-enum-told
 enum-told c = search needs
 
--- src/branches.rt:78:9
 same-length : tie.Need-same-length
 same-length c = search needs
 
--- src/branches.rt:78:9
 same-length-2 : tie.Need-same-length-2
 same-length-2 c = search needs
 
--- src/branches.rt:78:9
 same-length-3 : tie.Need-same-length-3
 same-length-3 c = search needs
 
--- src/branches.rt:78:9
 same-length-4 : tie.Need-same-length-4
 same-length-4 c = search needs
 
--- src/branches.rt:78:9
 same-length-5 : tie.Need-same-length-5
 same-length-5 c = search needs
 
--- src/branches.rt:78:9
 returns : tie.Need-returns
 returns c = let x = searched (c .before .before) in
     let s = start x in
     (restored x, (unchanged (filled s), λ limit. settled-empty (problem s) (deviation s) _ limit (filled s .entered) (found-empty (result x) (c .enum-told .given .1))))
 
--- src/branches.rt:80:16
 add-cost : tie.Need-add-cost
 add-cost c = let s = start (told c) in omega (arith, first c .1, path-small (problem s) (first c .0 .member .path), deviation s .costs)
 
--- src/branches.rt:81:55
 slice-reshare-prefix-place-for : tie.Need-slice-reshare-prefix-place-for
 slice-reshare-prefix-place-for c = extent (c .before) .1
 
--- src/branches.rt:81:55
 slice-aggregate-place-for : tie.Need-slice-aggregate-place-for
 slice-aggregate-place-for c = sym (length-take-le (len (c .before .before)) (made (told (c .before .before))) (extent (c .before .before) .1))
 
--- src/branches.rt:81:9
 place-for-requires : tie.Need-place-for-requires
 place-for-requires c κs = let s = start (told (c .before .before .before)) in
     let F = filled s in
     ((kept-readable (F .kept), F .entered .family), (omega (arith, F .entered .border, count-is s), s .pre .1 .0 .scratch-long))
 
--- src/branches.rt:83:9
 same-length-6 : tie.Need-same-length-6
 same-length-6 c = search needs
 
--- src/branches.rt:83:9
 same-length-7 : tie.Need-same-length-7
 same-length-7 c = search needs
 
--- src/branches.rt:83:9
 same-length-8 : tie.Need-same-length-8
 same-length-8 c = search needs
 
--- src/branches.rt:83:9
 same-length-9 : tie.Need-same-length-9
 same-length-9 c = search needs
 
--- src/branches.rt:83:9
 same-length-10 : tie.Need-same-length-10
 same-length-10 c = search needs
 
--- src/branches.rt:83:9
 same-length-11 : tie.Need-same-length-11
 same-length-11 c = search needs
 
--- src/branches.rt:83:9
 same-length-12 : tie.Need-same-length-12
 same-length-12 c = search needs
 
--- src/branches.rt:83:9
 returns-2 : tie.Need-returns-2
 returns-2 c = let x = placed (c .before) in
     let k = known x in
@@ -181,66 +155,51 @@ returns-2 c = let x = placed (c .before) in
     let F = filled s in
     (restored (told k), (unchanged F, settled-out (problem s) (deviation s) (made (told k)) (len k) (restored (told k) .kept) (extent k .0) (extent k .1) (rest k) _ (first k .0) (first k .1) refl _ _ (F .entered) (x .place-for .ensures) (c .if1 .taken) (omega (arith, count-is s, F .kept .upto))))
 
--- src/branches.rt:85:48
 cast-insert : tie.Need-cast-insert
 cast-insert c = let s = start (told (known (placed (c .before .before)))) in omega (arith, deviation s .fits .short, filled s .kept .few)
 
--- src/branches.rt:85:58
 cast-insert-2 : tie.Need-cast-insert-2
 cast-insert-2 c = let s = start (told (known (placed (c .before .before)))) in omega (arith, deviation s .fits .known, filled s .entered .border, count-is s, filled s .kept .upto, filled s .few)
 
--- src/branches.rt:85:73
 mul-insert : tie.Need-mul-insert
 mul-insert c = let s = start (told (known (placed (c .before .before)))) in omega (arith, deviation s .fits .short, filled s .kept .few)
 
--- src/branches.rt:85:73
 sub-insert : tie.Need-sub-insert
 sub-insert c = let k = known (placed (c .before .before)) in omega (arith, extent k)
 
--- src/branches.rt:85:73
 part-insert-start : tie.Need-part-insert-start
 part-insert-start c = let k = known (placed (c .before .before .before)) in omega (arith, extent k)
 
--- src/branches.rt:85:73
 part-insert-end : tie.Need-part-insert-end
 part-insert-end c = let k = known (placed (c .before .before .before)) in extent k .1
 
--- src/branches.rt:85:5
 insert-requires : tie.Need-insert-requires
 insert-requires c κs = let x = placed (c .before .before .before .before) in
     let k = known x in
     let s = start (told k) in
     (filled s .kept, (omega (arith, x .place-for .ensures .upper, count-is s), omega (arith, x .place-for .ensures .upper, count-is s, filled s .kept .upto), rest-short (problem s) (deviation s) (made (told k)) (len k) (restored (told k) .kept) (extent k .0) (extent k .1) (first k .0 .member .path)))
 
--- src/branches.rt:38:1
 same-length-13 : tie.Need-same-length-13
 same-length-13 c = search needs
 
--- src/branches.rt:38:1
 same-length-14 : tie.Need-same-length-14
 same-length-14 c = search needs
 
--- src/branches.rt:38:1
 same-length-15 : tie.Need-same-length-15
 same-length-15 c = search needs
 
--- src/branches.rt:38:1
 same-length-16 : tie.Need-same-length-16
 same-length-16 c = search needs
 
--- src/branches.rt:38:1
 same-length-17 : tie.Need-same-length-17
 same-length-17 c = search needs
 
--- src/branches.rt:38:1
 same-length-18 : tie.Need-same-length-18
 same-length-18 c = search needs
 
--- src/branches.rt:38:1
 same-length-19 : tie.Need-same-length-19
 same-length-19 c = search needs
 
--- src/branches.rt:38:1
 returns-3 : tie.Need-returns-3
 returns-3 c = let i = c .before .before in
     let x = placed (i .before .before .before .before .before) in
@@ -253,9 +212,13 @@ returns-3 c = let i = c .before .before in
     let R = restored (told k) in
     let e = extent k in
     let f = first k in
-    let T = F .entered in
-    (R, (changed-put (i .insert .ensures) (entered-found P D (made (told k)) (len k) (R .kept) (e .0) (e .1) (rest k) _ (f .0) (f .1) refl _ _ T (x .place-for .ensures) room) (same-found P D (made (told k)) (len k) (R .kept) (e .0) (e .1) (rest k) _ (f .0) (f .1) refl _ _ T (x .place-for .ensures) room),
-      λ limit. settled-put (i .insert .ensures) (settled-found P D (made (told k)) (len k) (R .kept) (e .0) (e .1) (rest k) _ (f .0) (f .1) refl _ _ T (x .place-for .ensures) limit)))
+    let T = F .entered in (
+      R,
+      (
+        changed-put (i .insert .ensures) (entered-found P D (made (told k)) (len k) (R .kept) (e .0) (e .1) (rest k) _ (f .0) (f .1) refl _ _ T (x .place-for .ensures) room) (same-found P D (made (told k)) (len k) (R .kept) (e .0) (e .1) (rest k) _ (f .0) (f .1) refl _ _ T (x .place-for .ensures) room),
+        λ limit. settled-put (i .insert .ensures) (settled-found P D (made (told k)) (len k) (R .kept) (e .0) (e .1) (rest k) _ (f .0) (f .1) refl _ _ T (x .place-for .ensures) limit),
+      ),
+    )
 
 pub enter-spec : {M : Type 1} → statement M
 enter-spec =

@@ -1,34 +1,26 @@
+-- `ranking::branches::too_dear` meets its contract. Assumes nothing.
 use Rattle.candidates.specs.Slots.{Entry}
 use Prim.Native.Nat.{_-_, _+_}
 use Rattle.ranking.specs.Ranking.{TooDear}
 use Rattle.candidates.proofs.EntryLaws.{kept-readable, entries-at, readable-less}
 use native.Mathlib.Omega.{arith}
-use mathlib.Core.Path.{_≡_, sym, _∙_, ap}
-use lib.ListN.{getD}
+use mathlib.Core.Path.{ap}
 use borrow.Author.Needs.{needs}
 use Rattle.ranking.proofs.branches.too_dear.Statement.{statement}
 use Rattle.ranking.proofs.branches.too_dear.Tie as tie
-use Rattle.ranking.proofs.branches.too_dear.Reads as reads
-use Rattle.ranking.proofs.branches.too_dear.Lts as lts
-use Rattle.candidates.proofs.cost_at.Reads as cost-at-reads
 
--- src/branches.rt:26:9
 returns : tie.Need-returns
 returns c = TooDear.cheap
 
--- src/branches.rt:28:36
 sub-cost-at : tie.Need-sub-cost-at
 sub-cost-at c = search needs
 
--- src/branches.rt:28:9
 cost-at-requires : tie.Need-cost-at-requires
 cost-at-requires c κs = let p = c .before .before .pre .0 in readable-less (c .before .before .args .count - 1 + 1) (omega arith) (kept-readable p)
 
--- src/branches.rt:30:9
 returns-2 : tie.Need-returns-2
 returns-2 c = TooDear.cheap
 
--- src/branches.rt:21:1
 returns-3 : tie.Need-returns-3
 returns-3 c = let s = c .before .before .before .before in
     let z = ap (λ (e : Entry). e .cost) (entries-at (s .args .n) (s .args .work .now) (s .args .count) (s .args .count - 1) (omega (arith, s .pre .1))) in

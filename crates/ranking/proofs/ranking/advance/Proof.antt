@@ -1,24 +1,17 @@
-use Prim.Native.Nat.{ℕ, _+_, _-_, _*_, _≤_, _<_}
-use native.Mathlib.Omega.{arith}
-use mathlib.Core.Path.{_≡_, refl, sym, _∙_, ap, subst}
-use mathlib.Core.List.{List, []}
-use lib.ListN.{length, take, drop, getD, set, length-set}
+-- the start of the function
+use mathlib.Core.Path.{refl}
+use mathlib.Core.List.{[]}
 use Rattle.terms.specs.Network.{Graph}
 use Rattle.labels.specs.Arcs.{graph}
 use Rattle.labels.specs.Labels.{far}
-use Rattle.candidates.specs.Slots.{Entry, entries}
-use Rattle.candidates.proofs.EntryLaws.{length-entries}
-use Rattle.ranking.specs.Ranking.{Problem, Desk, Filled, Space, Blank, Stage, Ranked}
+use Rattle.candidates.specs.Slots.{entries}
+use Rattle.ranking.specs.Ranking.{Problem, Filled, Stage}
 use Rattle.ranking.specs.State.{Searching}
 use Rattle.ranking.proofs.RankedLaws.{due-next, last-changed, last-stage}
 use borrow.Author.Needs.{needs}
 use Rattle.ranking.proofs.ranking.advance.Statement.{statement}
 use Rattle.ranking.proofs.ranking.advance.Tie as tie
-use Rattle.ranking.proofs.ranking.advance.Reads as reads
-use Rattle.ranking.proofs.ranking.advance.Lts as lts
-use Rattle.ranking.proofs.splitting.split.Reads as split-reads
 
--- the start of the function
 abbrev start : tie.After-slice-known8 → tie.Start
 start c = c .before .before .before .before .before .before .before .before .before .before .before .before .before .before .before
 
@@ -34,55 +27,43 @@ filled s = s .pre .1 .1 .0
 searching : (s : tie.Start) → Searching (s .args .n) (net s) (s .args .start) (s .args .goal) (s .args .slots) far (entries (s .args .n) (s .args .work .now) (s .args .count)) (s .args .rank) []
 searching s = s .pre .1 .1 .1 .1 .1
 
--- src/ranking.rt:116:8
 add-if1 : tie.Need-add-if1
 add-if1 c = search needs
 
--- src/ranking.rt:117:9
 returns : tie.Need-returns
 returns c = let s = start (c .before) in
     let F = filled s in
     let h = s .pre .1 .1 .1 .1 .0 in
     (refl, (refl, (last-changed (problem s) F h (searching s), last-stage (problem s) F h (searching s) (c .if1 .taken))))
 
--- src/ranking.rt:119:5
 split-requires : tie.Need-split-requires
 split-requires c κs = let s = start (c .before .before .before .before .before .before .before .before .before) in
     (problem s, (s .pre .1 .0, (filled s, (s .pre .1 .1 .1 .0, due-next (problem s) (filled s) (s .pre .1 .1 .1 .1 .0) (searching s)))))
 
--- src/ranking.rt:83:1
 same-length : tie.Need-same-length
 same-length c = search needs
 
--- src/ranking.rt:83:1
 same-length-2 : tie.Need-same-length-2
 same-length-2 c = search needs
 
--- src/ranking.rt:83:1
 same-length-3 : tie.Need-same-length-3
 same-length-3 c = search needs
 
--- src/ranking.rt:83:1
 same-length-4 : tie.Need-same-length-4
 same-length-4 c = search needs
 
--- src/ranking.rt:83:1
 same-length-5 : tie.Need-same-length-5
 same-length-5 c = search needs
 
--- src/ranking.rt:83:1
 same-length-6 : tie.Need-same-length-6
 same-length-6 c = search needs
 
--- src/ranking.rt:83:1
 same-length-7 : tie.Need-same-length-7
 same-length-7 c = search needs
 
--- src/ranking.rt:83:1
 same-length-8 : tie.Need-same-length-8
 same-length-8 c = search needs
 
--- src/ranking.rt:83:1
 returns-2 : tie.Need-returns-2
 returns-2 c = let E = c .before .before .before .before .before .before .before .before .before .before .before .before .before .before .before .before .split .ensures in (E .0, (E .1 .0, (E .1 .1 .0, Stage.going (E .1 .1 .1))))
 

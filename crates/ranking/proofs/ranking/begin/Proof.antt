@@ -1,25 +1,12 @@
-use Prim.Native.Nat.{ℕ, _+_, _-_, _*_, _≤_, _<_}
+-- the start of the function, and the calls
 use native.Mathlib.Omega.{arith}
-use mathlib.Core.Path.{_≡_, refl, sym, _∙_, ap, subst}
-use mathlib.Core.List.{List, []}
-use lib.ListN.{length, take, drop, getD, set, length-set}
-use Rattle.terms.specs.Network.{Graph}
-use Rattle.labels.specs.Arcs.{graph}
-use Rattle.labels.specs.Labels.{far}
-use Rattle.candidates.specs.Slots.{Entry, entries}
-use Rattle.candidates.proofs.EntryLaws.{length-entries}
-use Rattle.ranking.specs.Ranking.{Problem, Desk, Filled, Space, Blank, Stage, Ranked}
-use Rattle.ranking.specs.State.{Searching}
+use lib.ListN.{length-set}
+use Rattle.ranking.specs.Ranking.{Problem, Space, Blank}
 use Rattle.ranking.proofs.RankedLaws.{filled-none, first-deviation, first-cleared, begun}
 use borrow.Author.Needs.{needs}
 use Rattle.ranking.proofs.ranking.begin.Statement.{statement}
 use Rattle.ranking.proofs.ranking.begin.Tie as tie
-use Rattle.ranking.proofs.ranking.begin.Reads as reads
-use Rattle.ranking.proofs.ranking.begin.Lts as lts
-use Rattle.candidates.proofs.reset.Reads as reset-reads
-use Rattle.ranking.proofs.branches.consider.Reads as consider-reads
 
--- the start of the function, and the calls
 abbrev start : tie.After-slice-known7 → tie.Start
 start c = c .before .before .before .before .before .before .before .before .before .before .before .before .before .before .before
 
@@ -41,64 +28,51 @@ space s = s .pre .1 .1 .0
 blank : (s : tie.Start) → Blank (s .args .n) (s .args .used .now) (s .args .barred .now) (s .args .path .now)
 blank s = s .pre .1 .1 .1
 
--- src/ranking.rt:47:5
 reset-requires : tie.Need-reset-requires
 reset-requires c κs = search needs
 
--- src/ranking.rt:48:5
 slice-write-path : tie.Need-slice-write-path
 slice-write-path c = search needs
 
--- src/ranking.rt:49:5
 slice-write-used : tie.Need-slice-write-used
 slice-write-used c = search needs
 
--- src/ranking.rt:50:9
 consider-requires : tie.Need-consider-requires
 consider-requires c κs = let x = c .before .before .before .before .before .before .before .before .before in
     let s = entry x in
     let P = problem s in
     (P, (s .pre .1 .0, (filled-none P (space s) (x .reset .ensures .0), first-deviation P (blank s) (x .reset .last .0))))
 
--- src/ranking.rt:77:5
 slice-write-used-2 : tie.Need-slice-write-used-2
 slice-write-used-2 c = let x = looked c in
     let s = entry (freed x) in
     omega (arith, x .consider .kept .1 .1 .1 .1 .1 .1 .1 .1 .1 .0, length-set (s .args .used .now) (s .args .start) 1, blank s .used-long, problem s .start-to)
 
--- src/ranking.rt:18:1
 same-length : tie.Need-same-length
 same-length c = let x = looked c in
     let s = entry (freed x) in
     omega (arith, x .consider .kept .1 .1 .1 .1 .1 .1 .1 .1 .1 .0, length-set (s .args .used .now) (s .args .start) 1, length-set (x .consider .last .1 .1 .1 .1 .1 .1 .1 .1 .1 .0) (s .args .start) 0)
 
--- src/ranking.rt:18:1
 same-length-2 : tie.Need-same-length-2
 same-length-2 c = let x = looked c in
     let s = entry (freed x) in
     omega (arith, x .consider .kept .1 .1 .1 .1 .1 .1 .1 .1 .1 .1 .1 .0, length-set (s .args .path .now) 0 (s .args .start))
 
--- src/ranking.rt:18:1
 same-length-3 : tie.Need-same-length-3
 same-length-3 c = search needs
 
--- src/ranking.rt:18:1
 same-length-4 : tie.Need-same-length-4
 same-length-4 c = search needs
 
--- src/ranking.rt:18:1
 same-length-5 : tie.Need-same-length-5
 same-length-5 c = search needs
 
--- src/ranking.rt:18:1
 same-length-6 : tie.Need-same-length-6
 same-length-6 c = search needs
 
--- src/ranking.rt:18:1
 same-length-7 : tie.Need-same-length-7
 same-length-7 c = search needs
 
--- src/ranking.rt:18:1
 returns : tie.Need-returns
 returns c = let x = looked c in
     let y = freed x in

@@ -1,22 +1,16 @@
-use Prim.Native.Nat.{ℕ, _+_, _-_, _*_, _≤_, _<_}
+-- `ranking::ranking::rank_paths` meets its contract. Assumes nothing.
+use Prim.Native.Nat.{_+_, _-_, _*_}
 use native.Mathlib.Omega.{arith}
-use mathlib.Core.Path.{_≡_, refl, sym, _∙_, ap, subst}
-use mathlib.Core.List.{List, []}
-use lib.ListN.{length, take, drop, getD, set, length-set}
+use mathlib.Core.Path.{_≡_, refl, _∙_, ap}
+use lib.ListN.{length, drop}
 use Rattle.terms.specs.Network.{Graph}
 use Rattle.labels.specs.Arcs.{graph}
-use Rattle.labels.specs.Labels.{far}
-use Rattle.candidates.specs.Slots.{Entry, entries}
+use Rattle.candidates.specs.Slots.{entries}
 use Rattle.candidates.proofs.EntryLaws.{length-entries}
-use Rattle.ranking.specs.Ranking.{Problem, Desk, Filled, Space, Blank, Stage, Ranked}
-use Rattle.ranking.specs.State.{Searching}
+use Rattle.ranking.specs.Ranking.{Problem, Desk, Filled, Blank, Stage}
 use Rattle.ranking.proofs.RankedLaws.{stage-going, all-ranked}
 use Rattle.ranking.proofs.ranking.rank_paths.Statement.{statement}
 use Rattle.ranking.proofs.ranking.rank_paths.Tie as tie
-use Rattle.ranking.proofs.ranking.rank_paths.Reads as reads
-use Rattle.ranking.proofs.ranking.rank_paths.Lts as lts
-use Rattle.ranking.proofs.ranking.advance.Reads as advance-reads
-use Rattle.ranking.proofs.ranking.begin.Reads as begin-reads
 
 abbrev Inv-loop : tie.InvT-loop
 Inv-loop tails heads weights first-out first-in next-in start goal overall used₀ barred₀ path₀ dirty₀ queue₀ labels₀ scratch₀ work₀ n slots count₀ j₀ used barred path dirty queue labels scratch work count j =
@@ -49,19 +43,16 @@ desk s = s .pre .1 .0
 blank : (s : tie.Start Inv-loop μ-loop) → Blank (s .args .n) (s .args .used .now) (s .args .barred .now) (s .args .path .now)
 blank s = s .pre .1 .1 .1
 
--- src/ranking.rt:176:9
 begin-requires : tie.Need-begin-requires Inv-loop μ-loop
 begin-requires c κs = let s = start (c .before .before .before .before .before .before .before .before) in s .pre
 
--- src/ranking.rt:198:5
 loop-holds : tie.Need-loop-holds Inv-loop μ-loop
 loop-holds c = let x = first c in
     let s = entry x in
     let D = desk s in
     let B = blank s in
     let G = x .begin .ensures .1 in
-    let k = x .begin .kept .1 .1 .1 .1 .1 .1 .1 .1 .1 .1 .1 in
-    (
+    let k = x .begin .kept .1 .1 .1 .1 .1 .1 .1 .1 .1 .1 .1 in (
       record {
         room = record { dirty-long = k .1 .0 ∙ D .room .dirty-long; queue-long = k .1 .1 .0 ∙ D .room .queue-long; labels-long = k .1 .1 .1 .0 ∙ D .room .labels-long };
         scratch-long = omega (arith, k .1 .1 .1 .1 .0, D .scratch-long);
@@ -77,7 +68,6 @@ loop-holds c = let x = first c in
       refl,
     )
 
--- src/ranking.rt:199:9
 advance-requires : tie.Need-advance-requires Inv-loop μ-loop
 advance-requires c κs = let i = c .before .before .before .before .before .before .before .before in
     let l = i .before in
@@ -85,15 +75,12 @@ advance-requires c κs = let i = c .before .before .before .before .before .befo
     let v = l .loop .inv in
     (problem s, (v .0, (v .1, (v .4, (i .loop-test .taken, stage-going (problem s) (v .1) (i .loop-test .taken) (v .2))))))
 
--- src/ranking.rt:222:9
 add-j : tie.Need-add-j Inv-loop μ-loop
 add-j c = let i = c .before .before .before .before .before .before .before .before .before .before .before .before .before .before .before .before .before .before .before .before .before .before .before .before .before in omega (arith, i .loop-test .taken, i .before .loop .inv .1 .kept .upto, i .before .loop .inv .1 .few)
 
--- src/ranking.rt:198:5
 loop-less : tie.Need-loop-less Inv-loop μ-loop
 loop-less c = let i = c .before .before .before .before .before .before .before .before .before .before .before .before .before .before .before .before .before .before .before .before .before .before .before .before .before in omega (arith, i .loop-test .taken, i .before .loop .inv .1 .kept .upto)
 
--- src/ranking.rt:198:5
 loop-again : tie.Need-loop-again Inv-loop μ-loop
 loop-again c = let x = c .before .before .before .before .before .before .before .before .before .before .before .before .before .before .before .before in
     let l = x .before .before .before .before .before .before .before .before .before .before in
@@ -103,8 +90,7 @@ loop-again c = let x = c .before .before .before .before .before .before .before
     let B = v .4 in
     let E = x .advance .ensures in
     let C = E .1 .1 .0 in
-    let k = x .advance .kept .1 .1 .1 .1 .1 .1 .1 .1 .1 .1 .1 in
-    (
+    let k = x .advance .kept .1 .1 .1 .1 .1 .1 .1 .1 .1 .1 .1 in (
       record {
         room = record { dirty-long = k .1 .0 ∙ D .room .dirty-long; queue-long = k .1 .1 .0 ∙ D .room .queue-long; labels-long = k .1 .1 .1 .0 ∙ D .room .labels-long };
         scratch-long = omega (arith, k .1 .1 .1 .1 .0, D .scratch-long);
@@ -120,39 +106,30 @@ loop-again c = let x = c .before .before .before .before .before .before .before
       k .1 .1 .1 .1 .1 .0 ∙ v .9,
     )
 
--- src/ranking.rt:147:1
 same-length : tie.Need-same-length Inv-loop μ-loop
 same-length c = let l = c .before in let x = first (l .before) in omega (arith, ap length (l .loop .inv .5), x .begin .kept .1 .1 .1 .1 .1 .1 .1 .1 .1 .0)
 
--- src/ranking.rt:147:1
 same-length-2 : tie.Need-same-length-2 Inv-loop μ-loop
 same-length-2 c = omega (arith, ap length (c .before .loop .inv .6))
 
--- src/ranking.rt:147:1
 same-length-3 : tie.Need-same-length-3 Inv-loop μ-loop
 same-length-3 c = omega arith
 
--- src/ranking.rt:147:1
 same-length-4 : tie.Need-same-length-4 Inv-loop μ-loop
 same-length-4 c = let l = c .before in omega (arith, l .loop .inv .0 .room .dirty-long, desk (entry (first (l .before))) .room .dirty-long)
 
--- src/ranking.rt:147:1
 same-length-5 : tie.Need-same-length-5 Inv-loop μ-loop
 same-length-5 c = let l = c .before in omega (arith, l .loop .inv .0 .room .queue-long, desk (entry (first (l .before))) .room .queue-long)
 
--- src/ranking.rt:147:1
 same-length-6 : tie.Need-same-length-6 Inv-loop μ-loop
 same-length-6 c = let l = c .before in omega (arith, l .loop .inv .0 .room .labels-long, desk (entry (first (l .before))) .room .labels-long)
 
--- src/ranking.rt:147:1
 same-length-7 : tie.Need-same-length-7 Inv-loop μ-loop
 same-length-7 c = omega arith
 
--- src/ranking.rt:147:1
 same-length-8 : tie.Need-same-length-8 Inv-loop μ-loop
 same-length-8 c = omega arith
 
--- src/ranking.rt:147:1
 returns : tie.Need-returns Inv-loop μ-loop
 returns c = let l = c .before in
     let x = first (l .before) in

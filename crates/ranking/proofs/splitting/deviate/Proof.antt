@@ -1,26 +1,22 @@
-use Prim.Native.Nat.{ℕ, _+_, _-_, _≤_, _<_}
+-- the start of the function, and the calls
+use Prim.Native.Nat.{ℕ, _+_, _<_}
 use native.Mathlib.Omega.{arith}
-use mathlib.Core.Path.{_≡_, refl, sym, _∙_, ap, ap₂}
+use mathlib.Core.Path.{_≡_, _∙_, ap, ap₂}
 use mathlib.Core.List.{List}
-use lib.ListN.{length, take, getD}
+use lib.ListN.{getD}
 use Rattle.terms.specs.Network.{Graph}
 use Rattle.labels.specs.Arcs.{graph}
 use Rattle.candidates.specs.Slots.{Entry, none, entries}
 use Rattle.candidates.specs.Routes.{size}
 use Rattle.candidates.specs.Bars.{barred, marked}
 use Rattle.candidates.proofs.EntryLaws.{length-entries}
-use Rattle.ranking.specs.Ranking.{Filled, Changed, Deviation, Along}
+use Rattle.ranking.specs.Ranking.{Filled, Deviation, Along}
 use Rattle.ranking.specs.State.{taking-over}
 use Rattle.ranking.proofs.DeviateLaws.{part-rooted, entry-is, barred-is, part-deviation, part-cleared, changed-filled, same-entry, barred-kept}
 use borrow.Author.Needs.{needs}
 use Rattle.ranking.proofs.splitting.deviate.Statement.{statement}
 use Rattle.ranking.proofs.splitting.deviate.Tie as tie
-use Rattle.ranking.proofs.splitting.deviate.Reads as reads
-use Rattle.ranking.proofs.splitting.deviate.Lts as lts
-use Rattle.candidates.proofs.set_bars.Reads as set-bars-reads
-use Rattle.ranking.proofs.branches.consider.Reads as consider-reads
 
--- the start of the function, and the calls
 abbrev start : tie.After-slice-known8 → tie.Start
 start c = c .before .before .before .before .before .before .before .before .before .before .before .before .before .before .before
 
@@ -63,28 +59,23 @@ deviation : (c : tie.After-set-bars) → let s = entry c in
     Deviation (s .args .n) (net s) (s .args .start) (s .args .goal) (kept-entries s) (s .args .rank + 1) (s .args .used .now) (flags c) (s .args .path .now) (s .args .rank + 1) (s .args .d) (s .args .before)
 deviation c = let s = entry c in part-deviation (s .args .rank) (filled s) (along s) (short s) (flags-are c)
 
--- src/splitting.rt:110:5
 set-bars-requires : tie.Need-set-bars-requires
 set-bars-requires c κs = let s = start (c .before .before) in
     let r = s .args .rank in
     let F = filled s in
     ((part-rooted r F, omega (arith, along s .bars-long)), rw (entry-is r F) (along s .lower, short s))
 
--- src/splitting.rt:133:9
 add-consider : tie.Need-add-consider
 add-consider c = let s = entry (c .before .before .before .before .before .before .before .before .before .before) in omega (arith, filled s .entered .border, length-entries (s .args .n) (s .args .work .now) (s .args .count), filled s .kept .upto, filled s .few)
 
--- src/splitting.rt:134:9
 add-consider-2 : tie.Need-add-consider-2
 add-consider-2 c = let s = entry (c .before .before .before .before .before .before .before .before .before .before) in omega (arith, filled s .entered .border, length-entries (s .args .n) (s .args .work .now) (s .args .count), filled s .kept .upto, filled s .few)
 
--- src/splitting.rt:111:9
 consider-requires : tie.Need-consider-requires
 consider-requires c κs = let x = c .before .before .before .before .before .before .before .before .before .before in
     let s = entry x in
     (s .pre .0, (s .pre .1 .0, (filled s, deviation x)))
 
--- src/splitting.rt:138:5
 set-bars-requires-2 : tie.Need-set-bars-requires-2
 set-bars-requires-2 c κs = let y = looked (c .before .before) in
     let x = set y in
@@ -95,39 +86,30 @@ set-bars-requires-2 c κs = let y = looked (c .before .before) in
     let F′ = changed-filled r F C in
     ((part-rooted r F′, omega (arith, deviation x .begun .barred-long)), rw (entry-is r F′, same-entry r F C) (along s .lower, short s))
 
--- src/splitting.rt:74:1
 same-length : tie.Need-same-length
 same-length c = search needs
 
--- src/splitting.rt:74:1
 same-length-2 : tie.Need-same-length-2
 same-length-2 c = search needs
 
--- src/splitting.rt:74:1
 same-length-3 : tie.Need-same-length-3
 same-length-3 c = search needs
 
--- src/splitting.rt:74:1
 same-length-4 : tie.Need-same-length-4
 same-length-4 c = search needs
 
--- src/splitting.rt:74:1
 same-length-5 : tie.Need-same-length-5
 same-length-5 c = search needs
 
--- src/splitting.rt:74:1
 same-length-6 : tie.Need-same-length-6
 same-length-6 c = search needs
 
--- src/splitting.rt:74:1
 same-length-7 : tie.Need-same-length-7
 same-length-7 c = search needs
 
--- src/splitting.rt:74:1
 same-length-8 : tie.Need-same-length-8
 same-length-8 c = search needs
 
--- src/splitting.rt:74:1
 returns : tie.Need-returns
 returns c = let z = c .before .before in
     let y = looked (z .before .before .before) in

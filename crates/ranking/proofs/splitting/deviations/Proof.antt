@@ -1,21 +1,17 @@
-use Prim.Native.Nat.{ℕ, _+_, _-_, _≤_, _<_}
+-- `ranking::splitting::deviations` meets its contract. Assumes nothing.
+use Prim.Native.Nat.{_+_, _-_, _<_}
 use native.Mathlib.Omega.{arith}
-use mathlib.Core.Path.{_≡_, refl, sym, _∙_, ap, subst}
+use mathlib.Core.Path.{_≡_, refl, sym, _∙_}
 use mathlib.Core.List.{List}
-use lib.ListN.{length, take, getD}
+use lib.ListN.{length, getD}
 use Rattle.terms.specs.Network.{Graph, weight}
 use Rattle.labels.specs.Arcs.{graph}
 use Rattle.candidates.specs.Slots.{Entry, none, entries}
-use Rattle.ranking.specs.Laid.{Laid}
 use Rattle.ranking.specs.Ranking.{Desk, Filled, Along}
 use Rattle.ranking.proofs.BackLaws.{Going, back-some, back-linked, back-le, along-back, going-start, going-filled, going-shared, going-next, going-end}
 use Rattle.ranking.proofs.NetworkLaws.{network-heads, network-starts}
 use Rattle.ranking.proofs.splitting.deviations.Statement.{statement}
 use Rattle.ranking.proofs.splitting.deviations.Tie as tie
-use Rattle.ranking.proofs.splitting.deviations.Reads as reads
-use Rattle.ranking.proofs.splitting.deviations.Lts as lts
-use Rattle.ranking.proofs.splitting.deviate.Reads as deviate-reads
-use Rattle.ranking.proofs.splitting.step_back.Reads as step-back-reads
 
 abbrev Inv-loop : tie.InvT-loop
 Inv-loop tails heads weights first-out first-in next-in start goal overall used₀ barred₀ path₀ dirty₀ queue₀ labels₀ scratch₀ work₀ n slots count limit rank shared len cost now₀ d₀ before₀ used barred path dirty queue labels scratch work now d before =
@@ -72,15 +68,12 @@ back-place b = let l = inner b .before in along-back (now-filled l .entered) (pl
 abbrev inside : tie.After-deviate Inv-loop μ-loop → tie.After-step-back Inv-loop μ-loop
 inside e = stepped (e .before .before .before .before .before .before .before .before .before)
 
--- src/splitting.rt:184:5
 loop-holds : tie.Need-loop-holds Inv-loop μ-loop
 loop-holds c = let s = start c in (s .pre .1 .0, going-start (filled s) (s .pre .1 .1 .1 .0), refl, refl, refl)
 
--- src/splitting.rt:185:9
 sub-d : tie.Need-sub-d Inv-loop μ-loop
 sub-d c = omega (arith, c .loop-test .taken)
 
--- src/splitting.rt:186:19
 step-back-requires : tie.Need-step-back-requires Inv-loop μ-loop
 step-back-requires c κs = let i = c .before .before in
     let l = i .before in
@@ -88,22 +81,18 @@ step-back-requires c κs = let i = c .before .before in
     let z : l .loop .d - 1 + 1 ≡ l .loop .d = omega (arith, i .loop-test .taken) in
     rw (place l .laid .flags-long) ((network-heads n, network-starts n), (rw z (place l .laid), back-some (now-filled l .entered) (place l) (more i)))
 
--- src/splitting.rt:186:9
 sub-before : tie.Need-sub-before Inv-loop μ-loop
 sub-before c = let b = stepped c in let l = inner b .before in back-le (now-filled l .entered) (place l) (more (inner b)) (arc b)
 
--- src/splitting.rt:187:9
 deviate-requires : tie.Need-deviate-requires Inv-loop μ-loop
 deviate-requires c κs = let b = stepped (c .before .before .before .before .before .before .before .before) in
     let l = inner b .before in
     let s = entry l in
     (s .pre .0, (l .loop .inv .0, (now-filled l, (back-place b, omega (arith, more (inner b), place l .upper)))))
 
--- src/splitting.rt:184:5
 loop-less : tie.Need-loop-less Inv-loop μ-loop
 loop-less c = omega (arith, inner (inside (c .before .before .before .before .before .before .before .before .before .before .before .before .before .before .before .before)) .loop-test .taken)
 
--- src/splitting.rt:184:5
 loop-again : tie.Need-loop-again Inv-loop μ-loop
 loop-again c = let e = c .before .before .before .before .before .before .before .before .before .before .before .before .before .before .before .before in
     let b = inside e in
@@ -111,8 +100,7 @@ loop-again c = let e = c .before .before .before .before .before .before .before
     let s = entry l in
     let i = l .loop .inv in
     let D = i .0 in
-    let k = e .deviate .kept .1 .1 .1 .1 .1 .1 .1 .1 .1 .1 .1 in
-    (
+    let k = e .deviate .kept .1 .1 .1 .1 .1 .1 .1 .1 .1 .1 .1 in (
       record {
         room = record { dirty-long = k .1 .0 ∙ D .room .dirty-long; queue-long = k .1 .1 .0 ∙ D .room .queue-long; labels-long = k .1 .1 .1 .0 ∙ D .room .labels-long };
         scratch-long = omega (arith, k .1 .1 .1 .1 .0, D .scratch-long);
@@ -123,39 +111,30 @@ loop-again c = let e = c .before .before .before .before .before .before .before
       k .1 .1 .1 .1 .1 .0 ∙ i .4,
     )
 
--- src/splitting.rt:144:1
 same-length : tie.Need-same-length Inv-loop μ-loop
 same-length c = omega arith
 
--- src/splitting.rt:144:1
 same-length-2 : tie.Need-same-length-2 Inv-loop μ-loop
 same-length-2 c = omega arith
 
--- src/splitting.rt:144:1
 same-length-3 : tie.Need-same-length-3 Inv-loop μ-loop
 same-length-3 c = omega arith
 
--- src/splitting.rt:144:1
 same-length-4 : tie.Need-same-length-4 Inv-loop μ-loop
 same-length-4 c = omega arith
 
--- src/splitting.rt:144:1
 same-length-5 : tie.Need-same-length-5 Inv-loop μ-loop
 same-length-5 c = omega arith
 
--- src/splitting.rt:144:1
 same-length-6 : tie.Need-same-length-6 Inv-loop μ-loop
 same-length-6 c = omega arith
 
--- src/splitting.rt:144:1
 same-length-7 : tie.Need-same-length-7 Inv-loop μ-loop
 same-length-7 c = omega arith
 
--- src/splitting.rt:144:1
 same-length-8 : tie.Need-same-length-8 Inv-loop μ-loop
 same-length-8 c = omega arith
 
--- src/splitting.rt:144:1
 returns : tie.Need-returns Inv-loop μ-loop
 returns c = let l = c .before in
     let s = entry l in

@@ -1,3 +1,4 @@
+-- `ranking::splitting::mark` meets its contract. Assumes nothing.
 use mathlib.Core.Path.{_≡_}
 use native.Mathlib.Omega.{arith}
 use Prim.Native.Nat.{_-_, _≤_}
@@ -6,8 +7,6 @@ use Rattle.ranking.specs.Laid.{Laid}
 use Rattle.ranking.proofs.DeviateLaws.{mark-start, mark-next}
 use Rattle.ranking.proofs.splitting.mark.Statement.{statement}
 use Rattle.ranking.proofs.splitting.mark.Tie as tie
-use Rattle.ranking.proofs.splitting.mark.Reads as reads
-use Rattle.ranking.proofs.splitting.mark.Lts as lts
 
 abbrev Inv-loop : tie.InvT-loop
 Inv-loop path len used₀ i₀ used i = (i ≤ len) × Laid (length used₀) used path i
@@ -15,43 +14,33 @@ Inv-loop path len used₀ i₀ used i = (i ≤ len) × Laid (length used₀) use
 abbrev μ-loop : tie.MeasureT-loop
 μ-loop path len used₀ i₀ used i = len - i
 
--- src/splitting.rt:47:5
 loop-holds : tie.Need-loop-holds Inv-loop μ-loop
 loop-holds c = (omega arith, mark-start (c .pre))
 
--- src/splitting.rt:48:14
 mul-used : tie.Need-mul-used Inv-loop μ-loop
 mul-used c = omega arith
 
--- src/splitting.rt:48:14
 shared-slice-read-used : tie.Need-shared-slice-read-used Inv-loop μ-loop
 shared-slice-read-used c = omega (arith, c .before .before .before .pre .upto)
 
--- src/splitting.rt:48:14
 cast-used : tie.Need-cast-used Inv-loop μ-loop
 cast-used c = omega (arith, c .shared-slice-known .given (c .before .before .loop .i))
 
--- src/splitting.rt:48:9
 slice-write-used : tie.Need-slice-write-used Inv-loop μ-loop
 slice-write-used c = let l = c .before .before in omega (arith, l .before .pre .nodes (l .loop .i) (omega arith), l .loop .inv .1 .flags-long)
 
--- src/splitting.rt:49:9
 add-i : tie.Need-add-i Inv-loop μ-loop
 add-i c = omega arith
 
--- src/splitting.rt:47:5
 loop-less : tie.Need-loop-less Inv-loop μ-loop
 loop-less c = omega arith
 
--- src/splitting.rt:47:5
 loop-again : tie.Need-loop-again Inv-loop μ-loop
 loop-again c = let l = c .before .before in (omega arith, mark-next (l .before .pre) (omega arith) (l .loop .inv .1))
 
--- src/splitting.rt:42:1
 same-length : tie.Need-same-length Inv-loop μ-loop
 same-length c = omega arith
 
--- src/splitting.rt:42:1
 returns : tie.Need-returns Inv-loop μ-loop
 returns c = let e : c .before .loop .i ≡ c .before .before .args .len = omega arith in rw e at (c .before .loop .inv .1)
 

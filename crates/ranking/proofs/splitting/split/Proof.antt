@@ -1,8 +1,9 @@
-use Prim.Native.Nat.{ℕ, _+_, _-_, _≤_, _<_}
+-- the start of the function, and the calls
+use Prim.Native.Nat.{ℕ, _+_}
 use native.Mathlib.Omega.{arith}
-use mathlib.Core.Path.{_≡_, refl, sym, _∙_, ap, subst}
+use mathlib.Core.Path.{_≡_, _∙_, ap}
 use mathlib.Core.List.{List}
-use lib.ListN.{length, take, getD}
+use lib.ListN.{length, getD}
 use Rattle.terms.specs.Network.{Graph}
 use Rattle.labels.specs.Arcs.{graph}
 use Rattle.candidates.specs.Slots.{Entry, none, entries}
@@ -10,22 +11,11 @@ use Rattle.candidates.specs.Routes.{size}
 use Rattle.ranking.specs.Found.{Idle}
 use Rattle.ranking.specs.Laid.{Laid}
 use Rattle.ranking.specs.Ranking.{Problem, Filled, Along, Due}
-use Rattle.ranking.specs.State.{Searching, waiting-to}
 use Rattle.ranking.proofs.DueLaws.{due-filled, due-readable, due-rooted, due-entry, due-short, due-some, due-waiting, due-markable, due-along, flags-cleared}
 use borrow.Author.Needs.{needs}
 use Rattle.ranking.proofs.splitting.split.Statement.{statement}
 use Rattle.ranking.proofs.splitting.split.Tie as tie
-use Rattle.ranking.proofs.splitting.split.Reads as reads
-use Rattle.ranking.proofs.splitting.split.Lts as lts
-use Rattle.candidates.proofs.lay_out.Reads as lay-out-reads
-use Rattle.candidates.proofs.cost_at.Reads as cost-at-reads
-use Rattle.candidates.proofs.shared_at.Reads as shared-at-reads
-use Rattle.candidates.proofs.tail_length_at.Reads as tail-length-at-reads
-use Rattle.ranking.proofs.splitting.deviations.Reads as deviations-reads
-use Rattle.ranking.proofs.splitting.mark.Reads as mark-reads
-use Rattle.ranking.proofs.walk.unmark.Reads as unmark-reads
 
--- the start of the function, and the calls
 abbrev start : tie.After-slice-known8 → tie.Start
 start c = c .before .before .before .before .before .before .before .before .before .before .before .before .before .before .before
 
@@ -107,19 +97,15 @@ along c =
     let s = entry (first x) in
     due-along (problem s) (filled s) (due s) (total x) (s .args .path .now) (route o) (total-is x) (o .lay-out .ensures) (c .cost-at .result) (idle s) (marked-laid m) (c .cost-at .ensures ∙ ap (λ (e : Entry). e .cost) (due-entry (problem s) (filled s) (due s)))
 
--- src/splitting.rt:254:9
 shared-at-requires : tie.Need-shared-at-requires
 shared-at-requires c κs = let s = start (c .before) in due-readable (problem s) (filled s) (due s)
 
--- src/splitting.rt:255:24
 tail-length-at-requires : tie.Need-tail-length-at-requires
 tail-length-at-requires c κs = let s = entry (c .before) in due-readable (problem s) (filled s) (due s)
 
--- src/splitting.rt:255:15
 add-len : tie.Need-add-len
 add-len c = let s = entry (first c) in omega (arith, total-is c, due-short (problem s) (filled s) (due s), filled s .kept .few)
 
--- src/splitting.rt:256:5
 lay-out-requires : tie.Need-lay-out-requires
 lay-out-requires c κs = let x = c .before .before in
     let s = entry (first x) in
@@ -128,72 +114,60 @@ lay-out-requires c κs = let x = c .before .before in
     let Q = due s in
     (due-rooted P F Q, rw (due-entry P F Q) (omega (arith, total-is x, due-some P F Q), omega (arith, total-is x), omega (arith, total-is x, due-short P F Q, s .pre .1 .1 .1 .0 .path-long)))
 
--- src/splitting.rt:257:5
 mark-requires : tie.Need-mark-requires
 mark-requires c κs = let o = c .before .before .before .before in
     let x = measured o in
     let s = entry (first x) in
     rw (used-long s) (due-markable (problem s) (filled s) (due s) (total x) (s .args .path .now) (route o) (total-is x) (o .lay-out .ensures) (idle s) (used-long s) (omega (arith, o .lay-out .kept .1 .1 .1 .1 .1 .0, s .pre .1 .1 .1 .0 .path-long)))
 
--- src/splitting.rt:258:9
 cost-at-requires : tie.Need-cost-at-requires
 cost-at-requires c κs = let s = entry (first (measured (laid (c .before .before .before)))) in due-readable (problem s) (filled s) (due s)
 
--- src/splitting.rt:259:9
 deviations-requires : tie.Need-deviations-requires
 deviations-requires c κs = let x = c .before .before .before .before .before .before .before .before in
     let s = entry (first (measured (laid (flagged x)))) in
     (problem s, (s .pre .1 .0, (due-filled (problem s) (filled s) (due s), (along x, shared-is (first (measured (laid (flagged x))))))))
 
--- src/splitting.rt:286:5
 unmark-requires : tie.Need-unmark-requires
 unmark-requires c κs = let l = looked c .deviations .ensures .0 in rw (l .flags-long) (l, omega arith)
 
--- src/splitting.rt:220:1
 same-length : tie.Need-same-length
 same-length c = let u = c .before .before in
     let d = looked (u .before) in
     omega (arith, u .unmark .kept .1 .1 .1 .0, d .deviations .kept .1 .1 .1 .1 .1 .1 .1 .1 .1 .0, flagged (counted d) .mark .kept .1 .1 .0)
 
--- src/splitting.rt:220:1
 same-length-2 : tie.Need-same-length-2
 same-length-2 c = search needs
 
--- src/splitting.rt:220:1
 same-length-3 : tie.Need-same-length-3
 same-length-3 c = let u = c .before .before in
     let d = looked (u .before) in
     omega (arith, d .deviations .kept .1 .1 .1 .1 .1 .1 .1 .1 .1 .1 .1 .0, laid (flagged (counted d)) .lay-out .kept .1 .1 .1 .1 .1 .0)
 
--- src/splitting.rt:220:1
 same-length-4 : tie.Need-same-length-4
 same-length-4 c = search needs
 
--- src/splitting.rt:220:1
 same-length-5 : tie.Need-same-length-5
 same-length-5 c = search needs
 
--- src/splitting.rt:220:1
 same-length-6 : tie.Need-same-length-6
 same-length-6 c = search needs
 
--- src/splitting.rt:220:1
 same-length-7 : tie.Need-same-length-7
 same-length-7 c = search needs
 
--- src/splitting.rt:220:1
 same-length-8 : tie.Need-same-length-8
 same-length-8 c = search needs
 
--- src/splitting.rt:220:1
 returns : tie.Need-returns
 returns c = let u = c .before .before in
     let d = looked (u .before) in
     let x = measured (laid (flagged (counted d))) in
     let s = entry (first x) in
-    let E = d .deviations .ensures in
-    (flags-cleared (idle s .none-used) (used-long s) (rw (E .0 .flags-long) at (u .unmark .ensures)),
-      (E .1 .0, (E .1 .1 .0, E .1 .1 .1 .goes-on (rw (total-is x) (due-waiting (problem s) (filled s) (due s))))))
+    let E = d .deviations .ensures in (
+      flags-cleared (idle s .none-used) (used-long s) (rw (E .0 .flags-long) at (u .unmark .ensures)),
+      (E .1 .0, (E .1 .1 .0, E .1 .1 .1 .goes-on (rw (total-is x) (due-waiting (problem s) (filled s) (due s))))),
+    )
 
 pub split-spec : {M : Type 1} → statement M
 split-spec =

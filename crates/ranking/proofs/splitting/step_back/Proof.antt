@@ -1,3 +1,4 @@
+-- `ranking::splitting::step_back` meets its contract. Assumes nothing.
 use Prim.Native.Nat.{_+_, _-_, _<_}
 use native.Mathlib.Omega.{arith}
 use mathlib.Core.Path.{refl}
@@ -6,9 +7,6 @@ use Rattle.ranking.proofs.LaidLaws.{laid-place, laid-less}
 use borrow.Author.Needs.{needs}
 use Rattle.ranking.proofs.splitting.step_back.Statement.{statement}
 use Rattle.ranking.proofs.splitting.step_back.Tie as tie
-use Rattle.ranking.proofs.splitting.step_back.Reads as reads
-use Rattle.ranking.proofs.splitting.step_back.Lts as lts
-use Rattle.ranking.proofs.splitting.arc_weight.Reads as arc-weight-reads
 
 abbrev start : tie.After-shared-slice-known5 → tie.Start
 start c = c .before .before .before .before .before .before
@@ -16,54 +14,42 @@ start c = c .before .before .before .before .before .before
 before-last : (s : tie.Start) → getD (s .args .path .now) (s .args .d - 1) 0 < length (s .args .used .now)
 before-last s = laid-place (s .args .d - 1) (omega (arith, s .pre .1 .1)) (s .pre .1 .0)
 
--- src/splitting.rt:67:13
 mul-y : tie.Need-mul-y
 mul-y c = search needs
 
--- src/splitting.rt:67:13
 shared-slice-read-y : tie.Need-shared-slice-read-y
 shared-slice-read-y c = search needs
 
--- src/splitting.rt:68:10
 cast-used : tie.Need-cast-used
 cast-used c = let s = start c in omega (arith, laid-place (s .args .d) (omega arith) (s .pre .1 .0), s .good)
 
--- src/splitting.rt:68:5
 slice-write-used : tie.Need-slice-write-used
 slice-write-used c = let s = start c in omega (arith, laid-place (s .args .d) (omega arith) (s .pre .1 .0))
 
--- src/splitting.rt:69:48
 sub-arc-weight : tie.Need-sub-arc-weight
 sub-arc-weight c = search needs
 
--- src/splitting.rt:69:43
 mul-arc-weight : tie.Need-mul-arc-weight
 mul-arc-weight c = search needs
 
--- src/splitting.rt:69:43
 shared-slice-read-arc-weight : tie.Need-shared-slice-read-arc-weight
 shared-slice-read-arc-weight c = search needs
 
--- src/splitting.rt:69:43
 cast-arc-weight : tie.Need-cast-arc-weight
 cast-arc-weight c = omega (arith, before-last (start (c .before)), start (c .before) .good)
 
--- src/splitting.rt:69:5
 arc-weight-requires : tie.Need-arc-weight-requires
 arc-weight-requires c κs = let s = start (c .before) in
     let p = s .pre .0 in
     let v = before-last s in
     (omega (arith, p .1 .long), p .1 .within (getD (s .args .path .now) (s .args .d - 1) 0 + 1) (omega arith), p .0 .weights-long)
 
--- src/splitting.rt:69:5
 cast-result : tie.Need-cast-result
 cast-result c = search needs
 
--- src/splitting.rt:54:1
 same-length : tie.Need-same-length
 same-length c = search needs
 
--- src/splitting.rt:54:1
 returns : tie.Need-returns
 returns c = let s = start (c .before .before) in (laid-less refl (s .pre .1 .0), λ n ts A S k. c .arc-weight .ensures n ts A S k)
 
