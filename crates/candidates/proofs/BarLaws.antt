@@ -1,5 +1,4 @@
 -- The barred nodes of a family, step by step, and their flags. Assumes nothing.
--- a choice whose first branch is taken only where it is the same
 use Prim.Native.Nat.{ℕ, zero, suc, _+_, _-_, _≤_, _<_}
 use native.Mathlib.Omega.{arith}
 use mathlib.Core.Path.{_≡_, refl, sym, _∙_, ap, ap₂, subst}
@@ -11,11 +10,16 @@ use lib.ListN.{length, getD, set, take, length-set}
 use lib.Seq.{getD-set-same, getD-set-other, getD-take}
 use borrow.Author.Tests.{eqb-true, eqb-false, eq-eqb, ne-eqb, ltb-true, lt-ltb, le-ltb}
 use Rattle.terms.specs.Lists.{_∈_, elem}
-use Rattle.terms.proofs.ListLaws.{split, clash, le-or-lt, and-both, elem-mem, mem-elem, outside-cons}
-use Rattle.candidates.specs.Slots.{Entry, none}
+use Rattle.terms.proofs.ListLaws.{split, clash, and-both, elem-mem, mem-elem, outside-cons}
+use Rattle.candidates.specs.Slots.{Entry, none, entries}
+use Rattle.candidates.specs.Keeping.{put-in}
 use Rattle.candidates.specs.Routes.{size, Fits, Family}
 use Rattle.candidates.specs.Bars.{bars-upto, bars, barred, marked}
+use Rattle.candidates.proofs.EntryLaws.{length-entries, entries-take}
+use Rattle.candidates.proofs.InsertedLaws.{length-put, take-put}
+use Rattle.candidates.proofs.RouteLaws.{by-parent}
 
+-- a choice whose first branch is taken only where it is the same
 cond-same : {A : Type 0} (b : Bool) {x y : A} (z : A) → (b ≡ true → x ≡ y) → cond b x z ≡ cond b y z
 cond-same true z f = f refl
 cond-same false z f = refl
@@ -38,6 +42,10 @@ same-bars n d E F m (suc f) (suc g) r h k l s =
 pub bars-take : {n : ℕ} {E : List Entry} → Family n E → (r d k : ℕ) → r < k → r < length E → bars (take k E) r d ≡ bars E r d
 unfolding bars
 bars-take {n} {E} m r d k l h = same-bars n d E (take k E) m (suc r) (suc r) r (omega arith) (omega arith) h (λ q j. getD-take k E q none (omega arith))
+
+-- so for a workspace it does not matter how many are counted
+pub bars-entries : (n : ℕ) (w : List ℕ) (m : ℕ) → Family n (entries n w m) → (r d : ℕ) → r < m → bars (entries n w (r + 1)) r d ≡ bars (entries n w m) r d
+bars-entries n w m f r d h = ap (λ (E : List Entry). bars E r d) (entries-take n w (r + 1) m (omega arith)) ∙ bars-take f r d (r + 1) (omega arith) (omega (arith, length-entries n w m))
 
 -- the entry e at place r; the node with which it goes on itself comes first
 module _ {n : ℕ} {E : List Entry} (m : Family n E) (r d : ℕ) (h : r < length E) (e : Entry) (y : getD E r none ≡ e) where
@@ -69,24 +77,29 @@ module _ (E : List Entry) (e : Entry) where
   unfolding barred
   barred-child q z = let y : e .parent - 1 ≡ q = omega arith in rw (ne-eqb (e .parent) 0 (λ x. omega arith), y)
 
+-- only the entries before the parent count, and the parent
+pub barred-take : {n : ℕ} {E : List Entry} → Family n E → (e : Entry) (k : ℕ) → e .parent ≤ k → k ≤ length E → barred (take k E) e ≡ barred E e
+barred-take {n} {E} m e k h l =
+    by-parent e (λ z. barred-start (take k E) e z ∙ sym (barred-start E e z)) (λ q z. barred-child (take k E) e q z ∙ bars-take m q (e .shared) k (omega arith) (omega arith) ∙ sym (barred-child E e q z))
+
+-- so an entry that is put in behind the parent changes nothing
+pub barred-put : {n : ℕ} {E : List Entry} (e f : Entry) (M p : ℕ) → Family n E → Family n (put-in M p f E) → p ≤ length E → p ≤ M → e .parent ≤ p → barred (put-in M p f E) e ≡ barred E e
+barred-put {E} e f M p m m′ h k l =
+    sym (barred-take m′ e p l (omega (arith, length-put p f E h M))) ∙ ap (λ (X : List Entry). barred X e) (take-put p M p f E (omega arith) h k) ∙ barred-take m e p l h
+
 -- after the nodes that the entry e at place r shares, its next node is barred, and what was barred for itself
 pub bars-shared : {n : ℕ} {E : List Entry} → Family n E → (r : ℕ) → r < length E → (e : Entry) → getD E r none ≡ e → bars E r (e .shared) ≡ getD (e .tail) 0 0 ∷ barred E e
-bars-shared {n} {E} m r h e y = ⊎-elim (λ z. root (omega arith)) (λ z. child (e .parent - 1) (omega arith)) (le-or-lt (e .parent) 0)
+bars-shared {n} {E} m r h e y =
+    by-parent e (λ z. bars-root m r (e .shared) h e y z ∙ at-first (sym (barred-start E e z))) (λ q z. bars-parent m r (e .shared) h e y q refl z ∙ at-first (sym (barred-child E e q z)))
   where
     at-first : {l k : List ℕ} → l ≡ k → getD (e .tail) (e .shared - e .shared) 0 ∷ l ≡ getD (e .tail) 0 0 ∷ k
     at-first z = ap₂ (λ (x : ℕ) (l : List ℕ). getD (e .tail) x 0 ∷ l) (omega arith) z
-
-    root : e .parent ≡ 0 → bars E r (e .shared) ≡ getD (e .tail) 0 0 ∷ barred E e
-    root z = bars-root m r (e .shared) h e y z ∙ at-first (sym (barred-start E e z))
-
-    child : (q : ℕ) → e .parent ≡ q + 1 → bars E r (e .shared) ≡ getD (e .tail) 0 0 ∷ barred E e
-    child q z = bars-parent m r (e .shared) h e y q refl z ∙ at-first (sym (barred-child E e q z))
 
 -- ---- barred nodes are nodes; b bounds the places
 nodes : {n : ℕ} {E : List Entry} → Family n E → (b r d : ℕ) {x : ℕ} → r < b → r < length E → (e : Entry) → getD E r none ≡ e → e .shared ≤ d → d < size e → x ∈ bars E r d → x ≤ n
 nodes m zero r d h k e y lo hi i = absurd (omega arith)
 nodes {n} {E} m (suc b) r d {x} h k e y lo hi i =
-    ⊎-elim (λ z. ⊎-elim (λ o. single (bars-root m r d k e y (omega arith))) (λ o. double (e .parent - 1) (eqb-true d (e .shared) z) (omega arith) (λ l. nodes m b (e .parent - 1) d (omega (arith, f .known)) l (getD E (e .parent - 1) none) refl)) (le-or-lt (e .parent) 0))
+    ⊎-elim (λ z. by-parent e (λ o. single (bars-root m r d k e y o)) (λ q o. double q (eqb-true d (e .shared) z) o (λ l. nodes m b q d (omega (arith, f .known)) l (getD E q none) refl)))
     (λ z. single (bars-own m r d k e y (eqb-false d (e .shared) z))) (split (eqb d (e .shared)))
   where
     f : Fits n E r e

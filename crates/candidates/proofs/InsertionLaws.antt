@@ -1,22 +1,22 @@
 -- How the order changes where an entry is put in. Assumes nothing.
--- ---- no entries
 use Prim.Native.Nat.{ℕ, _+_, _*_, _-_, _/_, _%_, _≤_, _<_, min}
 use native.Mathlib.Omega.{arith}
-use native.Mathlib.Nat.{mul-le-mul-right, eq-or-lt-of-le}
+use native.Mathlib.Nat.{mul-le-mul-right}
 use mathlib.Core.Path.{_≡_, refl, sym, _∙_, ap, subst}
-use mathlib.Core.Logic.{_⊎_, inl, inr, ⊎-elim}
+use mathlib.Core.Logic.{_⊎_, ⊎-elim}
 use mathlib.Core.List.{List, [], _∷_, _++_}
 use lib.ListN.{length, getD, take, drop, set}
 use lib.Seq.{drop-set-lt, take-at, drop-at, length-take-le, ext-getD, getD-take}
 use borrow.Rule.Slice.PartMut.{putMid, postOf, take-put, drop-put}
 use Rattle.terms.proofs.ListLaws.{le-or-lt}
-use Rattle.candidates.specs.Slots.{Entry, none, order, slot, decode, entry-at, entries}
+use Rattle.candidates.specs.Slots.{Entry, entry, none, order, slot, decode, entry-at, entries}
 use Rattle.candidates.specs.Keeping.{Kept, From, before, moved-up, moved-on, behind, Shifted, Put, Inserted, inserted, put-in}
 use Rattle.candidates.proofs.PartLaws.{high-drop}
 use Rattle.candidates.proofs.EntryLaws.{length-entries, entries-at}
-use Rattle.candidates.proofs.InsertedLaws.{length-put, inserted-before, inserted-at, inserted-after}
+use Rattle.candidates.proofs.InsertedLaws.{by-place, length-put, inserted-before, inserted-at, inserted-after}
 use Rattle.candidates.proofs.SlotLaws.{slot-end, order-new, order-other, slot-same, order-beside, slot-beside}
 
+-- ---- no entries
 pub none-kept : {n M : ℕ} {w : List ℕ} → n ≤ 200 → M * (n + 16) ≤ length w → ((p : ℕ) → p < M → order n w p ≡ p) → Kept n M w 0
 none-kept few room same = record {
   few = few;
@@ -76,15 +76,15 @@ module _ {n last : ℕ} {w : List ℕ} where
 
 -- ---- the words of an entry
 -- five words and a tail make an entry
-written : (a b c d : ℕ) (l t m : List ℕ) → 10 ≤ length l → decode (a ∷ b ∷ c ∷ d ∷ length t ∷ take 10 l ++ (t ++ m)) ≡ record { cost = a + 4294967296 * b; shared = c; parent = d; tail = t }
+written : (a b c d : ℕ) (l t m : List ℕ) → 10 ≤ length l → decode (a ∷ b ∷ c ∷ d ∷ length t ∷ take 10 l ++ (t ++ m)) ≡ entry (a + 4294967296 * b) c d t
 unfolding decode
 written a b c d l t m h =
-    ap (λ (x : List ℕ). record { cost = a + 4294967296 * b; shared = c; parent = d; tail = x }) (ap (take (length t)) (drop-at (take 10 l) (t ++ m) 10 (length-take-le 10 l h)) ∙ take-at t m (length t) refl)
+    ap (λ (x : List ℕ). entry (a + 4294967296 * b) c d x) (ap (take (length t)) (drop-at (take 10 l) (t ++ m) 10 (length-take-le 10 l h)) ∙ take-at t m (length t) refl)
 
 -- stored one after the other
 stored : (a b c d : ℕ) (l t m : List ℕ) → 15 ≤ length l
     → let l′ = take 15 (set (set (set (set (set l 0 a) 1 b) 2 c) 3 d) 4 (length t)) ++ (t ++ m) in
-    (decode l′ ≡ record { cost = a + 4294967296 * b; shared = c; parent = d; tail = t }) × (getD l′ 4 0 ≡ length t)
+    (decode l′ ≡ entry (a + 4294967296 * b) c d t) × (getD l′ 4 0 ≡ length t)
 stored a b c d [] t m h = absurd (omega arith)
 stored a b c d (x ∷ []) t m h = absurd (omega arith)
 stored a b c d (x ∷ y ∷ []) t m h = absurd (omega arith)
@@ -94,7 +94,7 @@ stored a b c d (x ∷ y ∷ z ∷ u ∷ v ∷ l) t m h = (written a b c d l t m 
 
 pub stored-entry : (v c d : ℕ) (l t t′ m : List ℕ) → 15 ≤ length l → t′ ≡ t
     → let l′ = take 15 (set (set (set (set (set l 0 (v % 4294967296)) 1 (v / 4294967296)) 2 c) 3 d) 4 (length t)) ++ (t′ ++ m) in
-    (decode l′ ≡ record { cost = v; shared = c; parent = d; tail = t }) × (getD l′ 4 0 ≡ length t)
+    (decode l′ ≡ entry v c d t) × (getD l′ 4 0 ≡ length t)
 stored-entry v c d l t t′ m h e =
     let z : v % 4294967296 + 4294967296 * (v / 4294967296) ≡ v = omega arith in
     rw e (rw z at (stored (v % 4294967296) (v / 4294967296) c d l t m h))
@@ -125,7 +125,7 @@ unfolding entry-at
 put-new {n} {place} {last} {i} {e} {w} {w₁} {w₂} z s low high new whole = record {
   order-from = from;
   other-slots = λ j d. slot-beside n w₁ w₂ i low high j (λ y. d (y ∙ z)) ∙ s .slots j;
-  new = entry;
+  new = here;
   new-whole = subst (λ (x : ℕ). getD (slot n w₂ x) 4 0 ≡ length (e .tail)) z whole;
   beyond = λ k h j. high-drop w₁ w₂ (i * (n + 16) + (n + 16)) high k (rw z j) ∙ s .beyond k h;
 }
@@ -133,18 +133,15 @@ put-new {n} {place} {last} {i} {e} {w} {w₁} {w₂} z s low high new whole = re
     from : (p q : ℕ) → From place last p q → order n w₂ p ≡ order n w q
     from p q f = order-beside n w₁ w₂ i low high p ∙ s .order-from p q f
 
-    entry : entry-at n w₂ place ≡ e
-    entry = ap (λ (x : ℕ). decode (slot n w₂ x)) (from place last (moved-up refl refl) ∙ sym z) ∙ new
+    here : entry-at n w₂ place ≡ e
+    here = ap (λ (x : ℕ). decode (slot n w₂ x)) (from place last (moved-up refl refl) ∙ sym z) ∙ new
 
 -- ---- from where the slots come
 module _ {place last : ℕ} (low : place ≤ last) where
   -- each place below M has one from a place below M
   pub from-place : {M : ℕ} (p : ℕ) → last < M → p < M → (q : ℕ) × From place last p q × (q < M)
-  from-place {M} p h k = ⊎-elim (λ a. ⊎-elim (λ b. up b (eq-or-lt-of-le a)) (λ b. (p, behind b refl, k)) (le-or-lt p last)) (λ a. (p, before a refl, k)) (le-or-lt place p)
-    where
-      up : p ≤ last → (place ≡ p) ⊎ (place < p) → (q : ℕ) × From place last p q × (q < M)
-      up b (inl e) = (last, moved-up (sym e) refl, h)
-      up b (inr a) = (p - 1, moved-on (omega arith) (omega arith) (omega arith), omega arith)
+  from-place p h k =
+      by-place place p (λ a. (p, before a refl, k)) (λ z. (last, moved-up z refl, h)) (λ q a z. ⊎-elim (λ b. (q, moved-on a (omega arith) z, omega arith)) (λ b. (p, behind b refl, k)) (le-or-lt p last))
 
   -- and no two the same
   pub from-once : {p q r s : ℕ} → From place last p r → From place last q s → r ≡ s → p ≡ q
@@ -178,7 +175,7 @@ module _ {n M place last count : ℕ} {e : Entry} {w w′ : List ℕ} (k : Kept 
 
   -- to show something of each place up to `last`: of the new one, and of the others
   each : (P : ℕ → Type 0) → P place → ((p q : ℕ) → From place last p q → q < last → P p) → (p : ℕ) → p < last + 1 → P p
-  each P new old p h = ⊎-elim (λ a. ⊎-elim (λ z. subst P z new) (λ b. old p (p - 1) (moved-on (omega arith) (omega arith) (omega arith)) (omega arith)) (eq-or-lt-of-le a)) (λ a. old p p (before a refl) (omega arith)) (le-or-lt place p)
+  each P new old p h = by-place place p (λ a. old p p (before a refl) (omega arith)) (λ z. subst P (sym z) new) (λ q a z. old p q (moved-on a (omega arith) z) (omega arith))
 
   abbrev E : List Entry
   E = entries n w count

@@ -5,9 +5,9 @@ pub mod RouteLaws
 pub mod FamilyLaws
 pub mod RootedLaws
 pub mod BarLaws
+pub mod PlacingLaws
 -- for the proofs of this crate
 mod PartLaws
 mod SlotLaws
 mod InsertionLaws
 mod LayingLaws
-mod PlacingLaws

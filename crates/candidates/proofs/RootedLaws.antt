@@ -1,5 +1,4 @@
 -- The entry at a place of a workspace, and its route. Assumes nothing.
--- what is rooted among more entries
 use Prim.Native.Nat.{ℕ, _+_, _≤_, _<_}
 use native.Mathlib.Omega.{arith}
 use mathlib.Core.Path.{_≡_, sym, _∙_, ap, subst}
@@ -9,11 +8,19 @@ use lib.Seq.{getD-take}
 use Rattle.terms.specs.Paths.{Route}
 use Rattle.candidates.specs.Slots.{Entry, none, entry-at, entries}
 use Rattle.candidates.specs.Keeping.{Readable}
-use Rattle.candidates.specs.Routes.{beginning, route, routes, size, Fits, Family, route-at, Rooted}
+use Rattle.candidates.specs.Routes.{beginning, route, routes, size, Fits, Family, ByRanked, route-at, Rooted}
 use Rattle.candidates.proofs.EntryLaws.{readable-less, length-entries, entries-at, entries-take}
 use Rattle.candidates.proofs.RouteLaws.{routes-take, routes-at, beginning-start, beginning-parent}
 use Rattle.candidates.proofs.FamilyLaws.{family-take, beginning-length}
 
+-- nothing is kept yet
+pub family-none : (n : ℕ) (w : List ℕ) → Family n (entries n w 0)
+family-none n w = record { fits = λ p h. absurd (omega (arith, length-entries n w 0)) }
+
+pub ranked-none : (j n : ℕ) (w : List ℕ) → ByRanked j (entries n w 0)
+ranked-none j n w = record { ranked = λ p h. absurd (omega (arith, length-entries n w 0)) }
+
+-- each entry of a family is rooted
 pub family-rooted : {n m : ℕ} {w : List ℕ} (p : ℕ) → p < m → Readable n w m → Family n (entries n w m) → Rooted n w p
 family-rooted {n} {m} {w} p h r f = record { readable = readable-less (p + 1) (omega arith) r; family = subst (Family n) (sym (entries-take n w (p + 1) m (omega arith))) (family-take (p + 1) f) }
 

@@ -8,13 +8,12 @@ ghost use Rattle.candidates.specs.Keeping.{Readable};
 ghost use Rattle.candidates.specs.Routes.{Family, Rooted};
 ghost use Rattle.candidates.specs.Placing.{ahead, Placed};
 use crate::routes::lay_out;
+use crate::routes::length_at;
 use crate::slots::cost_at;
-use crate::slots::shared_at;
-use crate::slots::tail_length_at;
 
 // Whether the first count nodes of p come before the nodes q: the first place where they differ
 // decides.
-fn comes_first(p: &[u16], count: usize, q: &[u16]) -> bool
+fn nodes_before(p: &[u16], count: usize, q: &[u16]) -> bool
     requires { ⌜ count ≤ length (now p) ⌝ }
     ensures { λ r. ⌜ r ≡ lex (take count (now (p .entry))) (now (q .entry)) ⌝ }
 {
@@ -38,7 +37,7 @@ fn comes_first(p: &[u16], count: usize, q: &[u16]) -> bool
 
 // Whether the entry at a place comes before one with that cost and that route. Its route is laid
 // out, in scratch, only where the costs are equal.
-fn comes_before(
+fn entry_before(
     work: &[u32],
     n: usize,
     place: usize,
@@ -57,9 +56,9 @@ fn comes_before(
     if cost < own {
         return false;
     }
-    let count = shared_at(work, n, place) + tail_length_at(work, n, place);
+    let count = length_at(work, n, place);
     lay_out(work, n, place, count, start, scratch);
-    comes_first(scratch, count, route)
+    nodes_before(scratch, count, route)
 }
 
 // The place from `from` on at which an entry with that cost and that route stands, found by halving.
@@ -81,7 +80,7 @@ pub fn place_for(
     let mut high = count;
     while low < high {
         let middle = low + (high - low) / 2;
-        if comes_before(work, n, middle, cost, route, start, scratch) {
+        if entry_before(work, n, middle, cost, route, start, scratch) {
             low = middle + 1;
         } else {
             high = middle;

@@ -69,6 +69,10 @@ cut-full (suc k) m l h c e =
     let long : k * m + m ≤ length l = rw suc-mul at h in
     ⊎-elim (λ (q : c ≡ take m l). rw q (length-take-le m l (omega arith), λ w o. take-mem m l o)) (λ o. let r = cut-full k m (drop m l) (omega (arith, length-drop m l)) c o in (r .0, λ w u. drop-mem m l (r .1 w u))) (List·Memᴰ·cases-cons e)
 
+pub length-columns : (b : List ℕ) → length (netOf b .columns) ≡ column-count b
+unfolding netOf
+length-columns b = length-cut (column-count b) (arc-count b) (cost-list b)
+
 -- ---- the promise
 pub accepted-network : (b : List ℕ) → image-fault b ≡ sound → Admitted (netOf b)
 unfolding image-fault lists-fault netOf cost-list costs-in

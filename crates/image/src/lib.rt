@@ -18,5 +18,6 @@ pub use checking::check;
 pub use parts::read_arcs;
 pub use parts::read_column;
 pub use refusal::Refusal;
+pub use rows::is_node;
 pub use unpacking::Unpacked;
 pub use unpacking::unpack;

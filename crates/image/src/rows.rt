@@ -25,7 +25,7 @@ pub fn in_range(n: u32, m: u32, k: u32) -> bool
 }
 
 // Whether v is one of the nodes 1 to n.
-fn is_node(n: u32, v: u32) -> bool
+pub fn is_node(n: u32, v: u32) -> bool
     ensures { λ r. ⌜ r ≡ is-node n v ⌝ }
 {
     if v < 1 {

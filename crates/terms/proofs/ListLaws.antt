@@ -133,6 +133,12 @@ module _ {A B : Type 0} (f : A → List B) where
       later : (a : A) × (a ∈ l) × (b ∈ f a) → (a : A) × (a ∈ x ∷ l) × (b ∈ f a)
       later h = (h .0, List·Memᴰ·tail (h .1), h .2)
 
+-- ---- a function of each of the first n
+pub take-map : {A C : Type 0} (f : A → C) (n : ℕ) (l : List A) → map f (take n l) ≡ take n (map f l)
+take-map f zero l = refl
+take-map f (suc n) [] = refl
+take-map f (suc n) (x ∷ l) = ap (λ k. f x ∷ k) (take-map f n l)
+
 -- ---- members and places: the first n are the elements at places below n
 pub place-mem : {A : Type 0} (n : ℕ) (l : List A) (d : A) (i : ℕ) → i < n → i < length l → getD l i d ∈ take n l
 place-mem zero l d i h k = absurd (omega arith)

@@ -125,10 +125,10 @@ abbrev pub Within : ℕ → Graph → Type 0
 Within n g = (v h : ℕ) → linked g v h ≡ true → (1 ≤ h) × (h ≤ n)
 
 -- the nodes of 1 to n outside seen: each step of a path has one fewer
-unfoldable unseen : ℕ → List ℕ → List ℕ
+unfoldable pub unseen : ℕ → List ℕ → List ℕ
 unseen n seen = keep (λ x. not (elem x seen)) (numbers 1 n)
 
-unseen-lt : (n : ℕ) (seen : List ℕ) (v : ℕ) → 1 ≤ v → v ≤ n → elem v seen ≡ false → length (unseen n (v ∷ seen)) < length (unseen n seen)
+pub unseen-lt : (n : ℕ) (seen : List ℕ) (v : ℕ) → 1 ≤ v → v ≤ n → elem v seen ≡ false → length (unseen n (v ∷ seen)) < length (unseen n seen)
 unfolding unseen elem
 unseen-lt n seen v lo hi u =
     keep-lt (λ (x : ℕ). not (elem x seen)) (λ (x : ℕ). not (eqb x v || elem x seen)) (λ x. nor-right (eqb x v) (elem x seen)) (mem-numbers 1 n v lo (omega arith)) (rw u) (rw (eq-eqb v v refl))

@@ -13,7 +13,7 @@ use Rattle.terms.specs.Lists.{_∈_, keep}
 use Rattle.terms.specs.Network.{Graph}
 use Rattle.terms.specs.Paths.{Route, Path, cost, paths}
 use Rattle.terms.specs.Ranking.{by-first, lex, before, insert, sort, ranked}
-use Rattle.terms.proofs.ListLaws.{split, clash, by-cond, or-cases, or-false, and-both, mem-keep, keep-mem}
+use Rattle.terms.proofs.ListLaws.{split, clash, by-cond, or-cases, or-false, and-both, mem-keep, keep-mem, getD-mem}
 use Rattle.terms.proofs.PathLaws.{Within, listed-path, path-listed}
 
 -- ---- by-first, of which both orders are made: a smaller number, or an equal one and the rest
@@ -185,6 +185,13 @@ module _ (g : Graph) where
 
   pub first-kept : (f : Route → Bool) {p q : Route} {l k : List Route} → Rising l → keep f l ≡ p ∷ k → q ∈ l → f q ≡ true → NoLater p q
   first-kept f {p} {q} {l} {k} r e m t = head-first (subst Rising e (keep-rising f r)) (subst (λ (z : List Route). q ∈ z) e (mem-keep f m t))
+
+  -- its places are in order
+  pub rising-at : (i j : ℕ) {l : List Route} → Rising l → i < j → j < length l → before g (getD l i []) (getD l j []) ≡ true
+  rising-at i zero r h k = absurd (omega arith)
+  rising-at i (suc j) none-left h k = absurd (omega arith)
+  rising-at zero (suc j) (first {p} {l} a r) h k = a (getD l j []) (getD-mem l [] j (omega arith))
+  rising-at (suc i) (suc j) (first a r) h k = rising-at i j r (omega arith) (omega arith)
 
   -- a member that comes before the one at place j is among the first j; each other is no earlier than that one
   pub rising-earlier : (j : ℕ) {l : List Route} {q : Route} → Rising l → j < length l → q ∈ l → before g q (getD l j []) ≡ true → q ∈ take j l

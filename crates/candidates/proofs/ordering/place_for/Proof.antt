@@ -1,5 +1,6 @@
--- `candidates::ordering::place_for` meets its contract. Assumes nothing.
+-- `ordering::place_for` halves the places that are left. The loop: the entry below `low` comes before the new one, that at `high` does not. Assumes nothing.
 use Prim.Native.Nat.{ℕ, _+_, _-_, _/_, _≤_, _<_}
+use native.Mathlib.Omega.{arith}
 use mathlib.Core.Path.{_≡_, refl, sym, _∙_}
 use mathlib.Core.Bool.{true, false}
 use lib.ListN.{length}
@@ -8,7 +9,6 @@ use Rattle.candidates.specs.Placing.{ahead}
 use Rattle.candidates.proofs.EntryLaws.{length-entries}
 use Rattle.candidates.proofs.RootedLaws.{family-rooted}
 use Rattle.candidates.proofs.PlacingLaws.{ahead-entries}
-use native.Mathlib.Omega.{arith}
 use Rattle.candidates.proofs.ordering.place_for.Statement.{statement}
 use Rattle.candidates.proofs.ordering.place_for.Tie as tie
 
@@ -28,11 +28,11 @@ abbrev middle : tie.At-loop Inv-loop μ-loop → ℕ
 middle c = c .loop .low + (c .loop .high - c .loop .low) / 2
 
 -- what the test says of that place
-tested : (c : tie.After-comes-before Inv-loop μ-loop) → let l = c .before .before .before in let a = entry l .args in c .comes-before .result ≡ ahead (a .start) (entries (a .n) (a .work .now) (a .count)) (middle l) (a .cost) (a .route .now)
+tested : (c : tie.After-entry-before Inv-loop μ-loop) → let l = c .before .before .before in let a = entry l .args in c .entry-before .result ≡ ahead (a .start) (entries (a .n) (a .work .now) (a .count)) (middle l) (a .cost) (a .route .now)
 tested c =
     let l = c .before .before .before in
     let a = entry l .args in
-    c .comes-before .ensures ∙ ahead-entries (a .start) (a .n) (a .work .now) (middle l) (a .count) (a .cost) (a .route .now) (omega arith)
+    c .entry-before .ensures ∙ ahead-entries (a .start) (a .n) (a .work .now) (middle l) (a .count) (a .cost) (a .route .now) (omega arith)
 
 loop-holds : tie.Need-loop-holds Inv-loop μ-loop
 loop-holds c = let s = c .before .before .before in (omega arith, s .pre .1 .0, omega arith, refl, (λ q h z. absurd (omega arith)), λ h. absurd (omega arith))
@@ -43,8 +43,8 @@ sub-middle c = omega arith
 add-middle : tie.Need-add-middle Inv-loop μ-loop
 add-middle c = omega arith
 
-comes-before-requires : tie.Need-comes-before-requires Inv-loop μ-loop
-comes-before-requires c κs = let l = c .before .before in
+entry-before-requires : tie.Need-entry-before-requires Inv-loop μ-loop
+entry-before-requires c κs = let l = c .before .before in
     let s = entry l in
     (family-rooted (middle l) (omega arith) (s .pre .0 .0) (s .pre .0 .1), omega (arith, s .pre .1 .1))
 
@@ -60,7 +60,7 @@ loop-again c = let b = c .before .before .before in
     let a = entry l .args in
     let i = l .loop .inv in
     let t : ahead (a .start) (entries (a .n) (a .work .now) (a .count)) (middle l) (a .cost) (a .route .now) ≡ true = sym (tested b) ∙ c .if1 .taken in
-    (omega arith, omega arith, i .2, omega (arith, b .comes-before .kept), (λ q h z. let y : q ≡ middle l = omega arith in rw y t), i .5)
+    (omega arith, omega arith, i .2, omega (arith, b .entry-before .kept), (λ q h z. let y : q ≡ middle l = omega arith in rw y t), i .5)
 
 loop-less-2 : tie.Need-loop-less-2 Inv-loop μ-loop
 loop-less-2 c = omega arith
@@ -69,7 +69,7 @@ loop-again-2 : tie.Need-loop-again-2 Inv-loop μ-loop
 loop-again-2 c = let b = c .before .before .before in
     let l = b .before .before .before in
     let i = l .loop .inv in
-    (i .0, omega arith, omega arith, omega (arith, b .comes-before .kept), i .4, λ h. sym (tested b) ∙ c .if1 .left)
+    (i .0, omega arith, omega arith, omega (arith, b .entry-before .kept), i .4, λ h. sym (tested b) ∙ c .if1 .left)
 
 same-length : tie.Need-same-length Inv-loop μ-loop
 same-length c = c .before .loop .inv .3
@@ -90,7 +90,7 @@ place-for-spec =
     loop-holds
     sub-middle
     add-middle
-    comes-before-requires
+    entry-before-requires
     add-low
     loop-less
     loop-again

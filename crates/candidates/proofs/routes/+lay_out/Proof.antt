@@ -1,16 +1,16 @@
--- `candidates::routes::+lay_out` meets its contract. Assumes nothing.
+-- The proof of the cycle of calls {lay_out}. The measure is the place: the parent's is lower. Assumes nothing.
 use Prim.Native.Nat.{ℕ, _+_, _-_, _<_, min}
 use native.Mathlib.Omega.{arith}
 use mathlib.Core.Path.{_≡_, sym, _∙_, ap}
 use mathlib.Core.Logic.{⊎-elim}
 use mathlib.Core.List.{List, _++_}
 use lib.ListN.{length, take, drop, length-set}
+use borrow.Fn.Kinds.{In}
+use borrow.Fn.PlainCycle.{Measures, is, falls, and}
 use Rattle.candidates.specs.Slots.{entry-at}
 use Rattle.candidates.specs.Routes.{route-at}
 use Rattle.candidates.proofs.RootedLaws.{rooted-fits, parent-rooted, parent-lower, leaves-early, taken, taken-start, taken-parent, taken-length, route-is}
 use Rattle.candidates.proofs.LayingLaws.{both-laid, start-laid, parent-laid}
-use borrow.Fn.Kinds.{In}
-use borrow.Fn.PlainCycle.{Measures, is, falls, and}
 use Rattle.candidates.proofs.routes.+lay_out.{statement}
 use Rattle.candidates.proofs.routes.+lay_out.Tie.{close}
 use Rattle.candidates.proofs.routes.lay_out.Reads as lay-out

@@ -1,4 +1,5 @@
--- the start of the function, from after the call of `entry_start`
+-- `routes::lay_tail` copies a part of the workspace, which is the beginning of the tail, to a part of the path. Assumes nothing.
+use borrow.Author.Needs.{needs}
 use Prim.Native.Nat.{ℕ, _+_, _-_, _≤_, _<_}
 use native.Mathlib.Omega.{arith}
 use mathlib.Core.Path.{_≡_, _∙_}
@@ -8,10 +9,10 @@ use borrow.Rule.Slice.PartMut.{mid-len}
 use Rattle.candidates.specs.Slots.{entry-at}
 use Rattle.candidates.proofs.EntryLaws.{tail-room, tail-words}
 use Rattle.candidates.proofs.LayingLaws.{no-tail, tail-laid}
-use borrow.Author.Needs.{needs}
 use Rattle.candidates.proofs.routes.lay_tail.Statement.{statement}
 use Rattle.candidates.proofs.routes.lay_tail.Tie as tie
 
+-- the start of the function, from after the call of `entry_start`
 abbrev entry : tie.After-entry-start → tie.Start
 entry c = c .before .before .before .before
 

@@ -1,9 +1,9 @@
--- `candidates::routes::load` meets its contract. Assumes nothing.
+-- `routes::load` copies words. The loop: the first i are copied. Assumes nothing.
 use Prim.Native.Nat.{_≤_, _-_}
+use native.Mathlib.Omega.{arith}
 use mathlib.Core.Path.{_≡_, refl, sym, _∙_}
 use lib.ListN.{length, take, length-set}
 use Rattle.candidates.proofs.PartLaws.{copy-more, copy-all}
-use native.Mathlib.Omega.{arith}
 use Rattle.candidates.proofs.routes.load.Statement.{statement}
 use Rattle.candidates.proofs.routes.load.Tie as tie
 

@@ -1,0 +1,66 @@
+-- `measuring::regret` gives the figure and the worst column where no row applies. Assumes nothing.
+use Prim.Native.Nat.{ℕ}
+use mathlib.Core.Path.{_≡_, sym, _∙_, ap, ap₂}
+use mathlib.Core.List.{[], _∷_}
+use borrow.Author.Needs.{needs}
+use Rattle.image.specs.Outcome.{sound, gives}
+use Rattle.image.specs.Calls.{sizes}
+use Rattle.image.specs.Answers.{checked, refused}
+use Rattle.image.proofs.OutcomeLaws.{refuses-fault, outcome-fault, outcome-sound}
+use Rattle.routes.specs.Calls.{regret-fault, regret-outcome}
+use Rattle.routes.specs.Decoded.{Accepted}
+use Rattle.routes.proofs.RowLaws.{given-sizes, RegretSound, regret-sound}
+use Rattle.routes.proofs.measuring.regret.Statement.{statement}
+use Rattle.routes.proofs.measuring.regret.Tie as tie
+
+check-regret-requires : tie.Need-check-regret-requires
+check-regret-requires c κs = search needs
+
+enum-known-answer : tie.Need-enum-known-answer
+enum-known-answer c = search needs
+
+enum-told : tie.Need-enum-told
+enum-told c = search needs
+
+refusal-requires : tie.Need-refusal-requires
+refusal-requires c κs = search needs
+
+returns : tie.Need-returns
+unfolding regret-outcome
+returns c = let t = c .before in
+    let k = t .before .before in
+    let a = k .before .before .before .args in
+    let e = refuses-fault (regret-fault (a .image .now) (a .start) (a .goal) (a .nodes .now)) (sizes (a .image .now)) (sym (ap checked (t .enum-told .given .1)) ∙ k .check-regret .ensures) in
+    ap refused (c .refusal .ensures _ (t .enum-told .given .1)) ∙ sym (outcome-fault _ e)
+
+-- where its rows give sizes, none of them applies and they are the image's
+abbrev start : tie.After-answer → tie.Start
+start c = c .before .before .before .before .before
+
+passes : (c : tie.After-answer) → (regret-fault (start c .args .image .now) (start c .args .start) (start c .args .goal) (start c .args .nodes .now) ≡ sound) × Accepted (start c .args .image .now) (c .answer .given .0 .0 .n) (c .answer .given .0 .0 .m) (c .answer .given .0 .0 .k)
+passes c = given-sizes _ (λ e. regret-sound _ _ _ _ e .accepted) (sym (ap checked (c .answer .given .1)) ∙ c .before .before .check-regret .ensures)
+
+given : (c : tie.After-answer) → RegretSound (start c .args .image .now) (start c .args .start) (start c .args .goal) (start c .args .nodes .now)
+given c = regret-sound _ _ _ _ (passes c .0)
+
+greatest-regret-requires : tie.Need-greatest-regret-requires
+greatest-regret-requires c κs = let a = c .before in
+    let g = given a in
+    (passes a .1, (g .ends, g .path))
+
+returns-2 : tie.Need-returns-2
+unfolding regret-outcome
+returns-2 c = let e = c .greatest-regret .ensures in
+    ap₂ (λ (f w : ℕ). gives (f ∷ w ∷ [])) (e .0) (e .1) ∙ sym (outcome-sound _ (passes (c .before .before) .0))
+
+pub regret-spec : {M : Type 1} → statement M
+regret-spec =
+    tie.close
+    (tie.spec
+    check-regret-requires
+    enum-known-answer
+    enum-told
+    refusal-requires
+    returns
+    greatest-regret-requires
+    returns-2)

@@ -1,0 +1,25 @@
+-- What the answers of Label, Shortest and Regret say: 01's values, or the refusal's number and place. Assumes nothing.
+use mathlib.Core.List.{[], _∷_}
+use Rattle.image.specs.Outcome.{Outcome, gives}
+use Rattle.image.specs.Answers.{refused}
+use Rattle.routes.specs.declared.labelling.Labelled.{Labelled}
+use Rattle.routes.specs.declared.labelling.Labelled.the-variants as label
+use Rattle.routes.specs.declared.finding.Routed.{Routed}
+use Rattle.routes.specs.declared.finding.Routed.the-variants as shortest
+use Rattle.routes.specs.declared.measuring.Regretted.{Regretted}
+use Rattle.routes.specs.declared.measuring.Regretted.the-variants as regret
+
+-- Label gives no value
+abbrev pub labelled : Labelled → Outcome
+labelled label.Written = gives []
+labelled (label.Refused r) = refused r
+
+-- length and cost
+abbrev pub routed : Routed → Outcome
+routed (shortest.Path len cost) = gives (len ∷ cost ∷ [])
+routed (shortest.Refused r) = refused r
+
+-- figure and worst column
+abbrev pub regretted : Regretted → Outcome
+regretted (regret.Measured m) = gives (m .figure ∷ m .worst ∷ [])
+regretted (regret.Refused r) = refused r

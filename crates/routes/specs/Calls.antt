@@ -1,0 +1,109 @@
+-- Document 01, calls 2 to 4: what Label, Shortest and Regret come to, for every image, list, number and length of a lent slice. Assumes nothing.
+use Prim.Native.Nat.{ℕ, zero}
+use mathlib.Core.Bool.{Bool, not, _&&_, _||_}
+use mathlib.Core.List.{List, [], _∷_, map}
+use mathlib.Core.Option.{Option, none, some}
+use lib.Dec.{leb, ltb, eqb}
+use lib.ListN.{length, getD}
+use Rattle.terms.specs.Lists.{largest, numbers}
+use Rattle.terms.specs.Network.{Graph, Net, column}
+use Rattle.terms.specs.Paths.{Route, cost, paths}
+use Rattle.terms.specs.Ranking.{ranked}
+use Rattle.terms.specs.Regret.{labels, figure, worst}
+use Rattle.terms.specs.Regret as regret
+use Rattle.image.specs.Outcome.{Fault, sound, fault, row, _then_, Outcome, outcome}
+use Rattle.image.specs.Rows.{is-node}
+use Rattle.image.specs.Layout.{netOf}
+use Rattle.image.specs.Calls.{image-fault}
+
+-- ---- rows that calls share
+-- row 10: "start or goal outside 1..n, or equal"; Label has no start
+unfoldable pub goal-row : Net → ℕ → Fault
+goal-row net t = row 10 0 (not (is-node (net .nodes) t))
+
+unfoldable pub ends-row : Net → ℕ → ℕ → Fault
+ends-row net s t = row 10 0 (not (is-node (net .nodes) s && is-node (net .nodes) t) || eqb s t)
+
+-- row 11: "column outside 1..k"
+unfoldable pub column-row : Net → ℕ → Fault
+column-row net u = row 11 0 (not (leb 1 u && leb u (length (net .columns))))
+
+-- row 13, for a slice of this length that needs so many places
+unfoldable pub room-row : ℕ → ℕ → Fault
+room-row room need = row 13 0 (ltb room need)
+
+-- row 14: "the node list is no path", with its place
+unfoldable pub list-row : Option ℕ → Fault
+list-row none = sound
+list-row (some place) = fault 14 place
+
+-- row 15: "no path exists"
+unfoldable pub no-path-row : ℕ → Graph → ℕ → ℕ → Fault
+no-path-row n g s t = row 15 0 (eqb (length (paths n g s t)) 0)
+
+-- row 16: "a path cost exceeds 4,000,000,000"
+unfoldable pub dearest : ℕ → Graph → ℕ → ℕ → ℕ
+dearest n g s t = largest (map (cost g) (paths n g s t))
+
+unfoldable pub cost-row : ℕ → Fault
+cost-row c = row 16 0 (ltb 4000000000 c)
+
+-- ---- Label: column u, goal t; "writes for each node the least cost to the goal, or 4,294,967,295 if it can't be reached, in n 32-bit places"
+unfoldable pub label-fault : List ℕ → ℕ → ℕ → ℕ → Fault
+label-fault b u t room =
+    image-fault b
+    then goal-row (netOf b) t
+    then column-row (netOf b) u
+    then room-row room (netOf b .nodes)
+    then cost-row (largest (map (λ v. dearest (netOf b .nodes) (column (netOf b) u) v t) (numbers 1 (netOf b .nodes))))
+
+unfoldable pub label-outcome : List ℕ → ℕ → ℕ → ℕ → Outcome
+label-outcome b u t room = outcome (label-fault b u t room) []
+
+-- the labels that are written
+unfoldable pub labels-of : List ℕ → ℕ → ℕ → List ℕ
+labels-of b u t = labels (netOf b .nodes) (column (netOf b) u) t
+
+-- ---- Shortest: column u, start s, goal t; "writes the first path of the ranking order, gives length and cost"
+-- the rows before 15
+unfoldable pub shortest-rows : List ℕ → ℕ → ℕ → ℕ → ℕ → Fault
+shortest-rows b u s t room =
+    image-fault b
+    then ends-row (netOf b) s t
+    then column-row (netOf b) u
+    then room-row room (netOf b .nodes)
+
+-- rows 15 and 16
+unfoldable pub path-rows : List ℕ → ℕ → ℕ → ℕ → Fault
+path-rows b u s t =
+    no-path-row (netOf b .nodes) (column (netOf b) u) s t
+    then cost-row (dearest (netOf b .nodes) (column (netOf b) u) s t)
+
+unfoldable pub shortest-fault : List ℕ → ℕ → ℕ → ℕ → ℕ → Fault
+shortest-fault b u s t room = shortest-rows b u s t room then path-rows b u s t
+
+-- the path that is written
+unfoldable pub shortest-of : List ℕ → ℕ → ℕ → ℕ → Route
+shortest-of b u s t = getD (ranked (netOf b .nodes) (column (netOf b) u) s t) 0 []
+
+-- its length and cost
+unfoldable pub shortest-values : List ℕ → ℕ → ℕ → ℕ → List ℕ
+shortest-values b u s t = length (shortest-of b u s t) ∷ cost (column (netOf b) u) (shortest-of b u s t) ∷ []
+
+unfoldable pub shortest-outcome : List ℕ → ℕ → ℕ → ℕ → ℕ → Outcome
+shortest-outcome b u s t room = outcome (shortest-fault b u s t room) (shortest-values b u s t)
+
+-- ---- Regret: start s, goal t, a node list; "gives figure and worst column"
+-- the dearest path over all columns, which this call reads all
+unfoldable pub dearest-anywhere : Net → ℕ → ℕ → ℕ
+dearest-anywhere net s t = largest (map (λ u. dearest (net .nodes) (column net u) s t) (numbers 1 (length (net .columns))))
+
+unfoldable pub regret-fault : List ℕ → ℕ → ℕ → List ℕ → Fault
+regret-fault b s t nodes =
+    image-fault b
+    then ends-row (netOf b) s t
+    then list-row (regret.fault (column (netOf b) 1) s t nodes)
+    then cost-row (dearest-anywhere (netOf b) s t)
+
+unfoldable pub regret-outcome : List ℕ → ℕ → ℕ → List ℕ → Outcome
+regret-outcome b s t nodes = outcome (regret-fault b s t nodes) (figure (netOf b) s t nodes ∷ worst (netOf b) s t nodes ∷ [])

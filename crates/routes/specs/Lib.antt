@@ -1,0 +1,5 @@
+pub mod Calls
+pub mod Answers
+pub mod Decoded
+pub mod Labels
+pub mod Lists

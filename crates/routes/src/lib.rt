@@ -1,0 +1,19 @@
+// The path layer's calls on images: Label, Shortest and Regret of document 01. No call asks anything of its caller.
+
+mod arcs;
+mod columns;
+mod decoding;
+mod finding;
+mod labelling;
+mod lists;
+mod loading;
+mod measuring;
+mod rows;
+
+pub use finding::Routed;
+pub use finding::shortest;
+pub use labelling::Labelled;
+pub use labelling::label;
+pub use measuring::Measure;
+pub use measuring::Regretted;
+pub use measuring::regret;
