@@ -19,3 +19,4 @@ pub mod DeviateLaws
 pub mod BackLaws
 pub mod DueLaws
 pub mod RankedLaws
+pub mod ResultLaws

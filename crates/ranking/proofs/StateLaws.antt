@@ -207,7 +207,7 @@ module _ {n : ℕ} {g : Graph} {s t M limit : ℕ} {E : List Entry} {j : ℕ} (w
     unfolding candidate
     done-next = ap (λ (p : Route). take j (routes s E) ++ (p ∷ [])) (sym (entry-route T j b)) ∙ sym (take-suc (routes s E) j [] (omega (arith, length-routes s E))) ∙ ap (λ k. take k (routes s E)) (sym (add-one j))
 
-    in-front : Search n g s t M (Beyond g limit) (take j (routes s E)) (candidate s E top ∷ candidates-from s E (j + 1)) []
+    pub in-front : Search n g s t M (Beyond g limit) (take j (routes s E)) (candidate s E top ∷ candidates-from s E (j + 1)) []
     in-front = subst (λ l. Search n g s t M (Beyond g limit) (take j (routes s E)) l []) candidates-next P
 
     pub next-is-path : Path g s t (getD (routes s E) j [])

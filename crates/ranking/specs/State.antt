@@ -45,10 +45,6 @@ Beyond g limit p = limit ≤ cost g p
 abbrev pub Searching : ℕ → Graph → ℕ → ℕ → ℕ → ℕ → List Entry → ℕ → List Branch → Type 0
 Searching n g s t M limit E j waiting = Search n g s t M (Beyond g limit) (take j (routes s E)) (candidates-from s E j) waiting
 
-pub record State (n : ℕ) (g : Graph) (s t M limit : ℕ) (E : List Entry) (j : ℕ) (waiting : List Branch) : Type 0 where
-  pub entered : Entered n g s E j
-  pub search : Searching n g s t M limit E j waiting
-
 -- ---- the path at place r, when it is ranked
 -- the parts of its branch without it
 unfoldable pub parts-of : ℕ → List Entry → ℕ → List Branch

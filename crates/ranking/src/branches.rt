@@ -1,7 +1,7 @@
-// A branch is looked into: its first path is put in its place among the candidates, or there is no need to.
-ghost use mathlib.Core.Path.{_≡_};
+// A branch is looked into: its first path is put in its place among the candidates, or there is no
+// need to.
 ghost use Prim.Native.Nat.{ℕ, _+_, _-_, _≤_};
-ghost use lib.ListN.{length, getD};
+ghost use lib.ListN.{getD};
 ghost use Rattle.labels.specs.Arcs.{graph};
 ghost use Rattle.candidates.specs.Slots.{entries};
 ghost use Rattle.candidates.specs.Keeping.{Kept};
@@ -33,8 +33,9 @@ fn too_dear(work: &[u32], n: usize, slots: usize, count: usize, bound: u64) -> b
 }
 
 // The first path of a branch, of which y and l are the least exit, is found and put in its place. The
-// branch is that of path[..d], which costs `before`; its first path leaves the ranked path with the
-// rank `parent` after d nodes, or is the first of all, if parent is 0. Returns how many entries there are then.
+// branch is that of path[..d], which costs `before`. Its first path leaves the path with the rank
+// `parent` after d nodes, or is the first of all, if parent is 0. Returns how many entries there are
+// then.
 fn enter(
     tails: &[u16],
     heads: &[u16],

@@ -1,4 +1,4 @@
--- the start of the function, and the exit
+-- `branches::consider`: each test that leaves the branch out settles it, and so does its first path. Assumes nothing.
 use Prim.Native.Nat.{_+_, _-_, _<_}
 use native.Mathlib.Omega.{arith}
 use mathlib.Core.Path.{refl, _∙_}

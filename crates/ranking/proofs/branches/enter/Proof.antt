@@ -1,4 +1,4 @@
--- the start of the function, and the search for the first path
+-- `branches::enter`: without a path the branch is empty; its first path is put in at its place, or falls out at once. Assumes nothing.
 use Prim.Native.Nat.{ℕ, _+_, _≤_, _<_}
 use native.Mathlib.Omega.{arith}
 use mathlib.Core.Path.{_≡_, refl, sym}

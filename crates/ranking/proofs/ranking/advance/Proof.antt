@@ -1,4 +1,4 @@
--- the start of the function
+-- `ranking::advance`: the last path that is wanted is not split. Assumes nothing.
 use mathlib.Core.Path.{refl}
 use mathlib.Core.List.{[]}
 use Rattle.terms.specs.Network.{Graph}

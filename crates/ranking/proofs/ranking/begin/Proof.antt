@@ -1,4 +1,4 @@
--- the start of the function, and the calls
+-- `ranking::begin`: the branch of all paths is looked into, with no entry yet. Assumes nothing.
 use native.Mathlib.Omega.{arith}
 use lib.ListN.{length-set}
 use Rattle.ranking.specs.Ranking.{Problem, Space, Blank}

@@ -1,4 +1,4 @@
--- `ranking::ranking::rank_paths` meets its contract. Assumes nothing.
+-- `ranking::rank_paths`. The loop: j paths are ranked, and no branch is waiting, or no more paths are wanted. Assumes nothing.
 use Prim.Native.Nat.{_+_, _-_, _*_}
 use native.Mathlib.Omega.{arith}
 use mathlib.Core.Path.{_≡_, refl, _∙_, ap}

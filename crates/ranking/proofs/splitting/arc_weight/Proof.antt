@@ -1,4 +1,4 @@
--- `ranking::splitting::arc_weight` meets its contract. Assumes nothing.
+-- `splitting::arc_weight` looks for the arc. The loop: no arc before index i goes to y. Assumes nothing.
 use native.Mathlib.Omega.{arith}
 use Prim.Native.Nat.{ℕ, _+_, _-_, _≤_, _<_}
 use mathlib.Core.Path.{_≡_}

@@ -1,4 +1,4 @@
--- the start of the function, and the calls
+-- `splitting::deviate`: the nodes that are barred while a part is looked into are those of Lawler's split, and they are cleared again. Assumes nothing.
 use Prim.Native.Nat.{ℕ, _+_, _<_}
 use native.Mathlib.Omega.{arith}
 use mathlib.Core.Path.{_≡_, _∙_, ap, ap₂}

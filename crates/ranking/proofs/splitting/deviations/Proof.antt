@@ -1,4 +1,4 @@
--- `ranking::splitting::deviations` meets its contract. Assumes nothing.
+-- `splitting::deviations`. The loop: the parts that leave the path after d nodes or more have been looked into. Assumes nothing.
 use Prim.Native.Nat.{_+_, _-_, _<_}
 use native.Mathlib.Omega.{arith}
 use mathlib.Core.Path.{_≡_, refl, sym, _∙_}

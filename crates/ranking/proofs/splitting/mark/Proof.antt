@@ -1,4 +1,4 @@
--- `ranking::splitting::mark` meets its contract. Assumes nothing.
+-- `splitting::mark` flags node after node. The loop: the first i nodes are laid out. Assumes nothing.
 use mathlib.Core.Path.{_≡_}
 use native.Mathlib.Omega.{arith}
 use Prim.Native.Nat.{_-_, _≤_}

@@ -1,4 +1,4 @@
--- the start of the function, and the calls
+-- `splitting::split`: the path is laid out, its parts are looked into, and its flags are cleared. Assumes nothing.
 use Prim.Native.Nat.{ℕ, _+_}
 use native.Mathlib.Omega.{arith}
 use mathlib.Core.Path.{_≡_, _∙_, ap}

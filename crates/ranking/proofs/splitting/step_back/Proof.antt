@@ -1,4 +1,4 @@
--- `ranking::splitting::step_back` meets its contract. Assumes nothing.
+-- `splitting::step_back` takes the last node off the path. Assumes nothing.
 use Prim.Native.Nat.{_+_, _-_, _<_}
 use native.Mathlib.Omega.{arith}
 use mathlib.Core.Path.{refl}
