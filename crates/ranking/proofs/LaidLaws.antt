@@ -21,7 +21,7 @@ use Rattle.ranking.proofs.FlagLaws.{flags-none, unflagged, flag-place, 
 use Rattle.ranking.proofs.WalkLaws.{tight-open}
 
 -- the last of the nodes of a list that has none twice
-loopless-last : (q : Route) (y : ℕ) → Loopless (q ++ (y ∷ [])) → Loopless q × (elem y q ≡ false)
+pub loopless-last : (q : Route) (y : ℕ) → Loopless (q ++ (y ∷ [])) → Loopless q × (elem y q ≡ false)
 unfolding elem
 loopless-last [] y l = (empty, refl)
 loopless-last (x ∷ q) y (fresh f l) =

@@ -11,4 +11,12 @@ pub mod NetworkLaws
 pub mod ExitLaws
 pub mod LaidLaws
 pub mod FirstLaws
+pub mod PutLaws
+pub mod StateLaws
+pub mod EnterLaws
 pub mod AllLaws
+pub mod DeviateLaws
+pub mod BackLaws
+pub mod DueLaws
+pub mod RankedLaws
+pub mod ResultLaws

@@ -17,7 +17,7 @@ use Rattle.ranking.specs.Parts.{Apart, alone, beside, Split}
 use Rattle.ranking.specs.Pool.{Candidate, routes, put, Crowded, Place, ranked, held, waits, crowded, lost, Pool}
 
 -- ---- the beginning of a rising list
-take-map : {A C : Type 0} (f : A → C) (n : ℕ) (l : List A) → map f (take n l) ≡ take n (map f l)
+pub take-map : {A C : Type 0} (f : A → C) (n : ℕ) (l : List A) → map f (take n l) ≡ take n (map f l)
 take-map f zero l = refl
 take-map f (suc n) [] = refl
 take-map f (suc n) (x ∷ l) = ap (λ k. f x ∷ k) (take-map f n l)
@@ -329,7 +329,7 @@ module _ {B : Type 0} (g : Graph) (all : List Route) (In : B → Route → Type 
         move p (lost l) = lost l
 
 -- ---- more paths are lost
-pub lose : {B : Type 0} (g : Graph) (all : List Route) (In : B → Route → Type 0) (M : ℕ) (Lost Lost′ : Route → Type 0) → ((p : Route) → Lost p → Lost′ p)
+pub lose : {B : Type 0} (g : Graph) (all : List Route) (In : B → Route → Type 0) (M : ℕ) (Lost Lost′ : Route → Type 0) → ((p : Route) → p ∈ all → Lost p → Lost′ p)
     → {done : List Route} {cands : List (Candidate B)} {waiting : List B} → Pool g all In M Lost done cands waiting → Pool g all In M Lost′ done cands waiting
 lose {B} g all In M Lost Lost′ h {done} {cands} {waiting} P = record {
   size = P .size;
@@ -342,12 +342,12 @@ lose {B} g all In M Lost Lost′ h {done} {cands} {waiting} P = record {
   apart = P .apart;
   unranked = P .unranked;
   unranked-waiting = P .unranked-waiting;
-  place = λ p m. move p (P .place p m);
+  place = λ p m. move p m (P .place p m);
 }
   where
-    move : (p : Route) → Place g all In M Lost done cands waiting p → Place g all In M Lost′ done cands waiting p
-    move p (ranked m) = ranked m
-    move p (held z m i) = held z m i
-    move p (waits β m i) = waits β m i
-    move p (crowded k) = crowded (record { full = k .full; behind = k .behind })
-    move p (lost l) = lost (h p l)
+    move : (p : Route) → p ∈ all → Place g all In M Lost done cands waiting p → Place g all In M Lost′ done cands waiting p
+    move p o (ranked m) = ranked m
+    move p o (held z m i) = held z m i
+    move p o (waits β m i) = waits β m i
+    move p o (crowded k) = crowded (record { full = k .full; behind = k .behind })
+    move p o (lost l) = lost (h p o l)

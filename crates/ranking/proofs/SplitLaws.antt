@@ -125,7 +125,7 @@ same-if : {A : Type 0} (c : Bool) (x : A) → cond c x x ≡ x
 same-if true x = refl
 same-if false x = refl
 
-splits-at : (q : Route) (F : List ℕ) (rest : Route) (β : Branch) (p : Route) (j k : ℕ) → p ≡ q ++ rest → k ≡ length q + j → j < length rest
+pub splits-at : (q : Route) (F : List ℕ) (rest : Route) (β : Branch) (p : Route) (j k : ℕ) → p ≡ q ++ rest → k ≡ length q + j → j < length rest
     → getD (splits q F rest) j β ≡ branch (take k p) (getD p k 0 ∷ cond (eqb j 0) F [])
 unfolding splits
 splits-at q F [] β p j k w e h = absurd (omega arith)

@@ -5,6 +5,8 @@ pub mod Found
 pub mod Laid
 pub mod Parts
 pub mod Pool
+pub mod Ranking
 pub mod Search
 pub mod Star
+pub mod State
 pub mod Walks

@@ -1,0 +1,174 @@
+-- `branches::consider`: each test that leaves the branch out settles it, and so does its first path. Assumes nothing.
+use Prim.Native.Nat.{_+_, _-_, _<_}
+use native.Mathlib.Omega.{arith}
+use mathlib.Core.Path.{refl, _∙_}
+use mathlib.Core.List.{List}
+use lib.ListN.{getD}
+use Rattle.terms.specs.Network.{Graph}
+use Rattle.labels.specs.Arcs.{graph}
+use Rattle.candidates.specs.Slots.{Entry, entries}
+use Rattle.candidates.proofs.EntryLaws.{length-entries}
+use Rattle.ranking.specs.Exits.{Unmarked}
+use Rattle.ranking.specs.Ranking.{Problem, Filled, Deviation}
+use Rattle.ranking.specs.Walks.{Choice}
+use Rattle.ranking.proofs.EnterLaws.{dear-facts, unchanged, choice-small, settled-none, settled-beyond, settled-dear}
+use Rattle.ranking.proofs.ExitLaws.{chosen-node, chosen-nothing}
+use Rattle.ranking.proofs.LaidLaws.{laid-place}
+use Rattle.ranking.proofs.NetworkLaws.{network-heads, network-starts}
+use borrow.Author.Needs.{needs}
+use Rattle.ranking.proofs.branches.consider.Statement.{statement}
+use Rattle.ranking.proofs.branches.consider.Tie as tie
+
+abbrev start : tie.After-slice-known8 → tie.Start
+start c = c .before .before .before .before .before .before .before .before .before .before .before .before .before .before .before .before
+
+abbrev entry : tie.After-least-exit → tie.Start
+entry c = start (c .before .before)
+
+abbrev told : tie.After-known-told → tie.After-least-exit
+told c = c .before .before .before
+
+-- what is known at the start
+abbrev net : tie.Start → Graph
+net s = graph (s .args .tails .now) (s .args .heads .now) (s .args .weights .now)
+
+abbrev kept-entries : tie.Start → List Entry
+kept-entries s = entries (s .args .n) (s .args .work .now) (s .args .count)
+
+problem : (s : tie.Start) → Problem (s .args .n) (s .args .start) (s .args .goal) (s .args .tails .now) (s .args .heads .now) (s .args .weights .now) (s .args .first-out .now) (s .args .first-in .now) (s .args .next-in .now) (s .args .overall .now)
+problem s = s .pre .0
+
+filled : (s : tie.Start) → Filled (s .args .n) (s .args .slots) (net s) (s .args .start) (s .args .from) (s .args .work .now) (s .args .count)
+filled s = s .pre .1 .1 .0
+
+deviation : (s : tie.Start) → Deviation (s .args .n) (net s) (s .args .start) (s .args .goal) (kept-entries s) (s .args .from) (s .args .used .now) (s .args .barred .now) (s .args .path .now) (s .args .parent) (s .args .d) (s .args .before)
+deviation s = s .pre .1 .1 .1
+
+last-place : (s : tie.Start) → getD (s .args .path .now) (s .args .d - 1) 0 < s .args .n + 1
+last-place s = let b = deviation s .begun in laid-place (s .args .d - 1) (omega (arith, b .some)) (b .laid)
+
+-- the exit that was chosen
+choice : (c : tie.After-known-told) → let s = entry (told c) in
+    Choice (net s) (s .args .overall .now) (Unmarked (s .args .used .now) (s .args .barred .now)) (getD (s .args .path .now) (s .args .d - 1) 0) (c .before .y .given .0 .1 .0) (c .before .y .given .0 .0)
+choice c = let n = problem (entry (told c)) .network in chosen-node (told c .least-exit .ensures .1 _ _ (n .arcs) (n .star)) (c .before .y .given .1)
+
+sub-v : tie.Need-sub-v
+sub-v c = search needs
+
+mul-v : tie.Need-mul-v
+mul-v c = search needs
+
+slice-read-v : tie.Need-slice-read-v
+slice-read-v c = search needs
+
+cast-v : tie.Need-cast-v
+cast-v c = omega (arith, last-place (start c), problem (start c) .start-to, filled (start c) .kept .few)
+
+least-exit-requires : tie.Need-least-exit-requires
+least-exit-requires c κs = let s = start (c .before) in
+    let P = problem s in
+    let b = deviation s .begun in
+    rw (P .small .long) (network-heads (P .network), ((network-starts (P .network), last-place s), (P .small, (b .laid .flags-long, b .barred-long))))
+
+enum-known-y : tie.Need-enum-known-y
+enum-known-y c = search needs
+
+enum-told : tie.Need-enum-told
+enum-told c = search needs
+
+same-length : tie.Need-same-length
+same-length c = search needs
+
+returns : tie.Need-returns
+returns c = let x = c .before .before in
+    let s = entry x in
+    let n = problem s .network in
+    (record { flags = refl; kept = refl }, (unchanged (filled s), settled-none (problem s) (deviation s) _ _ (filled s .entered) (chosen-nothing (x .least-exit .ensures .1 _ _ (n .arcs) (n .star)) (c .enum-told .given .1))))
+
+add-bound : tie.Need-add-bound
+add-bound c = let s = entry (told c) in omega (arith, choice-small (problem s) (choice c), deviation s .small)
+
+same-length-2 : tie.Need-same-length-2
+same-length-2 c = search needs
+
+returns-2 : tie.Need-returns-2
+returns-2 c = let k = c .before in
+    let s = entry (told k) in
+    (record { flags = refl; kept = refl }, (unchanged (filled s), settled-beyond (problem s) (deviation s) _ _ (filled s .entered) (choice k) (c .if1 .taken)))
+
+too-dear-requires : tie.Need-too-dear-requires
+too-dear-requires c κs = let F = filled (entry (told (c .before .before))) in (F .kept, F .some)
+
+same-length-3 : tie.Need-same-length-3
+same-length-3 c = search needs
+
+same-length-4 : tie.Need-same-length-4
+same-length-4 c = search needs
+
+returns-3 : tie.Need-returns-3
+returns-3 c = let x = c .before in
+    let k = x .before .before .before in
+    let s = entry (told k) in
+    let F = filled s in
+    let d = dear-facts (x .too-dear .ensures) (c .if2 .taken) in
+    (record { flags = refl; kept = refl }, (unchanged F, settled-dear (problem s) (deviation s) _ _ (F .entered) (choice k) (length-entries (s .args .n) (s .args .work .now) (s .args .count) ∙ d .0) (F .some) (d .1)))
+
+enter-requires : tie.Need-enter-requires
+enter-requires c κs = let k = c .before .before .before .before .before .before .before .before .before .before .before in
+    let s = entry (told k) in
+    (problem s, (s .pre .1 .0, (filled s, (deviation s, choice k))))
+
+same-length-5 : tie.Need-same-length-5
+same-length-5 c = search needs
+
+same-length-6 : tie.Need-same-length-6
+same-length-6 c = search needs
+
+same-length-7 : tie.Need-same-length-7
+same-length-7 c = search needs
+
+same-length-8 : tie.Need-same-length-8
+same-length-8 c = search needs
+
+same-length-9 : tie.Need-same-length-9
+same-length-9 c = search needs
+
+same-length-10 : tie.Need-same-length-10
+same-length-10 c = search needs
+
+same-length-11 : tie.Need-same-length-11
+same-length-11 c = search needs
+
+returns-4 : tie.Need-returns-4
+returns-4 c = let e = c .before .before .before .before .before .before .before .before .before .before .before .before .before .before in
+    (e .enter .ensures .0, (e .enter .ensures .1 .0, e .enter .ensures .1 .1 _))
+
+pub consider-spec : {M : Type 1} → statement M
+consider-spec =
+    tie.close
+    (tie.spec
+    sub-v
+    mul-v
+    slice-read-v
+    cast-v
+    least-exit-requires
+    enum-known-y
+    enum-told
+    same-length
+    returns
+    add-bound
+    same-length-2
+    returns-2
+    too-dear-requires
+    same-length-3
+    same-length-4
+    returns-3
+    enter-requires
+    same-length-5
+    same-length-6
+    same-length-7
+    same-length-8
+    same-length-9
+    same-length-10
+    same-length-11
+    returns-4)

@@ -1,0 +1,262 @@
+-- `branches::enter`: without a path the branch is empty; its first path is put in at its place, or falls out at once. Assumes nothing.
+use Prim.Native.Nat.{ℕ, _+_, _≤_, _<_}
+use native.Mathlib.Omega.{arith}
+use mathlib.Core.Path.{_≡_, refl, sym}
+use mathlib.Core.List.{List}
+use lib.ListN.{length, take}
+use lib.Seq.{length-take-le}
+use Rattle.terms.specs.Network.{Graph}
+use Rattle.terms.specs.Paths.{cost}
+use Rattle.labels.specs.Arcs.{graph}
+use Rattle.candidates.specs.Slots.{Entry, entries}
+use Rattle.candidates.specs.Bars.{barred}
+use Rattle.candidates.proofs.EntryLaws.{kept-readable, length-entries}
+use Rattle.ranking.specs.Branches.{branch, First}
+use Rattle.ranking.specs.Found.{FirstFound}
+use Rattle.ranking.specs.Ranking.{Problem, Filled, Deviation, Restored}
+use Rattle.ranking.specs.State.{taking-over}
+use Rattle.ranking.proofs.EnterLaws.{extent-tail, found-tail, found-empty, unchanged, path-small, still-consistent, goal-ahead, rest-short, settled-empty, settled-found, entered-found, same-found, settled-out, changed-put, settled-put}
+use borrow.Author.Needs.{needs}
+use Rattle.ranking.proofs.branches.enter.Statement.{statement}
+use Rattle.ranking.proofs.branches.enter.Tie as tie
+
+abbrev entry : tie.After-first-path-arg5 → tie.Start
+entry c = c .before .before .before .before .before .before .before .before .before .before .before .before .before .before .before .before .before .before .before .before
+
+abbrev start : tie.After-first-path → tie.Start
+start c = entry (c .before)
+
+abbrev searched : tie.After-slice-known12 → tie.After-first-path
+searched c = c .before .before .before .before .before .before .before .before .before .before
+
+abbrev told : tie.After-known-told → tie.After-first-path
+told c = searched (c .before .before .before)
+
+abbrev placed : tie.After-slice-known13 → tie.After-place-for
+placed c = c .before .before
+
+abbrev known : tie.After-place-for → tie.After-known-told
+known c = c .before .before .before .before
+
+-- what is known at the start
+abbrev net : tie.Start → Graph
+net s = graph (s .args .tails .now) (s .args .heads .now) (s .args .weights .now)
+
+abbrev kept-entries : tie.Start → List Entry
+kept-entries s = entries (s .args .n) (s .args .work .now) (s .args .count)
+
+problem : (s : tie.Start) → Problem (s .args .n) (s .args .start) (s .args .goal) (s .args .tails .now) (s .args .heads .now) (s .args .weights .now) (s .args .first-out .now) (s .args .first-in .now) (s .args .next-in .now) (s .args .overall .now)
+problem s = s .pre .0
+
+filled : (s : tie.Start) → Filled (s .args .n) (s .args .slots) (net s) (s .args .start) (s .args .from) (s .args .work .now) (s .args .count)
+filled s = s .pre .1 .1 .0
+
+deviation : (s : tie.Start) → Deviation (s .args .n) (net s) (s .args .start) (s .args .goal) (kept-entries s) (s .args .from) (s .args .used .now) (s .args .barred .now) (s .args .path .now) (s .args .parent) (s .args .d) (s .args .before)
+deviation s = s .pre .1 .1 .1 .0
+
+-- the path, and what was found in it
+abbrev made : tie.After-first-path → List ℕ
+made c = c .first-path .last .1 .1 .1 .1 .1 .1 .1 .1 .1 .1 .0
+
+restored : (c : tie.After-first-path) → let s = start c in Restored (s .args .used .now) (s .args .path .now) (s .args .d) (c .first-path .last .1 .1 .1 .1 .1 .1 .1 .1 .0) (made c)
+restored c = record { flags = c .first-path .ensures .0 .flags; kept = c .first-path .ensures .0 .kept }
+
+result : (c : tie.After-first-path) → let s = start c in FirstFound (net s) (s .args .start) (s .args .goal) (branch (take (s .args .d) (s .args .path .now)) (barred (kept-entries s) (taking-over (s .args .d) (s .args .parent)))) (made c) (c .first-path .result)
+result c = let D = deviation (start c) in c .first-path .ensures .1 _ _ (D .begins) (D .flagged)
+
+abbrev len : tie.After-known-told → ℕ
+len c = c .before .len .given .0 .0
+
+abbrev rest : tie.After-known-told → ℕ
+rest c = c .before .len .given .0 .1 .0
+
+first : (c : tie.After-known-told) → let s = start (told c) in
+    First (net s) (s .args .start) (s .args .goal) (branch (take (s .args .d) (s .args .path .now)) (barred (kept-entries s) (taking-over (s .args .d) (s .args .parent)))) (take (len c) (made (told c)))
+    × (cost (net s) (take (len c) (made (told c))) ≡ cost (net s) (take (s .args .d) (s .args .path .now)) + rest c)
+first c = found-tail (result (told c)) (c .before .len .given .1)
+
+extent : (c : tie.After-known-told) → (start (told c) .args .d < len c) × (len c ≤ length (made (told c)))
+extent c = extent-tail (told c .first-path .ensures .0 .reach) (c .before .len .given .1)
+
+count-is : (s : tie.Start) → length (kept-entries s) ≡ s .args .count
+count-is s = length-entries (s .args .n) (s .args .work .now) (s .args .count)
+
+first-path-requires : tie.Need-first-path-requires
+first-path-requires c κs = let s = entry c in
+    let P = problem s in
+    let D = deviation s in
+    rw (D .begun .laid .flags-long) (P .network, (D .begun, (goal-ahead P D, (s .pre .1 .0 .room, ((still-consistent P D, P .small .long), s .pre .1 .1 .1 .1)))))
+
+enum-known-len : tie.Need-enum-known-len
+enum-known-len c = search needs
+
+enum-told : tie.Need-enum-told
+enum-told c = search needs
+
+same-length : tie.Need-same-length
+same-length c = search needs
+
+same-length-2 : tie.Need-same-length-2
+same-length-2 c = search needs
+
+same-length-3 : tie.Need-same-length-3
+same-length-3 c = search needs
+
+same-length-4 : tie.Need-same-length-4
+same-length-4 c = search needs
+
+same-length-5 : tie.Need-same-length-5
+same-length-5 c = search needs
+
+returns : tie.Need-returns
+returns c = let x = searched (c .before .before) in
+    let s = start x in
+    (restored x, (unchanged (filled s), λ limit. settled-empty (problem s) (deviation s) _ limit (filled s .entered) (found-empty (result x) (c .enum-told .given .1))))
+
+add-cost : tie.Need-add-cost
+add-cost c = let s = start (told c) in omega (arith, first c .1, path-small (problem s) (first c .0 .member .path), deviation s .costs)
+
+slice-reshare-prefix-place-for : tie.Need-slice-reshare-prefix-place-for
+slice-reshare-prefix-place-for c = extent (c .before) .1
+
+slice-aggregate-place-for : tie.Need-slice-aggregate-place-for
+slice-aggregate-place-for c = sym (length-take-le (len (c .before .before)) (made (told (c .before .before))) (extent (c .before .before) .1))
+
+place-for-requires : tie.Need-place-for-requires
+place-for-requires c κs = let s = start (told (c .before .before .before)) in
+    let F = filled s in
+    ((kept-readable (F .kept), F .entered .family), (omega (arith, F .entered .border, count-is s), s .pre .1 .0 .scratch-long))
+
+same-length-6 : tie.Need-same-length-6
+same-length-6 c = search needs
+
+same-length-7 : tie.Need-same-length-7
+same-length-7 c = search needs
+
+same-length-8 : tie.Need-same-length-8
+same-length-8 c = search needs
+
+same-length-9 : tie.Need-same-length-9
+same-length-9 c = search needs
+
+same-length-10 : tie.Need-same-length-10
+same-length-10 c = search needs
+
+same-length-11 : tie.Need-same-length-11
+same-length-11 c = search needs
+
+same-length-12 : tie.Need-same-length-12
+same-length-12 c = search needs
+
+returns-2 : tie.Need-returns-2
+returns-2 c = let x = placed (c .before) in
+    let k = known x in
+    let s = start (told k) in
+    let F = filled s in
+    (restored (told k), (unchanged F, settled-out (problem s) (deviation s) (made (told k)) (len k) (restored (told k) .kept) (extent k .0) (extent k .1) (rest k) _ (first k .0) (first k .1) refl _ _ (F .entered) (x .place-for .ensures) (c .if1 .taken) (omega (arith, count-is s, F .kept .upto))))
+
+cast-insert : tie.Need-cast-insert
+cast-insert c = let s = start (told (known (placed (c .before .before)))) in omega (arith, deviation s .fits .short, filled s .kept .few)
+
+cast-insert-2 : tie.Need-cast-insert-2
+cast-insert-2 c = let s = start (told (known (placed (c .before .before)))) in omega (arith, deviation s .fits .known, filled s .entered .border, count-is s, filled s .kept .upto, filled s .few)
+
+mul-insert : tie.Need-mul-insert
+mul-insert c = let s = start (told (known (placed (c .before .before)))) in omega (arith, deviation s .fits .short, filled s .kept .few)
+
+sub-insert : tie.Need-sub-insert
+sub-insert c = let k = known (placed (c .before .before)) in omega (arith, extent k)
+
+part-insert-start : tie.Need-part-insert-start
+part-insert-start c = let k = known (placed (c .before .before .before)) in omega (arith, extent k)
+
+part-insert-end : tie.Need-part-insert-end
+part-insert-end c = let k = known (placed (c .before .before .before)) in extent k .1
+
+insert-requires : tie.Need-insert-requires
+insert-requires c κs = let x = placed (c .before .before .before .before) in
+    let k = known x in
+    let s = start (told k) in
+    (filled s .kept, (omega (arith, x .place-for .ensures .upper, count-is s), omega (arith, x .place-for .ensures .upper, count-is s, filled s .kept .upto), rest-short (problem s) (deviation s) (made (told k)) (len k) (restored (told k) .kept) (extent k .0) (extent k .1) (first k .0 .member .path)))
+
+same-length-13 : tie.Need-same-length-13
+same-length-13 c = search needs
+
+same-length-14 : tie.Need-same-length-14
+same-length-14 c = search needs
+
+same-length-15 : tie.Need-same-length-15
+same-length-15 c = search needs
+
+same-length-16 : tie.Need-same-length-16
+same-length-16 c = search needs
+
+same-length-17 : tie.Need-same-length-17
+same-length-17 c = search needs
+
+same-length-18 : tie.Need-same-length-18
+same-length-18 c = search needs
+
+same-length-19 : tie.Need-same-length-19
+same-length-19 c = search needs
+
+returns-3 : tie.Need-returns-3
+returns-3 c = let i = c .before .before in
+    let x = placed (i .before .before .before .before .before) in
+    let k = known x in
+    let s = start (told k) in
+    let P = problem s in
+    let D = deviation s in
+    let F = filled s in
+    let room : s .args .from ≤ s .args .slots = omega (arith, F .entered .border, count-is s, F .kept .upto) in
+    let R = restored (told k) in
+    let e = extent k in
+    let f = first k in
+    let T = F .entered in (
+      R,
+      (
+        changed-put (i .insert .ensures) (entered-found P D (made (told k)) (len k) (R .kept) (e .0) (e .1) (rest k) _ (f .0) (f .1) refl _ _ T (x .place-for .ensures) room) (same-found P D (made (told k)) (len k) (R .kept) (e .0) (e .1) (rest k) _ (f .0) (f .1) refl _ _ T (x .place-for .ensures) room),
+        λ limit. settled-put (i .insert .ensures) (settled-found P D (made (told k)) (len k) (R .kept) (e .0) (e .1) (rest k) _ (f .0) (f .1) refl _ _ T (x .place-for .ensures) limit),
+      ),
+    )
+
+pub enter-spec : {M : Type 1} → statement M
+enter-spec =
+    tie.close
+    (tie.spec
+    first-path-requires
+    enum-known-len
+    enum-told
+    same-length
+    same-length-2
+    same-length-3
+    same-length-4
+    same-length-5
+    returns
+    add-cost
+    slice-reshare-prefix-place-for
+    slice-aggregate-place-for
+    place-for-requires
+    same-length-6
+    same-length-7
+    same-length-8
+    same-length-9
+    same-length-10
+    same-length-11
+    same-length-12
+    returns-2
+    cast-insert
+    cast-insert-2
+    mul-insert
+    sub-insert
+    part-insert-start
+    part-insert-end
+    insert-requires
+    same-length-13
+    same-length-14
+    same-length-15
+    same-length-16
+    same-length-17
+    same-length-18
+    same-length-19
+    returns-3)

@@ -1,0 +1,225 @@
+// The ranked list: the first path of all is the first candidate, and each path that is ranked leaves
+// further candidates.
+ghost use mathlib.Core.Path.{_≡_};
+ghost use mathlib.Core.List.{[]};
+ghost use Prim.Native.Nat.{_+_, _<_};
+ghost use Rattle.labels.specs.Arcs.{graph};
+ghost use Rattle.labels.specs.Labels.{far};
+ghost use Rattle.candidates.specs.Slots.{entries};
+ghost use Rattle.ranking.specs.Ranking.{Problem, Desk, Filled, Changed, Space, Blank, Begins, Stage, Ranked};
+ghost use Rattle.ranking.specs.State.{Searching};
+use crate::branches::consider;
+use crate::splitting::split;
+use candidates::reset;
+use labels::FAR;
+
+// Frees all slots, and puts in the first of all paths, if there is one. Returns how many entries there
+// are then. No node is flagged, before and after.
+pub fn begin(
+    tails: &[u16],
+    heads: &[u16],
+    weights: &[u32],
+    first_out: &[u16],
+    first_in: &[u16],
+    next_in: &[u16],
+    start: u16,
+    goal: usize,
+    overall: &[u64],
+    used: &mut [u8],
+    barred: &[u8],
+    path: &mut [u16],
+    dirty: &mut [u8],
+    queue: &mut [u16],
+    labels: &mut [u64],
+    scratch: &mut [u16],
+    work: &mut [u32],
+    n: usize,
+    slots: usize,
+) -> usize
+    requires { ⌜ Problem n start goal (now tails) (now heads) (now weights) (now «first_out») (now «first_in») (now «next_in») (now overall) ⌝ }
+    requires { ⌜ Desk n (now dirty) (now queue) (now labels) (now scratch) ⌝ }
+    requires { ⌜ Space n slots (now work) ⌝ }
+    requires { ⌜ Blank n (now used) (now barred) (now path) ⌝ }
+    ensures { λ _. ⌜ now (used .exit) ≡ now (used .entry) ⌝ }
+    ensures { λ r. ⌜ Begins n slots (graph (now (tails .entry)) (now (heads .entry)) (now (weights .entry))) start goal (now (work .entry)) (now (work .exit)) r ⌝ }
+{
+    let s = start as usize;
+    reset(work, n, slots);
+    path[0] = start;
+    used[s] = 1;
+    let count = consider(
+        tails,
+        heads,
+        weights,
+        first_out,
+        first_in,
+        next_in,
+        start,
+        goal,
+        overall,
+        used,
+        barred,
+        path,
+        dirty,
+        queue,
+        labels,
+        scratch,
+        work,
+        n,
+        slots,
+        0,
+        FAR,
+        0,
+        0,
+        1,
+        0,
+    );
+    used[s] = 0;
+    count
+}
+
+// Ranks the path at the place `rank`, which is the next. After the last that is wanted no candidates are
+// looked for.
+fn advance(
+    tails: &[u16],
+    heads: &[u16],
+    weights: &[u32],
+    first_out: &[u16],
+    first_in: &[u16],
+    next_in: &[u16],
+    start: u16,
+    goal: usize,
+    overall: &[u64],
+    used: &mut [u8],
+    barred: &mut [u8],
+    path: &mut [u16],
+    dirty: &mut [u8],
+    queue: &mut [u16],
+    labels: &mut [u64],
+    scratch: &mut [u16],
+    work: &mut [u32],
+    n: usize,
+    slots: usize,
+    count: usize,
+    rank: usize,
+) -> usize
+    requires { ⌜ Problem n start goal (now tails) (now heads) (now weights) (now «first_out») (now «first_in») (now «next_in») (now overall) ⌝ }
+    requires { ⌜ Desk n (now dirty) (now queue) (now labels) (now scratch) ⌝ }
+    requires { ⌜ Filled n slots (graph (now tails) (now heads) (now weights)) start rank (now work) count ⌝ }
+    requires { ⌜ Blank n (now used) (now barred) (now path) ⌝ }
+    requires { ⌜ (rank < count) × Searching n (graph (now tails) (now heads) (now weights)) start goal slots far (entries n (now work) count) rank [] ⌝ }
+    ensures { λ _. ⌜ now (used .exit) ≡ now (used .entry) ⌝ }
+    ensures { λ _. ⌜ now (barred .exit) ≡ now (barred .entry) ⌝ }
+    ensures { λ r. ⌜ Changed n slots (graph (now (tails .entry)) (now (heads .entry)) (now (weights .entry))) start (rank + 1) (now (work .entry)) count (now (work .exit)) r ⌝ }
+    ensures { λ r. ⌜ Stage n (graph (now (tails .entry)) (now (heads .entry)) (now (weights .entry))) start goal slots (entries n (now (work .exit)) r) (rank + 1) ⌝ }
+{
+    if rank + 1 == slots {
+        return count;
+    }
+    split(
+        tails,
+        heads,
+        weights,
+        first_out,
+        first_in,
+        next_in,
+        start,
+        goal,
+        overall,
+        used,
+        barred,
+        path,
+        dirty,
+        queue,
+        labels,
+        scratch,
+        work,
+        n,
+        slots,
+        count,
+        FAR,
+        rank,
+    )
+}
+
+// Ranks the first paths from start to goal, as many as there are slots or all, and returns their
+// number. No node is flagged, before and after; overall are the labels to the goal.
+pub fn rank_paths(
+    tails: &[u16],
+    heads: &[u16],
+    weights: &[u32],
+    first_out: &[u16],
+    first_in: &[u16],
+    next_in: &[u16],
+    start: u16,
+    goal: usize,
+    overall: &[u64],
+    used: &mut [u8],
+    barred: &mut [u8],
+    path: &mut [u16],
+    dirty: &mut [u8],
+    queue: &mut [u16],
+    labels: &mut [u64],
+    scratch: &mut [u16],
+    work: &mut [u32],
+    n: usize,
+    slots: usize,
+) -> usize
+    requires { ⌜ Problem n start goal (now tails) (now heads) (now weights) (now «first_out») (now «first_in») (now «next_in») (now overall) ⌝ }
+    requires { ⌜ Desk n (now dirty) (now queue) (now labels) (now scratch) ⌝ }
+    requires { ⌜ Space n slots (now work) ⌝ }
+    requires { ⌜ Blank n (now used) (now barred) (now path) ⌝ }
+    ensures { λ _. ⌜ now (used .exit) ≡ now (used .entry) ⌝ }
+    ensures { λ _. ⌜ now (barred .exit) ≡ now (barred .entry) ⌝ }
+    ensures { λ r. ⌜ Ranked n slots (graph (now (tails .entry)) (now (heads .entry)) (now (weights .entry))) start goal (now (work .entry)) (now (work .exit)) r ⌝ }
+{
+    let mut count = begin(
+        tails,
+        heads,
+        weights,
+        first_out,
+        first_in,
+        next_in,
+        start,
+        goal,
+        overall,
+        used,
+        barred,
+        path,
+        dirty,
+        queue,
+        labels,
+        scratch,
+        work,
+        n,
+        slots,
+    );
+    let mut j = 0;
+    while j < count {
+        count = advance(
+            tails,
+            heads,
+            weights,
+            first_out,
+            first_in,
+            next_in,
+            start,
+            goal,
+            overall,
+            used,
+            barred,
+            path,
+            dirty,
+            queue,
+            labels,
+            scratch,
+            work,
+            n,
+            slots,
+            count,
+            j,
+        );
+        j += 1;
+    }
+    count
+}
