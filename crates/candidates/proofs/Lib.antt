@@ -11,3 +11,4 @@ mod PartLaws
 mod SlotLaws
 mod InsertionLaws
 mod LayingLaws
+mod RowLaws

@@ -5,6 +5,7 @@ mod clearing;
 mod insertion;
 mod ordering;
 mod routes;
+mod rows;
 mod slots;
 
 pub use bars::set_bars;
@@ -14,6 +15,7 @@ pub use insertion::reset;
 pub use ordering::place_for;
 pub use routes::lay_out;
 pub use routes::length_at;
+pub use rows::write_rows;
 pub use slots::cost_at;
 pub use slots::node_at;
 pub use slots::parent_at;
