@@ -12,9 +12,9 @@ pub record Starred (hs first path : List ℕ) : Type 0 where
   pub within : (v : ℕ) → v < length first → getD first v 0 ≤ length hs
   pub nodes-in : (i : ℕ) → i < length path → getD path i 0 + 1 < length first
 
--- arc arcs[i] goes from path[i] to the next node
-pub record Steps (ts hs path arcs : List ℕ) : Type 0 where
-  pub step : (i : ℕ) → suc i < length path → At ts hs (getD path i 0) (getD path (suc i) 0) (getD arcs i 0)
+-- arc arcs[i] goes from path[i] to the next node, of the first c nodes
+pub record Steps (ts hs path arcs : List ℕ) (c : ℕ) : Type 0 where
+  pub step : (i : ℕ) → suc i < c → At ts hs (getD path i 0) (getD path (suc i) 0) (getD arcs i 0)
 
 -- "the sum over its arcs": what the arcs weigh together
 unfoldable pub sum-of : List ℕ → List ℕ → ℕ

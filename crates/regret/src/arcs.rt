@@ -30,7 +30,7 @@ fn arc_index(heads: &[u16], first_out: &[u16], v: usize, y: u16) -> u16
 // Writes the index of the arc of each step of the path.
 pub fn path_arcs(heads: &[u16], first_out: &[u16], path: &[u16], arcs: &mut [u16])
     requires { ⌜ Starred (now heads) (now «first_out») (now path) × (length (now path) ≤ length (now arcs) + 1) ⌝ }
-    ensures { λ _. ⌜ ((n : ℕ) (ts ws : List ℕ) → Arcs n ts (now (heads .entry)) ws → Star n ts (now (heads .entry)) (now («first_out» .entry)) → ByArcs (graph ts (now (heads .entry)) ws) (now (path .entry)) → Steps ts (now (heads .entry)) (now (path .entry)) (now (arcs .exit))) ⌝ }
+    ensures { λ _. ⌜ ((n : ℕ) (ts ws : List ℕ) → Arcs n ts (now (heads .entry)) ws → Star n ts (now (heads .entry)) (now («first_out» .entry)) → ByArcs (graph ts (now (heads .entry)) ws) (now (path .entry)) → Steps ts (now (heads .entry)) (now (path .entry)) (now (arcs .exit)) (length (now (path .entry)))) ⌝ }
 {
     let mut i = 1;
     while i < path.len() {

@@ -28,5 +28,8 @@ pub fn greatest_excess(m: usize, costs: &[u32], bests: &[u64], arcs: &[u16]) -> 
         }
         u += 1;
     }
-    Measure { figure, worst: worst as u32 }
+    Measure {
+        figure,
+        worst: worst as u32,
+    }
 }

@@ -1,78 +1,75 @@
+-- `arcs::path_arcs`: the loop has found the arcs between the first i nodes. Assumes nothing.
+use native.Mathlib.Omega.{arith}
+use Prim.Native.Nat.{ℕ, _-_, _≤_}
+use mathlib.Core.Path.{_≡_, refl, _∙_}
+use mathlib.Core.List.{List}
+use lib.ListN.{length, length-set}
+use Rattle.terms.specs.Paths.{ByArcs}
+use Rattle.labels.specs.Arcs.{graph, Arcs}
+use Rattle.ranking.specs.Star.{Star}
+use Rattle.regret.specs.Steps.{Steps}
+use Rattle.regret.proofs.StepLaws.{step-linked, steps-more}
 use Rattle.regret.proofs.arcs.path_arcs.Statement.{statement}
 use Rattle.regret.proofs.arcs.path_arcs.Tie as tie
-use Rattle.regret.proofs.arcs.path_arcs.Reads as reads
-use Rattle.regret.proofs.arcs.path_arcs.Lts as lts
-use Rattle.regret.proofs.arcs.arc_index.Reads as arc-index-reads
 
 abbrev Inv-loop : tie.InvT-loop
-Inv-loop heads first-out path arcs₀ i₀ arcs i = ?
+Inv-loop heads first-out path arcs₀ i₀ arcs i = (1 ≤ i) × (length arcs ≡ length arcs₀) × ((n : ℕ) (ts ws : List ℕ) → Arcs n ts heads ws → Star n ts heads first-out → ByArcs (graph ts heads ws) path → Steps ts heads path arcs i)
 
 abbrev μ-loop : tie.MeasureT-loop
-μ-loop heads first-out path arcs₀ i₀ arcs i = ?
+μ-loop heads first-out path arcs₀ i₀ arcs i = length path - i
 
--- src/arcs.rt:36:5
 loop-holds : tie.Need-loop-holds Inv-loop μ-loop
-loop-holds c = ?
+loop-holds c = (omega arith, refl, λ n ts ws A S b. record { step = λ j h. absurd (omega arith) })
 
--- src/arcs.rt:37:56
 sub-arc-index : tie.Need-sub-arc-index Inv-loop μ-loop
-sub-arc-index c = ?
+sub-arc-index c = omega arith
 
--- src/arcs.rt:37:51
 mul-arc-index : tie.Need-mul-arc-index Inv-loop μ-loop
-mul-arc-index c = ?
+mul-arc-index c = omega arith
 
--- src/arcs.rt:37:51
 shared-slice-read-arc-index : tie.Need-shared-slice-read-arc-index Inv-loop μ-loop
-shared-slice-read-arc-index c = ?
+shared-slice-read-arc-index c = omega arith
 
--- src/arcs.rt:37:51
 cast-arc-index : tie.Need-cast-arc-index Inv-loop μ-loop
-cast-arc-index c = ?
+cast-arc-index c = omega (arith, c .shared-slice-known4 .given (c .before .before .loop .i - 1))
 
--- src/arcs.rt:37:73
 mul-arc-index-2 : tie.Need-mul-arc-index-2 Inv-loop μ-loop
-mul-arc-index-2 c = ?
+mul-arc-index-2 c = omega arith
 
--- src/arcs.rt:37:73
 shared-slice-read-arc-index-2 : tie.Need-shared-slice-read-arc-index-2 Inv-loop μ-loop
-shared-slice-read-arc-index-2 c = ?
+shared-slice-read-arc-index-2 c = omega arith
 
--- src/arcs.rt:37:23
 arc-index-requires : tie.Need-arc-index-requires Inv-loop μ-loop
-arc-index-requires c κs = ?
+arc-index-requires c κs = let l = c .before .before .before in
+    let p = l .before .before .before .before .before .pre in
+    let inside = p .0 .nodes-in (l .loop .i - 1) (omega arith) in
+    (inside, p .0 .within _ inside)
 
--- src/arcs.rt:37:14
 sub-arcs : tie.Need-sub-arcs Inv-loop μ-loop
-sub-arcs c = ?
+sub-arcs c = omega arith
 
--- src/arcs.rt:37:9
 mul-arcs : tie.Need-mul-arcs Inv-loop μ-loop
-mul-arcs c = ?
+mul-arcs c = omega arith
 
--- src/arcs.rt:37:9
 slice-write-arcs : tie.Need-slice-write-arcs Inv-loop μ-loop
-slice-write-arcs c = ?
+slice-write-arcs c = omega arith
 
--- src/arcs.rt:38:9
 add-i : tie.Need-add-i Inv-loop μ-loop
-add-i c = ?
+add-i c = omega arith
 
--- src/arcs.rt:36:5
 loop-less : tie.Need-loop-less Inv-loop μ-loop
-loop-less c = ?
+loop-less c = omega arith
 
--- src/arcs.rt:36:5
 loop-again : tie.Need-loop-again Inv-loop μ-loop
-loop-again c = ?
+loop-again c = let l = c .before .before .before .before in
+    let s = l .before .before .before .before .before in
+    (omega arith, length-set {A = ℕ} (l .loop .arcs) (l .loop .i - 1) (c .arc-index .result) ∙ l .loop .inv .1, λ n ts ws A S b. steps-more (l .loop .inv .0) (omega arith) (c .arc-index .ensures n ts ws A S (step-linked (l .loop .i) b (l .loop .inv .0) (omega arith))) (l .loop .inv .2 n ts ws A S b))
 
--- src/arcs.rt:31:1
 same-length : tie.Need-same-length Inv-loop μ-loop
-same-length c = ?
+same-length c = c .before .loop .inv .1
 
--- src/arcs.rt:31:1
 returns : tie.Need-returns Inv-loop μ-loop
-returns c = ?
+returns c = let l = c .before in λ n ts ws A S b. record { step = λ j h. l .loop .inv .2 n ts ws A S b .step j (omega arith) }
 
 pub path-arcs-spec : {M : Type 1} → statement M
 path-arcs-spec =
