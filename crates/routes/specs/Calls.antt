@@ -1,4 +1,4 @@
--- Document 01, calls 2 to 5: what Label, Shortest, Regret and Rank come to, for every image, list, number and length of a lent slice. Assumes nothing.
+-- Document 01, calls 2 to 6: what Label, Shortest, Regret, Rank and Robust come to, for every image, list, number and length of a lent slice. Assumes nothing.
 use Prim.Native.Nat.{ℕ, zero, _+_, _*_}
 use mathlib.Core.Bool.{Bool, not, _&&_, _||_}
 use mathlib.Core.List.{List, [], _∷_, map}
@@ -11,6 +11,7 @@ use Rattle.terms.specs.Paths.{Route, cost, paths}
 use Rattle.terms.specs.Ranking.{ranked}
 use Rattle.terms.specs.Regret.{labels, figure, worst}
 use Rattle.terms.specs.Regret as regret
+use Rattle.terms.specs.Robust.{Answer, settled, left-open, no-path, robust}
 use Rattle.candidates.specs.Rows.{rows-of}
 use Rattle.image.specs.Outcome.{Fault, sound, fault, row, _then_, Outcome, outcome, after}
 use Rattle.image.specs.Rows.{is-node}
@@ -60,6 +61,10 @@ search-rows b u s t = (image-fault b then ends-row (netOf b) s t) then column-ro
 -- "Rank and Robust borrow a workspace of at least (K+1)(n+16) + 16n + 64 32-bit numbers"
 unfoldable pub workspace : ℕ → ℕ → ℕ
 workspace n K = (K + 1) * (n + 16) + 16 * n + 64
+
+-- the workspace: "after a result .. all of it is 0"
+unfoldable pub cleared : Fault → List ℕ → List ℕ
+cleared f work = after f (replicate (length work) 0) work
 
 -- ---- Label: column u, goal t; "writes for each node the least cost to the goal, or 4,294,967,295 if it can't be reached, in n 32-bit places"
 unfoldable pub label-fault : List ℕ → ℕ → ℕ → ℕ → Fault
@@ -144,6 +149,38 @@ rank-costs-of b u s t K = map (cost (column (netOf b) u)) (rank-of b u s t K)
 unfoldable pub rank-outcome : List ℕ → ℕ → ℕ → ℕ → ℕ → ℕ → ℕ → ℕ → Outcome
 rank-outcome b u s t K rows costs work = outcome (rank-fault b u s t K rows costs work) (length (rank-of b u s t K) ∷ [])
 
--- the workspace: "after a result .. all of it is 0"
-unfoldable pub cleared : Fault → List ℕ → List ℕ
-cleared f work = after f (replicate (length work) 0) work
+-- ---- Robust: column r, start s, goal t, K
+-- the rows before 15, for slices of these lengths: "a written node list needs n places"
+unfoldable pub robust-rows : List ℕ → ℕ → ℕ → ℕ → ℕ → ℕ → ℕ → Fault
+robust-rows b r s t K path work =
+    (search-rows b r s t then count-row K)
+    then room-row path (netOf b .nodes)
+    then room-row work (workspace (netOf b .nodes) K)
+
+-- "with N = 0 row 15 applies"; row 16 is about all columns, which this call reads
+unfoldable pub choice-rows : List ℕ → ℕ → ℕ → ℕ → Fault
+choice-rows b r s t =
+    no-path-row (netOf b .nodes) (column (netOf b) r) s t
+    then cost-row (dearest-anywhere (netOf b) s t)
+
+unfoldable pub robust-fault : List ℕ → ℕ → ℕ → ℕ → ℕ → ℕ → ℕ → Fault
+robust-fault b r s t K path work = robust-rows b r s t K path work then choice-rows b r s t
+
+-- the answer of the stopping rule
+unfoldable pub robust-of : List ℕ → ℕ → ℕ → ℕ → ℕ → Answer
+robust-of b r s t K = robust (netOf b) r s t K
+
+-- the path that is written
+unfoldable pub chosen : Answer → Route
+chosen (settled p f w c) = p
+chosen (left-open p f w c floor) = p
+chosen no-path = []
+
+-- "gives that path's length, figure and worst column, and the count"; then the state, 1 settled or 2 open, and the floor, 0 if settled
+unfoldable pub robust-values : Answer → List ℕ
+robust-values (settled p f w c) = length p ∷ f ∷ w ∷ c ∷ 1 ∷ 0 ∷ []
+robust-values (left-open p f w c floor) = length p ∷ f ∷ w ∷ c ∷ 2 ∷ floor ∷ []
+robust-values no-path = []
+
+unfoldable pub robust-outcome : List ℕ → ℕ → ℕ → ℕ → ℕ → ℕ → ℕ → Outcome
+robust-outcome b r s t K path work = outcome (robust-fault b r s t K path work) (robust-values (robust-of b r s t K))

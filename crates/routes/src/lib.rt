@@ -1,6 +1,7 @@
 // The path layer's calls on images: Label, Shortest, Regret and Rank of document 01. No call asks anything of its caller.
 
 mod arcs;
+mod choosing;
 mod columns;
 mod decoding;
 mod finding;
@@ -11,6 +12,8 @@ mod loading;
 mod measuring;
 mod rows;
 
+pub use choosing::Decided;
+pub use choosing::Decision;
 pub use finding::Routed;
 pub use finding::shortest;
 pub use labelling::Labelled;
