@@ -31,6 +31,12 @@ unfolding _then_
 then-assoc sound g h = refl
 then-assoc (fault n p) g h = refl
 
+-- a row that does not apply can stand last
+pub then-last : (f : Fault) {g : Fault} → g ≡ sound → (f then g) ≡ f
+unfolding _then_
+then-last sound e = e
+then-last (fault n p) e = refl
+
 -- Check's refusal is the call's
 pub refused-first : (b : List ℕ) {o : Outcome} {number place : ℕ} (g : Fault) (values : List ℕ) → o ≡ refuses number place → o ≡ check-outcome b → o ≡ outcome (image-fault b then g) values
 refused-first b g values e f = e ∙ sym (outcome-fault values (then-fault g (rejected b (sym e ∙ f))))
