@@ -4,11 +4,14 @@ use native.Mathlib.Omega.{arith}
 use native.Mathlib.Nat.{mul-comm, eq-or-lt-of-le}
 use mathlib.Core.Path.{_≡_, refl, sym, _∙_, ap, ap₂, subst}
 use mathlib.Core.Logic.{⊎-elim}
-use mathlib.Core.List.{List, [], _∷_}
-use lib.ListN.{length, getD, length-map}
-use Rattle.terms.specs.Network.{column, Admitted}
+use mathlib.Core.List.{List, [], _∷_, _++_, map}
+use lib.ListN.{length, getD, take, drop, length-map}
+use lib.Seq.{length-take-le}
+use Rattle.terms.specs.Network.{Net, column, Admitted}
 use Rattle.terms.specs.Paths.{Route, Path}
-use Rattle.terms.specs.Lists.{_∈_}
+use Rattle.terms.specs.Lists.{_∈_, numbers}
+use Rattle.terms.specs.Regret.{best}
+use Rattle.terms.specs.Robust as terms
 use Rattle.terms.specs.Ranking.{ranked}
 use Rattle.terms.proofs.ColumnLaws.{cut-at}
 use Rattle.terms.proofs.Demand3Laws.{demand-3}
@@ -18,17 +21,23 @@ use Rattle.terms.proofs.RankingLaws.{path-ranked}
 use Rattle.labels.specs.Arcs.{graph}
 use Rattle.labels.specs.Labels.{far}
 use Rattle.image.specs.Layout.{arc-count, column-count, cost-list, netOf}
-use Rattle.image.specs.Outcome.{Fault, sound, fault}
+use Rattle.image.specs.Calls.{image-fault}
+use Rattle.image.specs.Outcome.{Fault, sound, fault, gives, after}
 use Rattle.image.proofs.NetworkLaws.{accepted-network, accepted-costs, length-columns}
 use Rattle.image.proofs.PartLaws.{length-arcs}
-use Rattle.image.proofs.OutcomeLaws.{then-next, then-sound}
+use Rattle.image.proofs.OutcomeLaws.{then-next, then-sound, after-sound}
+use Rattle.ranking.specs.Ranking.{Space}
 use Rattle.ranking.specs.Star.{Star}
 use Rattle.regret.specs.Bests.{Joined}
 use Rattle.regret.specs.Columns.{arc-pairs, network, column-costs, Columns}
 use Rattle.regret.proofs.BestLaws.{joined}
+use Rattle.robust.specs.Answers.{chosen-length, answered}
 use Rattle.robust.specs.Counting as robust
-use Rattle.routes.specs.Calls.{no-path-row, choice-rows, robust-rows, robust-fault, robust-of}
-use Rattle.routes.specs.Decoded.{Accepted, InColumn, Ends, Loaded, Reached, ChoiceSlices}
+use Rattle.robust.specs.declared.answering.Answer.{Answer}
+use Rattle.robust.specs.declared.answering.Answer.the-variants.{Settled, Open}
+use Rattle.robust.specs.declared.answering.Choice.{Choice}
+use Rattle.routes.specs.Calls.{no-path-row, choice-rows, robust-rows, robust-fault, robust-of, chosen, robust-values}
+use Rattle.routes.specs.Decoded.{Accepted, InColumn, Ends, Loaded, Reached, Held, ChoiceSlices}
 use Rattle.routes.specs.Demands.{Kept3}
 use Rattle.routes.proofs.CostLaws.{all-columns-row}
 use Rattle.routes.proofs.DecodeLaws.{decoded, tails, heads}
@@ -89,15 +98,26 @@ module _ {b : List ℕ} {m k s t : ℕ} (a : Accepted b (netOf b .nodes) m k) {t
       ok : Admitted (netOf b)
       ok = accepted-network b (a .passes)
 
-  -- the weights of column r
-  pub held-weights : {r : ℕ} {ws : List ℕ} → 1 ≤ r → r ≤ k → ws ≡ getD (netOf b .columns) (r - 1) [] → robust.InColumn r k ts ws costs
-  held-weights {r} from upto e = record { from = from; upto = upto; weights-are = e ∙ sym (column-part r from upto) }
-
   -- each column's best can be searched for
   pub held-joined : length costs ≡ m * k → {outs : List ℕ} → Star N ts hs outs → {places : ℕ} {bars : List ℕ} → places ≡ N + 1 → length bars ≡ places → ((x : ℕ) → getD bars x 0 ≡ 0) → Joined places k ts hs ins nexts costs bars s t
   held-joined long star p q none =
       joined (held-columns long star) (R .in-column) (R .from) (omega (arith, R .upto, a .columns-are)) (subst (λ net. Path (column net (R .in-column)) s t (R .route)) (sym held-network) (R .path))
       p (R .chains) (R .ins-long ∙ sym p) q none (R .ends .start-in .from) (R .ends .start-in .upto) (R .ends .goal-in .upto)
+
+  -- with each column's best found, all columns are held
+  pub held : length costs ≡ m * k → {outs : List ℕ} → Star N ts hs outs → (bests bests₀ : List ℕ) → length bests ≡ length bests₀ → length bests₀ ≡ k
+      → bests ≡ map (λ u. best N (column (network N (length bests₀) ts hs costs) u) s t) (numbers 1 (length bests₀)) → Held (netOf b) s t ts hs outs costs bests
+  held long {outs} star bests bests₀ kept count are =
+      let e : length bests ≡ k = kept ∙ count in
+      record {
+        network-is = ap (λ k. network N k ts hs costs) e ∙ held-network;
+        costs-of = λ u from upto. column-part u from (omega arith);
+        priced = record { columns = subst (λ k. Columns N k ts hs outs costs) (sym e) (held-columns long star); bests-are = are ∙ ap (λ k. map (λ u. best N (column (network N k ts hs costs) u) s t) (numbers 1 k)) (sym kept) };
+      }
+
+-- what the image's reader asks for
+pub read-ready : {b : List ℕ} {n m k : ℕ} → Accepted b n m k → (image-fault b ≡ sound) × (m ≡ arc-count b) × (k ≡ column-count b)
+read-ready {b} a = (a .passes, a .arcs-are ∙ length-arcs b (a .passes), a .columns-are ∙ length-columns b)
 
 -- ---- a loaded column whose start is reached
 module _ {b : List ℕ} {m r s t : ℕ} (c : InColumn b m r) (ends : Ends (netOf b .nodes) s t) {ts hs ws outs ins nexts overall : List ℕ} (l : Loaded (netOf b) r t ts hs ws outs ins nexts overall) (h : getD overall s 0 ≡ far → ⊥) where
@@ -125,6 +145,60 @@ module _ {b : List ℕ} {m r s t : ℕ} (c : InColumn b m r) (ends : Ends (netOf
   some-ranked e =
       let m = mem-length (path-ranked (netOf b .nodes) (column (netOf b) r) s t (column-within (accepted-network b (c .passes)) r) (ends .start-in .from) (ends .start-in .upto) (found .1)) in
       omega (arith, ap₂ (λ n g. length (ranked n g s t)) e (l .column-is .graph-is))
+
+  pub reached-row : no-path-row (netOf b .nodes) (column (netOf b) r) s t ≡ sound
+  reached-row = row-some c ends (found .1)
+
+-- the start is not reached
+pub unreached-row : {b : List ℕ} {m r s t : ℕ} (c : InColumn b m r) (ends : Ends (netOf b .nodes) s t) {ts hs ws outs ins nexts overall : List ℕ} → Loaded (netOf b) r t ts hs ws outs ins nexts overall → getD overall s 0 ≡ far
+    → no-path-row (netOf b .nodes) (column (netOf b) r) s t ≡ fault 15 0
+unreached-row {s = s} c ends l e = row-none c ends (λ p h. let k = column-least c ends l .least s p (record { path = h; free = λ x i. refl }) .1 in absurd (omega arith))
+
+-- ---- in a network of n nodes, where n is the image's number
+module _ {net : Net} {n s t : ℕ} (n-is : n ≡ net .nodes) {ts hs outs costs bests : List ℕ} (H : Held net s t ts hs outs costs bests) where
+  pub priced-for : robust.Priced n s t ts hs outs costs bests
+  priced-for = subst (λ n. robust.Priced n s t ts hs outs costs bests) (sym n-is) (H .priced)
+
+  pub network-for : network n (length bests) ts hs costs ≡ net
+  network-for = ap (λ n. network n (length bests) ts hs costs) n-is ∙ H .network-is
+
+  pub column-for : {r : ℕ} {ws : List ℕ} → 1 ≤ r → r ≤ length bests → ws ≡ getD (net .columns) (r - 1) [] → robust.InColumn r (length bests) ts ws costs
+  column-for {r} from upto e = record { from = from; upto = upto; weights-are = e ∙ sym (H .costs-of r from upto) }
+
+pub space-for : {n N K : ℕ} {path work : List ℕ} → n ≡ N → ChoiceSlices N K path work → Space n (K + 1) work
+space-for {n} {K = K} e S = record { some = omega arith; few = omega (arith, S .wanted-to); room = omega (arith, S .slots-long, ap (λ (x : ℕ). (K + 1) * (x + 16)) e) }
+
+-- ---- the answer
+module _ (A : Answer) where
+  pub chosen-answered : (p : Route) → chosen (answered p A) ≡ p
+  unfolding chosen
+  chosen-answered p = by-case A
+    where
+      by-case : (A : Answer) → chosen (answered p A) ≡ p
+      by-case (Settled c count) = refl
+      by-case (Open c count floor) = refl
+
+  -- the beginning of new is the path that was chosen, and the rest of it is old
+  module _ {ans : terms.Answer} (old : List ℕ) {new : List ℕ} (e : answered (take (chosen-length A) new) A ≡ ans) (w : new ≡ take (chosen-length A) new ++ drop (chosen-length A) old) (h : chosen-length A ≤ length new) where
+    pub chosen-long : length (take (chosen-length A) new) ≡ chosen-length A
+    chosen-long = length-take-le (chosen-length A) new h
+
+    pub chosen-written : new ≡ after sound (chosen ans) old
+    chosen-written =
+        let p-is : take (chosen-length A) new ≡ chosen ans = sym (chosen-answered (take (chosen-length A) new)) ∙ ap chosen e in
+        w ∙ ap₂ (λ (p : Route) (k : ℕ). p ++ drop k old) p-is (sym chosen-long ∙ ap length p-is) ∙ sym (after-sound _ old refl)
+
+pub state-settled : (A : Answer) (c : Choice) (count : ℕ) → A ≡ Settled c count → (p : Route) → length p ≡ chosen-length A → gives (c .length ∷ c .figure ∷ c .worst ∷ count ∷ 1 ∷ 0 ∷ []) ≡ gives (robust-values (answered p A))
+unfolding robust-values
+state-settled A c count e p l =
+    let l′ : length p ≡ c .length = l ∙ ap chosen-length e in
+    ap (λ (x : ℕ). gives (x ∷ c .figure ∷ c .worst ∷ count ∷ 1 ∷ 0 ∷ [])) (sym l′) ∙ ap (λ A. gives (robust-values (answered p A))) (sym e)
+
+pub state-open : (A : Answer) (c : Choice) (count floor : ℕ) → A ≡ Open c count floor → (p : Route) → length p ≡ chosen-length A → gives (c .length ∷ c .figure ∷ c .worst ∷ count ∷ 2 ∷ floor ∷ []) ≡ gives (robust-values (answered p A))
+unfolding robust-values
+state-open A c count floor e p l =
+    let l′ : length p ≡ c .length = l ∙ ap chosen-length e in
+    ap (λ (x : ℕ). gives (x ∷ c .figure ∷ c .worst ∷ count ∷ 2 ∷ floor ∷ [])) (sym l′) ∙ ap (λ A. gives (robust-values (answered p A))) (sym e)
 
 -- ---- rows 15 and 16
 pub choice-rows-are : (b : List ℕ) (r s t : ℕ) → Admitted (netOf b) → choice-rows b r s t ≡ no-path-row (netOf b .nodes) (column (netOf b) r) s t

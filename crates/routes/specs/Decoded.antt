@@ -12,7 +12,7 @@ use Rattle.labels.specs.Arcs.{graph, Arcs}
 use Rattle.labels.specs.Chains.{Chains}
 use Rattle.labels.specs.Labels.{Least}
 use Rattle.ranking.specs.Star.{Network}
-use Rattle.regret.specs.Columns.{network}
+use Rattle.regret.specs.Columns.{network, column-costs}
 use Rattle.robust.specs.Counting.{Priced}
 
 -- image b is accepted, and its network has n nodes, m arcs and k columns
@@ -113,6 +113,7 @@ pub record Reached (net : Net) (s t : ℕ) (ts hs ins nexts : List ℕ) : Type 0
 -- the arrays hold the arcs and all columns, one after the other, and best(u) for each column u
 pub record Held (net : Net) (s t : ℕ) (ts hs outs costs bests : List ℕ) : Type 0 where
   pub network-is : network (net .nodes) (length bests) ts hs costs ≡ net
+  pub costs-of : (u : ℕ) → 1 ≤ u → u ≤ length bests → column-costs (length ts) costs u ≡ getD (net .columns) (u - 1) []
   pub priced : Priced (net .nodes) s t ts hs outs costs bests
 
 -- room for k columns of m arcs, and to measure a path

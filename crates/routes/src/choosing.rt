@@ -12,7 +12,6 @@ use regret::column_bests;
 use robust::Answer;
 use robust::least_regret;
 ghost use mathlib.Core.Path.{_≡_};
-ghost use mathlib.Core.List.{List};
 ghost use Prim.Native.Nat.{ℕ, _+_, _*_, _≤_};
 ghost use lib.ListN.{length, getD, replicate};
 ghost use Rattle.terms.specs.Network.{column};
@@ -76,7 +75,7 @@ fn check_robust(
 }
 
 // The search's answer as Robust's.
-fn decision(answer: Answer) -> Decided
+fn state(answer: Answer) -> Decided
     ensures { λ r. ⌜ ((p : Route) → length p ≡ chosen-length answer → decided r ≡ gives (robust-values (answered p answer))) ⌝ }
 {
     match answer {
@@ -161,7 +160,7 @@ fn choose_priced(
         path,
     );
     clear(work);
-    decision(answer)
+    state(answer)
 }
 
 // Reads all columns, and finds each column's best. In some column a path goes from start to goal.
@@ -171,6 +170,7 @@ fn price(
     k: u32,
     tails: &[u16],
     heads: &[u16],
+    first_out: &[u16],
     first_in: &[u16],
     next_in: &[u16],
     barred: &[u8],
@@ -183,11 +183,11 @@ fn price(
     bests: &mut [u64],
 )
     requires { ⌜ Accepted (now image) (netOf (now image) .nodes) m k ⌝ }
-    requires { ⌜ Reached (netOf (now image)) start goal (now tails) (now heads) (now «first_in») (now «next_in») ⌝ }
+    requires { ⌜ Reached (netOf (now image)) start goal (now tails) (now heads) (now «first_in») (now «next_in») × Star (netOf (now image) .nodes) (now tails) (now heads) (now «first_out») ⌝ }
     requires { ⌜ (length (now labels) ≡ netOf (now image) .nodes + 1) × Room (length (now labels)) (now dirty) (now queue) × (length (now barred) ≡ length (now labels)) ⌝ }
     requires { ⌜ ((x : ℕ) → getD (now barred) x 0 ≡ 0) ⌝ }
     requires { ⌜ (length (now costs) ≡ m * k) × (length (now bests) ≡ k) ⌝ }
-    ensures { λ _. ⌜ ((outs : List ℕ) → Star (netOf (now (image .entry)) .nodes) (now (tails .entry)) (now (heads .entry)) outs → Held (netOf (now (image .entry))) start goal (now (tails .entry)) (now (heads .entry)) outs (now (costs .exit)) (now (bests .exit))) ⌝ }
+    ensures { λ _. ⌜ Held (netOf (now (image .entry))) start goal (now (tails .entry)) (now (heads .entry)) (now («first_out» .entry)) (now (costs .exit)) (now (bests .exit)) ⌝ }
 {
     read_columns(image, m, k, costs);
     column_bests(
@@ -271,6 +271,7 @@ fn choose_in(
         k,
         tails,
         heads,
+        first_out,
         first_in,
         next_in,
         barred,
