@@ -3,7 +3,7 @@
 use Prim.Native.Nat.{ℕ, zero, suc, _+_, _*_, _≤_}
 use native.Mathlib.Omega.{arith}
 use native.Mathlib.Nat.{suc-mul, mul-comm}
-use mathlib.Core.Path.{_≡_, refl, sym, _∙_, ap}
+use mathlib.Core.Path.{_≡_, sym, _∙_}
 use mathlib.Core.Bool.{true}
 use mathlib.Core.List.{List, [], _∷_, List·Memᴰ·cases-cons}
 use mathlib.Core.Logic.{⊎-elim}
@@ -12,11 +12,12 @@ use lib.ListN.{length, take, drop, length-drop}
 use lib.Seq.{length-take-le}
 use borrow.Author.Tests.{ltb-false, leb-true, eqb-false, not-false}
 use Rattle.terms.specs.Lists.{_∈_}
-use Rattle.terms.specs.Network.{below, RisingFrom, no-more, next, ArcOf, Admitted}
+use Rattle.terms.specs.Network.{cut, below, RisingFrom, no-more, next, ArcOf, Admitted}
 use Rattle.terms.proofs.ListLaws.{and-both, take-mem}
+use Rattle.terms.proofs.ColumnLaws.{length-cut}
 use Rattle.image.specs.Outcome.{sound}
 use Rattle.image.specs.Rows.{is-node, pairs, arc-fault, arcs-fault, costs-fault, lists-fault}
-use Rattle.image.specs.Layout.{node-count, arc-count, column-count, node-list, cost-list, costs-in, costs-start, cut, netOf}
+use Rattle.image.specs.Layout.{node-count, arc-count, column-count, node-list, cost-list, costs-in, costs-start, netOf}
 use Rattle.image.specs.Calls.{image-fault}
 use Rattle.image.proofs.OutcomeLaws.{then-sound, row-sound}
 use Rattle.image.proofs.ByteLaws.{length-decode, drop-mem}
@@ -56,11 +57,6 @@ sound-costs i (c ∷ costs) e w m =
     ⊎-elim (λ (q : w ≡ c). rw q (ltb-false 1000000 c (row-sound _ _ _ (e₁ .0)))) (sound-costs (suc i) costs (e₁ .1) w) (List·Memᴰ·cases-cons m)
 
 -- ---- columns
-length-cut : (k m : ℕ) (l : List ℕ) → length (cut k m l) ≡ k
-unfolding cut
-length-cut zero m l = refl
-length-cut (suc k) m l = ap suc (length-cut k m (drop m l))
-
 -- each column has m costs, all of them costs of the list
 cut-full : (k m : ℕ) (l : List ℕ) → k * m ≤ length l → (c : List ℕ) → c ∈ cut k m l → (length c ≡ m) × ((w : ℕ) → w ∈ c → w ∈ l)
 unfolding cut

@@ -2,14 +2,15 @@
 -- ---- parts of decoded lists
 use Prim.Native.Nat.{ℕ, zero, suc, _+_, _*_, _-_, _≤_, _<_}
 use native.Mathlib.Omega.{arith}
-use native.Mathlib.Nat.{mul-le-mul, mul-le-mul-right, mul-comm, mul-suc, suc-mul, mul-zero, zero-mul, zero-add, suc-add, add-comm, le-add-right}
+use native.Mathlib.Nat.{mul-le-mul, mul-le-mul-right, mul-comm, mul-suc, suc-mul, mul-zero, zero-add, suc-add, add-comm, le-add-right}
 use mathlib.Core.Path.{_≡_, refl, sym, _∙_, ap, ap₂}
 use mathlib.Core.List.{List, [], _∷_, map}
 use lib.ListN.{length, getD, take, drop, List·getD-map}
 use lib.Seq.{drop-drop, take-take, take-nil}
+use Rattle.terms.proofs.ColumnLaws.{cut-at}
 use Rattle.image.specs.Bytes.{number, field, decode}
 use Rattle.image.specs.Outcome.{sound}
-use Rattle.image.specs.Layout.{arc-count, column-count, costs-start, nodes-in, costs-in, node-list, cost-list, cut, netOf}
+use Rattle.image.specs.Layout.{arc-count, column-count, costs-start, nodes-in, costs-in, node-list, cost-list, netOf}
 use Rattle.image.specs.Calls.{image-fault}
 use Rattle.image.proofs.ByteLaws.{decode-at}
 use Rattle.image.proofs.RowLaws.{pairs-at, length-pairs}
@@ -41,12 +42,6 @@ decode-part w zero b = refl
 decode-part w (suc c) b =
     let e : w * suc c ≡ w + w * c = mul-suc w c ∙ add-comm (w * c) w in
     rw (e, take-take w (w + w * c) b (le-add-right w (w * c)), drop-take w (w * c) b, decode-part w c (drop w b))
-
-cut-at : (k m : ℕ) (l : List ℕ) (i : ℕ) → i < k → getD (cut k m l) i [] ≡ take m (drop (i * m) l)
-unfolding cut
-cut-at zero m l i h = absurd (omega arith)
-cut-at (suc k) m l zero h = rw (zero-mul m)
-cut-at (suc k) m l (suc i) h = cut-at k m (drop m l) i (omega arith) ∙ rw (drop-drop (i * m) m l, suc-mul i m, add-comm (i * m) m)
 
 -- ---- of an accepted image
 module _ (b : List ℕ) (accepted : image-fault b ≡ sound) where

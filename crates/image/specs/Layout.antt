@@ -1,10 +1,10 @@
 -- Document 01, "The network image": the fields and lists of an image, the image that lists are written to, and the network it means. Assumes nothing.
-use Prim.Native.Nat.{ℕ, zero, suc, _+_, _*_, _/_}
+use Prim.Native.Nat.{ℕ, _+_, _*_, _/_}
 use mathlib.Core.Bool.{Bool, _&&_}
 use mathlib.Core.List.{List, [], _∷_, _++_}
 use lib.Dec.{eqb}
-use lib.ListN.{length, take, drop}
-use Rattle.terms.specs.Network.{Net}
+use lib.ListN.{length, drop}
+use Rattle.terms.specs.Network.{Net, cut}
 use Rattle.image.specs.Bytes.{field, decode, encode}
 use Rattle.image.specs.Rows.{pairs}
 
@@ -61,11 +61,6 @@ unfoldable pub image-of : ℕ → ℕ → List ℕ → List ℕ → List ℕ
 image-of n k nodes costs = header n (half nodes) k ++ (encode 2 nodes ++ encode 4 costs)
 
 -- ---- what an image means
--- k columns of m costs
-unfoldable pub cut : ℕ → ℕ → List ℕ → List (List ℕ)
-cut zero m l = []
-cut (suc k) m l = take m l ∷ cut k m (drop m l)
-
 -- the network of an image
 unfoldable pub netOf : List ℕ → Net
 netOf b = record {

@@ -22,7 +22,7 @@ use Rattle.ranking.proofs.LaidLaws.{take-last, laid-kept}
 use Rattle.ranking.proofs.StateLaws.{route-same, waiting-next, waiting-none, waiting-same}
 
 -- ---- arcs of a path
-arcs-linked : {g : Graph} (i : ℕ) {p : Route} → ByArcs g p → i + 1 < length p → linked g (getD p i 0) (getD p (i + 1) 0) ≡ true
+pub arcs-linked : {g : Graph} (i : ℕ) {p : Route} → ByArcs g p → i + 1 < length p → linked g (getD p i 0) (getD p (i + 1) 0) ≡ true
 arcs-linked zero single h = absurd (omega arith)
 arcs-linked zero (along l a) h = l
 arcs-linked (suc i) single h = absurd (omega arith)

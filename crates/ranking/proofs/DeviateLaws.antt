@@ -30,15 +30,16 @@ use Rattle.ranking.specs.State.{taking-over}
 use Rattle.ranking.proofs.BranchLaws.{loopless-take, beginning-path}
 use Rattle.ranking.proofs.LaidLaws.{take-last, loopless-last, laid-none, laid-more}
 
--- ---- the weight of an arc
+-- ---- an arc and its weight
 module _ {n : ℕ} {ts hs ws first : List ℕ} (arcs : Arcs n ts hs ws) (star : Star n ts hs first) (v y : ℕ) (l : linked (graph ts hs ws) v y ≡ true) where
   node : v ≤ n
   node = tail-within arcs v y l .1
 
+  pub arc-at : (i : ℕ) → getD first v 0 ≤ i → i < getD first (v + 1) 0 → getD hs i 0 ≡ y → At ts hs v y i
+  arc-at i lo hi e = record { below = omega (arith, star .within (v + 1) (omega (arith, node))); tail-is = star .out-of v i node lo hi; head-is = e }
+
   pub arc-found : (i : ℕ) → getD first v 0 ≤ i → i < getD first (v + 1) 0 → getD hs i 0 ≡ y → getD ws i 0 ≡ weight (graph ts hs ws) v y
-  arc-found i lo hi e =
-      let at : At ts hs v y i = record { below = omega (arith, star .within (v + 1) (omega (arith, node))); tail-is = star .out-of v i node lo hi; head-is = e } in
-      sym (at-weight arcs at)
+  arc-found i lo hi e = sym (at-weight arcs (arc-at i lo hi e))
 
   pub arc-there : ((i : ℕ) → getD first v 0 ≤ i → i < getD first (v + 1) 0 → getD hs i 0 ≡ y → ⊥) → ⊥
   arc-there none =

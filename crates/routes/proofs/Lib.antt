@@ -1,6 +1,7 @@
 pub mod DecodeLaws
 pub mod CostLaws
 pub mod LabelLaws
+pub mod RankLaws
 pub mod RowLaws
 pub mod ArcLaws
 pub mod RoomLaws

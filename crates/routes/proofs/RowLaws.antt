@@ -8,7 +8,7 @@ use mathlib.Core.List.{List, [], _∷_}
 use mathlib.Core.Option.{Option, none, some}
 use lib.Dec.{leb, eqb}
 use lib.ListN.{length}
-use borrow.Author.Tests.{lt-ltb, le-ltb, eq-eqb, ne-eqb, leb-true, ltb-false, not-false}
+use borrow.Author.Tests.{lt-ltb, le-ltb, lt-leb, le-leb, eq-eqb, ne-eqb, leb-true, ltb-false, eqb-false, not-false}
 use Rattle.terms.specs.Network.{Net, Admitted, column}
 use Rattle.terms.specs.Paths.{Path}
 use Rattle.terms.proofs.ListLaws.{and-both, or-false}
@@ -21,8 +21,8 @@ use Rattle.image.proofs.OutcomeLaws.{outcome-fault, then-fault, then-next, then
 use Rattle.image.proofs.CheckLaws.{sized, same-sizes, rejected}
 use Rattle.image.proofs.PartLaws.{length-arcs}
 use Rattle.image.proofs.NetworkLaws.{accepted-network, length-columns}
-use Rattle.routes.specs.Calls.{ends-row, goal-row, column-row, room-row, list-row, cost-row, dearest-anywhere, label-fault, regret-fault}
-use Rattle.routes.specs.Decoded.{Accepted, Node, InColumn}
+use Rattle.routes.specs.Calls.{ends-row, goal-row, column-row, room-row, list-row, cost-row, count-row, search-rows, dearest-anywhere, label-fault, regret-fault}
+use Rattle.routes.specs.Decoded.{Accepted, Node, InColumn, Ends}
 use Rattle.routes.proofs.CostLaws.{all-nodes-row, all-columns-row}
 use Rattle.terms.specs.Regret as regret
 
@@ -95,6 +95,64 @@ ends-sound net s t e =
     let f = or-false (not (is-node (net .nodes) s && is-node (net .nodes) t)) (eqb s t) (row-sound _ _ _ e) in
     let g = and-both (is-node (net .nodes) s) (is-node (net .nodes) t) (not-false _ (f .0)) in
     (node-true (g .0), node-true (g .1))
+
+apart-of : (net : Net) (s t : ℕ) → ends-row net s t ≡ sound → s ≡ t → ⊥
+unfolding ends-row
+apart-of net s t e = eqb-false s t (or-false (not (is-node (net .nodes) s && is-node (net .nodes) t)) (eqb s t) (row-sound _ _ _ e) .1)
+
+-- ---- rows 11 to 13, each by itself
+module _ {b : List ℕ} {n m k : ℕ} (a : Accepted b n m k) (u : ℕ) where
+  pub wrong-column : (leb 1 u && leb u k) ≡ false → column-row (netOf b) u ≡ fault 11 0
+  unfolding column-row row
+  wrong-column h = rw (← a .columns-are, h)
+
+  pub right-column : (leb 1 u && leb u k) ≡ true → column-row (netOf b) u ≡ sound
+  unfolding column-row row
+  right-column h = rw (← a .columns-are, h)
+
+pub too-few : (K : ℕ) → K < 1 → count-row K ≡ fault 12 0
+unfolding count-row row
+too-few K h = rw (lt-leb 1 K h)
+
+pub too-many : (K : ℕ) → 256 < K → count-row K ≡ fault 12 0
+unfolding count-row row
+too-many K h = rw (le-leb 1 K (omega arith), lt-leb K 256 h)
+
+pub right-count : (K : ℕ) → 1 ≤ K → K ≤ 256 → count-row K ≡ sound
+unfolding count-row row
+right-count K h g = rw (le-leb 1 K h, le-leb K 256 g)
+
+pub counted : (K : ℕ) → count-row K ≡ sound → (1 ≤ K) × (K ≤ 256)
+unfolding count-row
+counted K e = let c = and-both (leb 1 K) (leb K 256) (not-false _ (row-sound _ _ _ e)) in (leb-true _ _ (c .0), leb-true _ _ (c .1))
+
+pub too-short : (room need : ℕ) → room < need → room-row room need ≡ fault 13 0
+unfolding room-row row
+too-short room need h = rw (lt-ltb room need h)
+
+pub long-enough : (room need : ℕ) → need ≤ room → room-row room need ≡ sound
+unfolding room-row row
+long-enough room need h = rw (le-ltb room need h)
+
+pub roomy : (room need : ℕ) → room-row room need ≡ sound → need ≤ room
+unfolding room-row
+roomy room need e = ltb-false _ _ (row-sound _ _ _ e)
+
+-- what the rows before 12 say where none of them applies
+pub record SearchSound (b : List ℕ) (u s t : ℕ) : Type 0 where
+  pub accepted : image-fault b ≡ sound
+  pub ends : Ends (netOf b .nodes) s t
+  pub from : 1 ≤ u
+  pub upto : u ≤ length (netOf b .columns)
+
+pub search-sound : (b : List ℕ) (u s t : ℕ) → search-rows b u s t ≡ sound → SearchSound b u s t
+unfolding search-rows column-row
+search-sound b u s t e =
+    let e₁ = then-sound _ _ e in
+    let e₂ = then-sound _ _ (e₁ .0) in
+    let c = and-both (leb 1 u) (leb u (length (netOf b .columns))) (not-false _ (row-sound _ _ _ (e₁ .1))) in
+    let n = ends-sound _ _ _ (e₂ .1) in
+    record { accepted = e₂ .0; ends = record { start-in = n .0; goal-in = n .1; apart = apart-of _ _ _ (e₂ .1) }; from = leb-true _ _ (c .0); upto = leb-true _ _ (c .1) }
 
 -- ---- Label
 module _ {b : List ℕ} {n m k : ℕ} (a : Accepted b n m k) (u t room : ℕ) where

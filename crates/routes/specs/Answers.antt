@@ -1,4 +1,4 @@
--- What the answers of Label, Shortest and Regret say: 01's values, or the refusal's number and place. Assumes nothing.
+-- What the answers of Label, Shortest, Regret and Rank say: 01's values, or the refusal's number and place. Assumes nothing.
 use mathlib.Core.List.{[], _∷_}
 use Rattle.image.specs.Outcome.{Outcome, gives}
 use Rattle.image.specs.Answers.{refused}
@@ -6,6 +6,8 @@ use Rattle.routes.specs.declared.labelling.Labelled.{Labelled}
 use Rattle.routes.specs.declared.labelling.Labelled.the-variants as label
 use Rattle.routes.specs.declared.finding.Routed.{Routed}
 use Rattle.routes.specs.declared.finding.Routed.the-variants as shortest
+use Rattle.routes.specs.declared.listing.Listed.{Listed}
+use Rattle.routes.specs.declared.listing.Listed.the-variants as rank
 use Rattle.routes.specs.declared.measuring.Regretted.{Regretted}
 use Rattle.routes.specs.declared.measuring.Regretted.the-variants as regret
 
@@ -23,3 +25,8 @@ routed (shortest.Refused r) = refused r
 abbrev pub regretted : Regretted → Outcome
 regretted (regret.Measured m) = gives (m .figure ∷ m .worst ∷ [])
 regretted (regret.Refused r) = refused r
+
+-- the count
+abbrev pub listed : Listed → Outcome
+listed (rank.Paths count) = gives (count ∷ [])
+listed (rank.Refused r) = refused r

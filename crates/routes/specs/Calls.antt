@@ -1,17 +1,18 @@
--- Document 01, calls 2 to 4: what Label, Shortest and Regret come to, for every image, list, number and length of a lent slice. Assumes nothing.
-use Prim.Native.Nat.{ℕ, zero}
+-- Document 01, calls 2 to 5: what Label, Shortest, Regret and Rank come to, for every image, list, number and length of a lent slice. Assumes nothing.
+use Prim.Native.Nat.{ℕ, zero, _+_, _*_}
 use mathlib.Core.Bool.{Bool, not, _&&_, _||_}
 use mathlib.Core.List.{List, [], _∷_, map}
 use mathlib.Core.Option.{Option, none, some}
 use lib.Dec.{leb, ltb, eqb}
-use lib.ListN.{length, getD}
+use lib.ListN.{length, getD, take, replicate}
 use Rattle.terms.specs.Lists.{largest, numbers}
 use Rattle.terms.specs.Network.{Graph, Net, column}
 use Rattle.terms.specs.Paths.{Route, cost, paths}
 use Rattle.terms.specs.Ranking.{ranked}
 use Rattle.terms.specs.Regret.{labels, figure, worst}
 use Rattle.terms.specs.Regret as regret
-use Rattle.image.specs.Outcome.{Fault, sound, fault, row, _then_, Outcome, outcome}
+use Rattle.candidates.specs.Rows.{rows-of}
+use Rattle.image.specs.Outcome.{Fault, sound, fault, row, _then_, Outcome, outcome, after}
 use Rattle.image.specs.Rows.{is-node}
 use Rattle.image.specs.Layout.{netOf}
 use Rattle.image.specs.Calls.{image-fault}
@@ -27,6 +28,10 @@ ends-row net s t = row 10 0 (not (is-node (net .nodes) s && is-node (net .nodes)
 -- row 11: "column outside 1..k"
 unfoldable pub column-row : Net → ℕ → Fault
 column-row net u = row 11 0 (not (leb 1 u && leb u (length (net .columns))))
+
+-- row 12: "K outside 1..256"
+unfoldable pub count-row : ℕ → Fault
+count-row K = row 12 0 (not (leb 1 K && leb K 256))
 
 -- row 13, for a slice of this length that needs so many places
 unfoldable pub room-row : ℕ → ℕ → Fault
@@ -48,6 +53,14 @@ dearest n g s t = largest (map (cost g) (paths n g s t))
 unfoldable pub cost-row : ℕ → Fault
 cost-row c = row 16 0 (ltb 4000000000 c)
 
+-- the rows before 12 of a call with a column, a start and a goal
+unfoldable pub search-rows : List ℕ → ℕ → ℕ → ℕ → Fault
+search-rows b u s t = (image-fault b then ends-row (netOf b) s t) then column-row (netOf b) u
+
+-- "Rank and Robust borrow a workspace of at least (K+1)(n+16) + 16n + 64 32-bit numbers"
+unfoldable pub workspace : ℕ → ℕ → ℕ
+workspace n K = (K + 1) * (n + 16) + 16 * n + 64
+
 -- ---- Label: column u, goal t; "writes for each node the least cost to the goal, or 4,294,967,295 if it can't be reached, in n 32-bit places"
 unfoldable pub label-fault : List ℕ → ℕ → ℕ → ℕ → Fault
 label-fault b u t room =
@@ -67,11 +80,7 @@ labels-of b u t = labels (netOf b .nodes) (column (netOf b) u) t
 -- ---- Shortest: column u, start s, goal t; "writes the first path of the ranking order, gives length and cost"
 -- the rows before 15
 unfoldable pub shortest-rows : List ℕ → ℕ → ℕ → ℕ → ℕ → Fault
-shortest-rows b u s t room =
-    image-fault b
-    then ends-row (netOf b) s t
-    then column-row (netOf b) u
-    then room-row room (netOf b .nodes)
+shortest-rows b u s t room = search-rows b u s t then room-row room (netOf b .nodes)
 
 -- rows 15 and 16
 unfoldable pub path-rows : List ℕ → ℕ → ℕ → ℕ → Fault
@@ -107,3 +116,34 @@ regret-fault b s t nodes =
 
 unfoldable pub regret-outcome : List ℕ → ℕ → ℕ → List ℕ → Outcome
 regret-outcome b s t nodes = outcome (regret-fault b s t nodes) (figure (netOf b) s t nodes ∷ worst (netOf b) s t nodes ∷ [])
+
+-- ---- Rank: column u, start s, goal t, K
+-- the rows before 15, for slices of these lengths: "Rank: K times n, and K costs"
+unfoldable pub rank-rows : List ℕ → ℕ → ℕ → ℕ → ℕ → ℕ → ℕ → ℕ → Fault
+rank-rows b u s t K rows costs work =
+    (search-rows b u s t then count-row K)
+    then room-row rows (K * netOf b .nodes)
+    then room-row costs K
+    then room-row work (workspace (netOf b .nodes) K)
+
+unfoldable pub rank-fault : List ℕ → ℕ → ℕ → ℕ → ℕ → ℕ → ℕ → ℕ → Fault
+rank-fault b u s t K rows costs work = rank-rows b u s t K rows costs work then path-rows b u s t
+
+-- "the first min(K, number of paths) paths"
+unfoldable pub rank-of : List ℕ → ℕ → ℕ → ℕ → ℕ → List Route
+rank-of b u s t K = take K (ranked (netOf b .nodes) (column (netOf b) u) s t)
+
+-- what is written: the paths, "one a row of n places, each row filled up with 0, and their costs"
+unfoldable pub rank-rows-of : List ℕ → ℕ → ℕ → ℕ → ℕ → List ℕ
+rank-rows-of b u s t K = rows-of (netOf b .nodes) (rank-of b u s t K)
+
+unfoldable pub rank-costs-of : List ℕ → ℕ → ℕ → ℕ → ℕ → List ℕ
+rank-costs-of b u s t K = map (cost (column (netOf b) u)) (rank-of b u s t K)
+
+-- "gives the count"
+unfoldable pub rank-outcome : List ℕ → ℕ → ℕ → ℕ → ℕ → ℕ → ℕ → ℕ → Outcome
+rank-outcome b u s t K rows costs work = outcome (rank-fault b u s t K rows costs work) (length (rank-of b u s t K) ∷ [])
+
+-- the workspace: "after a result .. all of it is 0"
+unfoldable pub cleared : Fault → List ℕ → List ℕ
+cleared f work = after f (replicate (length work) 0) work

@@ -1,8 +1,8 @@
 -- An accepted image as the path layer reads it: its network's sizes, and one column as a graph in three arrays. Assumes nothing.
-use Prim.Native.Nat.{ℕ, _+_, _≤_, _<_}
+use Prim.Native.Nat.{ℕ, _+_, _*_, _≤_, _<_}
 use mathlib.Core.Path.{_≡_}
 use mathlib.Core.List.{List, []}
-use lib.ListN.{length, getD}
+use lib.ListN.{length, getD, replicate}
 use Rattle.terms.specs.Network.{Net, column}
 use Rattle.image.specs.Outcome.{sound}
 use Rattle.image.specs.Layout.{netOf}
@@ -68,6 +68,19 @@ pub record WalkRoom (n : ℕ) (used ls route : List ℕ) : Type 0 where
   pub unused : (x : ℕ) → getD used x 0 ≡ 0
   pub labels-long : length ls ≡ n + 1
   pub route-long : length route ≡ n
+
+-- slices long enough for K paths: K rows, K costs and the workspace's slots
+pub record ListSlices (n K : ℕ) (rows costs work : List ℕ) : Type 0 where
+  pub wanted-from : 1 ≤ K
+  pub wanted-to : K ≤ 256
+  pub rows-long : K * n ≤ length rows
+  pub costs-long : K ≤ length costs
+  pub slots-long : K * (n + 16) ≤ length work
+
+-- the workspace after r paths were listed: untouched if there are none, all 0 otherwise
+pub data ListedWork (r : ℕ) (work work′ : List ℕ) : Type 0 where
+  unused : r ≡ 0 → work′ ≡ work → ListedWork r work work′
+  emptied : 1 ≤ r → work′ ≡ replicate (length work) 0 → ListedWork r work work′
 
 -- the arrays hold column u, the arcs out of and into each node, and the labels to t of the whole network
 pub record Loaded (net : Net) (u t : ℕ) (ts hs ws outs ins nexts ls : List ℕ) : Type 0 where

@@ -1,8 +1,7 @@
 // Shortest: the first path of the ranking order.
 use super::loading::load;
 use super::rows::check_costs;
-use super::rows::check_ends;
-use super::rows::is_column;
+use super::rows::check_search;
 use image::Checked;
 use image::Refusal;
 use image::Sizes;
@@ -34,13 +33,10 @@ pub enum Routed {
 fn check_shortest(image: &[u8], column: u32, start: u32, goal: u32, room: usize) -> Checked
     ensures { λ r. ⌜ checked r ≡ outcome (shortest-rows (now (image .entry)) column start goal room) (sizes (now (image .entry))) ⌝ }
 {
-    let answer = check_ends(image, start, goal);
+    let answer = check_search(image, column, start, goal);
     let Checked::Network(sizes) = answer else {
         return answer;
     };
-    if !is_column(sizes.k, column) {
-        return Checked::Refused(Refusal::WrongColumn);
-    }
     if room < sizes.n as usize {
         return Checked::Refused(Refusal::SliceTooShort);
     }

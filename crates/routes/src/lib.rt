@@ -1,10 +1,11 @@
-// The path layer's calls on images: Label, Shortest and Regret of document 01. No call asks anything of its caller.
+// The path layer's calls on images: Label, Shortest, Regret and Rank of document 01. No call asks anything of its caller.
 
 mod arcs;
 mod columns;
 mod decoding;
 mod finding;
 mod labelling;
+mod listing;
 mod lists;
 mod loading;
 mod measuring;
@@ -14,6 +15,8 @@ pub use finding::Routed;
 pub use finding::shortest;
 pub use labelling::Labelled;
 pub use labelling::label;
+pub use listing::Listed;
+pub use listing::rank;
 pub use measuring::Measure;
 pub use measuring::Regretted;
 pub use measuring::regret;

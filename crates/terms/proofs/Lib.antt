@@ -1,4 +1,6 @@
 pub mod ListLaws
+pub mod LargestLaws
+pub mod ColumnLaws
 pub mod PathLaws
 pub mod RankingLaws
 pub mod PrefixLaws

@@ -8,13 +8,13 @@ use mathlib.Core.Logic.{⊎-elim}
 use mathlib.Core.List.{List, [], _∷_, List·Memᴰ·head, Memᴰ·map, Memᴰ·of-map}
 use lib.Dec.{eqb}
 use lib.ListN.{length, getD, length-map}
-use borrow.Author.Tests.{eqb-true, eqb-false, eq-eqb, ne-eqb, le-leb, lt-leb}
+use borrow.Author.Tests.{eqb-true, eqb-false, eq-eqb, le-leb, lt-leb}
 use Rattle.terms.specs.Lists.{_∈_, index, numbers}
 use Rattle.terms.specs.Network.{Graph, Net, Admitted, column}
 use Rattle.terms.specs.Paths.{Route, Path, cost, paths}
 use Rattle.terms.specs.Ranking.{ranked}
 use Rattle.terms.specs.Regret.{best, mark, label, deviation, deviations, figure, worst}
-use Rattle.terms.proofs.ListLaws.{le-or-lt, getD-mem, mem-length, least-le, least-attained, largest-ge, largest-le, largest-mem, length-numbers, getD-map-numbers, mem-numbers, numbers-mem, index-before, index-passes, index-le, index-is}
+use Rattle.terms.proofs.ListLaws.{le-or-lt, getD-mem, mem-length, least-le, least-attained, largest-ge, largest-mem, length-numbers, getD-map-numbers, mem-numbers, numbers-mem, index-before, index-passes, index-le}
 use Rattle.terms.proofs.PathLaws.{path-listed, column-within, path-in-column}
 use Rattle.terms.proofs.RankingLaws.{head-first, before-cost, ranked-rising, mem-ranked, ranked-mem}
 
@@ -61,7 +61,7 @@ pub record Worst (net : Net) (s t : ℕ) (p : Route) (u : ℕ) : Type 0 where
   pub lower-less : (v : ℕ) → 1 ≤ v → v < u → deviation net s t p v < figure net s t p
 
 module _ (net : Net) (s t : ℕ) (p : Route) where
-  -- ---- the figure: at least each deviation, and equal to one that no other exceeds
+  -- ---- the figure: at least each deviation, and equal to one
   pub deviation-le-figure : (u : ℕ) → 1 ≤ u → u ≤ length (net .columns) → deviation net s t p u ≤ figure net s t p
   unfolding figure deviations
   deviation-le-figure u lo hi = largest-ge (Memᴰ·map (deviation net s t p) (mem-numbers 1 (length (net .columns)) u lo (omega arith)))
@@ -74,12 +74,6 @@ module _ (net : Net) (s t : ℕ) (p : Route) where
       let b = numbers-mem 1 (length (net .columns)) (o .1) in
       (o .0, b .0, omega arith, o .2)
 
-  pub figure-is : (u : ℕ) → 1 ≤ u → u ≤ length (net .columns)
-      → ((v : ℕ) → 1 ≤ v → v ≤ length (net .columns) → deviation net s t p v ≤ deviation net s t p u) → figure net s t p ≡ deviation net s t p u
-  unfolding figure
-  figure-is u lo hi top =
-      le-antisymm (largest-le (deviation net s t p u) (deviations net s t p) (λ y m. let o = deviations-mem m in rw (← o .3) (top (o .0) (o .1) (o .2)))) (deviation-le-figure u lo hi)
-
   -- ---- the worst column is the lowest-numbered one that has the figure
   deviations-at : (j : ℕ) → j < length (net .columns) → getD (deviations net s t p) j 0 ≡ deviation net s t p (suc j)
   unfolding deviations
@@ -88,15 +82,6 @@ module _ (net : Net) (s t : ℕ) (p : Route) where
   deviations-length : length (deviations net s t p) ≡ length (net .columns)
   unfolding deviations
   deviations-length = rw (length-map, length-numbers)
-
-  pub worst-is : (u : ℕ) → Worst net s t p u → worst net s t p ≡ u
-  unfolding worst
-  worst-is zero w = absurd (omega (arith, w .from))
-  worst-is (suc j) w =
-      ap suc (index-is (eqb (figure net s t p)) 0 (deviations net s t p) j (rw deviations-length (w .upto)) (eq-eqb _ _ (sym (w .has-figure) ∙ sym (deviations-at j (w .upto)))) (λ i h. ne-eqb _ _ (lower i h)))
-    where
-      lower : (i : ℕ) → i < j → figure net s t p ≡ getD (deviations net s t p) i 0 → ⊥
-      lower i h e = omega (arith, w .lower-less (suc i) (omega arith) (omega arith), deviations-at i (omega (arith, w .upto)))
 
   figure-mem : 1 ≤ length (net .columns) → figure net s t p ∈ deviations net s t p
   unfolding figure

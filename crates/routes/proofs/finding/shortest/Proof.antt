@@ -39,7 +39,7 @@ start c = c .before .before .before .before .before
 
 passes : (c : tie.After-answer) → (shortest-rows (start c .args .image .now) (start c .args .column) (start c .args .start) (start c .args .goal) (length (start c .args .path .now)) ≡ sound) × Accepted (start c .args .image .now) (c .answer .given .0 .0 .n) (c .answer .given .0 .0 .m) (c .answer .given .0 .0 .k)
 passes c =
-    given-sizes _ (λ e. shortest-sound _ _ _ _ _ e .accepted) (sym (ap checked (c .answer .given .1)) ∙ c .before .before .check-shortest .ensures)
+    given-sizes _ (λ e. shortest-sound _ _ _ _ _ e .search .accepted) (sym (ap checked (c .answer .given .1)) ∙ c .before .before .check-shortest .ensures)
 
 given : (c : tie.After-answer) → ShortestSound (start c .args .image .now) (start c .args .column) (start c .args .start) (start c .args .goal) (length (start c .args .path .now))
 given c = shortest-sound _ _ _ _ _ (passes c .0)
@@ -48,7 +48,7 @@ write-shortest-requires : tie.Need-write-shortest-requires
 write-shortest-requires c κs = let a = c .before .before in
     let g = given a in
     let k = passes a .1 in
-    ((record { passes = k .passes; arcs-are = k .arcs-are; from = g .from; upto = g .upto }, g .ends), (k .nodes-are, g .room-for))
+    ((record { passes = k .passes; arcs-are = k .arcs-are; from = g .search .from; upto = g .search .upto }, g .search .ends), (k .nodes-are, g .room-for))
 
 same-length : tie.Need-same-length
 same-length c = search needs

@@ -5,7 +5,8 @@ use mathlib.Core.Path.{_≡_}
 use mathlib.Core.Logic.{⊎-elim}
 use Rattle.terms.specs.Regret.{deviation}
 use Rattle.image.specs.Layout.{netOf}
-use Rattle.routes.proofs.RegretLaws.{SoFar, none-so-far, raised, kept, greatest}
+use Rattle.terms.proofs.LargestLaws.{SoFar, none-so-far, raised, kept}
+use Rattle.routes.proofs.RegretLaws.{greatest-deviation}
 use Rattle.routes.proofs.RowLaws.{column-bounds, in-column}
 use Rattle.routes.proofs.measuring.greatest_regret.Statement.{statement}
 use Rattle.routes.proofs.measuring.greatest_regret.Tie as tie
@@ -39,7 +40,7 @@ returns : tie.Need-returns Inv-loop μ-loop
 returns c = let h = c .before in
     let s = h .before .before .before in
     let done : h .loop .u ≡ s .args .k + 1 = omega arith in
-    greatest _ _ _ _ (column-bounds (s .pre .0) .0) (s .pre .0 .columns-are) (rw done at (h .loop .inv .2))
+    greatest-deviation _ _ _ _ (column-bounds (s .pre .0) .0) (s .pre .0 .columns-are) (rw done at (h .loop .inv .2))
 
 pub greatest-regret-spec : {M : Type 1} → statement M
 greatest-regret-spec =

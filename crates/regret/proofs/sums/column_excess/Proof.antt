@@ -1,0 +1,89 @@
+-- `sums::column_excess`: the column is a part of the costs, and the arcs cost the best there at least. Assumes nothing.
+use native.Mathlib.Omega.{arith}
+use Prim.Native.Nat.{ℕ, _+_, _*_, _-_, _≤_}
+use mathlib.Core.Path.{_≡_, _∙_, ap}
+use mathlib.Core.List.{List}
+use lib.ListN.{length, getD}
+use borrow.Author.Needs.{needs}
+use Rattle.regret.specs.Columns.{column-costs}
+use Rattle.regret.specs.Steps.{sum-of, excess}
+use Rattle.regret.proofs.StepLaws.{column-inside, column-part, column-full}
+use Rattle.regret.proofs.sums.column_excess.Statement.{statement}
+use Rattle.regret.proofs.sums.column_excess.Tie as tie
+
+abbrev start : tie.After-shared-slice-known3 → tie.Start
+start c = c .before .before .before
+
+inside : (c : tie.After-shared-slice-known3) → ((start c .args .u - 1) * start c .args .m + start c .args .m ≤ length (start c .args .costs .now)) × (length (start c .args .costs .now) ≤ 8000)
+inside c = let p = start c .pre in column-inside (p .0) (p .1 .0) (p .1 .1)
+
+sub-from : tie.Need-sub-from
+sub-from c = search needs
+
+mul-from : tie.Need-mul-from
+mul-from c = omega (arith, inside c)
+
+add-to : tie.Need-add-to
+add-to c = omega (arith, inside c)
+
+sub-best : tie.Need-sub-best
+sub-best c = search needs
+
+mul-best : tie.Need-mul-best
+mul-best c = search needs
+
+shared-slice-read-best : tie.Need-shared-slice-read-best
+shared-slice-read-best c = search needs
+
+mul-arc-sum : tie.Need-mul-arc-sum
+mul-arc-sum c = omega (arith, inside (c .before))
+
+sub-arc-sum : tie.Need-sub-arc-sum
+sub-arc-sum c = search needs
+
+part-arc-sum-start : tie.Need-part-arc-sum-start
+part-arc-sum-start c = search needs
+
+part-arc-sum-end : tie.Need-part-arc-sum-end
+part-arc-sum-end c = inside (c .before) .0
+
+arc-sum-requires : tie.Need-arc-sum-requires
+arc-sum-requires c κs = let s = start (c .before .before) in
+    let p = s .pre in
+    let long = ap length (column-part (p .0) (p .1 .0) (p .1 .1)) ∙ column-full (p .0) (p .1 .0) (p .1 .1) in
+    (p .0 .steps-few, λ i h. rw long (p .0 .arcs-in i h))
+
+-- the sum is that of the column's costs, and at least the best
+sum-is : (c : tie.After-arc-sum) → c .arc-sum .result ≡ sum-of (column-costs (start (c .before .before .before) .args .m) (start (c .before .before .before) .args .costs .now) (start (c .before .before .before) .args .u)) (start (c .before .before .before) .args .arcs .now)
+sum-is c = let s = start (c .before .before .before) in
+    let p = s .pre in
+    c .arc-sum .ensures ∙ ap (λ (l : List ℕ). sum-of l (s .args .arcs .now)) (column-part (p .0) (p .1 .0) (p .1 .1))
+
+low : (c : tie.After-arc-sum) → getD (start (c .before .before .before) .args .bests .now) (start (c .before .before .before) .args .u - 1) 0 ≤ sum-of (column-costs (start (c .before .before .before) .args .m) (start (c .before .before .before) .args .costs .now) (start (c .before .before .before) .args .u)) (start (c .before .before .before) .args .arcs .now)
+low c = let p = start (c .before .before .before) .pre in p .0 .bests-below _ (p .1 .0) (p .1 .1)
+
+sub-result : tie.Need-sub-result
+sub-result c = omega (arith, sum-is c, low c)
+
+returns : tie.Need-returns
+unfolding excess
+returns c = let a = start (c .before .before .before) .args in
+    ap (λ (x : ℕ). x - getD (a .bests .now) (a .u - 1) 0) (sum-is c)
+
+pub column-excess-spec : {M : Type 1} → statement M
+column-excess-spec =
+    tie.close
+    (tie.spec
+    sub-from
+    mul-from
+    add-to
+    sub-best
+    mul-best
+    shared-slice-read-best
+    mul-arc-sum
+    sub-arc-sum
+    part-arc-sum-start
+    part-arc-sum-end
+    arc-sum-requires
+    sub-result
+    returns)

@@ -1,0 +1,118 @@
+-- `routes::listing::write_ranked` meets its contract. Assumes nothing.
+use Prim.Native.Nat.{ℕ, _≤_}
+use native.Mathlib.Omega.{arith}
+use mathlib.Core.Path.{_≡_, sym, _∙_, ap}
+use mathlib.Core.List.{List, [], _∷_}
+use Rattle.image.specs.Outcome.{gives, refuses, after}
+use Rattle.image.specs.Answers.{checked}
+use Rattle.image.proofs.OutcomeLaws.{outcome-fault, outcome-sound, after-fault}
+use Rattle.routes.specs.Calls.{rank-rows-of, rank-costs-of, cleared}
+use Rattle.routes.proofs.CostLaws.{bound-row-sound}
+use Rattle.routes.proofs.DecodeLaws.{few-nodes}
+use Rattle.routes.proofs.RankLaws.{none-listed, some-listed, few-listed, no-rows, no-costs, work-unused, work-emptied, cleared-is, cleared-not}
+use borrow.Author.Needs.{needs}
+use Rattle.routes.proofs.listing.write_ranked.Statement.{statement}
+use Rattle.routes.proofs.listing.write_ranked.Tie as tie
+
+-- the image has few nodes
+bounded : (s : tie.Start) → (1 ≤ s .args .sizes .n) × (s .args .sizes .n ≤ 200)
+bounded s = (omega (arith, s .pre .0 .1 .start-in, s .pre .1 .0), omega (arith, few-nodes (s .pre .0 .0), s .pre .1 .0))
+
+never : {A : Type 0} {n p : ℕ} {l : List ℕ} → refuses n p ≡ gives l → A
+never e = let z : _≡_ {A = ℕ} 0 1 = cc in absurd (omega arith)
+
+check-costs-requires : tie.Need-check-costs-requires
+check-costs-requires c κs = bounded (c .before .before .before .before)
+
+enum-told : tie.Need-enum-told
+enum-told c = search needs
+
+enum-told-2 : tie.Need-enum-told-2
+enum-told-2 c = search needs
+
+refusal-requires : tie.Need-refusal-requires
+refusal-requires c κs = search needs
+
+returns : tie.Need-returns
+returns c = let k = c .before .before .before in
+    never (sym (ap checked (c .before .enum-told2 .given .1)) ∙ k .check-costs .ensures ∙ outcome-sound _ (bound-row-sound (bounded (k .before .before .before .before .before) .1)))
+
+list-requires : tie.Need-list-requires
+list-requires c κs = search needs
+
+same-length : tie.Need-same-length
+same-length c = search needs
+
+same-length-2 : tie.Need-same-length-2
+same-length-2 c = search needs
+
+same-length-3 : tie.Need-same-length-3
+same-length-3 c = search needs
+
+abbrev start : tie.After-list → tie.Start
+start c = c .before .before .before .before .before .before .before .before .before .before .before
+
+returns-2 : tie.Need-returns-2
+returns-2 c = let l = c .before .before .before .before .before .before .before in
+    let s = start l .args in
+    let p = start l .pre in
+    let z = none-listed (s .image .now) (s .column) (s .start) (s .goal) (s .wanted) (p .0 .0) (p .0 .1) (p .1 .1 .wanted-from) (sym (l .list .ensures .0) ∙ c .if1 .taken) in (
+      sym (outcome-fault _ (z .0)),
+      (
+        l .list .ensures .1 .0 ∙ no-rows (s .image .now) (s .column) (s .start) (s .goal) (s .wanted) (z .1) _ ∙ sym (after-fault _ _ (z .0)),
+        (
+          l .list .ensures .1 .1 .0 ∙ no-costs (s .image .now) (s .column) (s .start) (s .goal) (s .wanted) (z .1) _ ∙ sym (after-fault _ _ (z .0)),
+          work-unused (c .if1 .taken) (l .list .ensures .1 .1 .1) ∙ sym (cleared-not _ (z .0)),
+        ),
+      ),
+    )
+
+cast-t21 : tie.Need-cast-t21
+cast-t21 c = let l = c .before .before .before .before .before .before .before in
+    let s = start l .args in
+    omega (arith, l .list .ensures .0, few-listed (s .image .now) (s .column) (s .start) (s .goal) (s .wanted), start l .pre .1 .1 .wanted-to)
+
+same-length-4 : tie.Need-same-length-4
+same-length-4 c = search needs
+
+same-length-5 : tie.Need-same-length-5
+same-length-5 c = search needs
+
+same-length-6 : tie.Need-same-length-6
+same-length-6 c = search needs
+
+returns-3 : tie.Need-returns-3
+returns-3 c = let l = c .before .before .before .before .before .before .before in
+    let s = start l .args in
+    let p = start l .pre in
+    let one : 1 ≤ l .list .result = omega (arith, c .if1 .left) in
+    let e = some-listed (s .image .now) (s .column) (s .start) (s .goal) (s .wanted) (p .0 .0) (p .0 .1) (omega (arith, l .list .ensures .0)) in (
+      ap (λ (x : ℕ). gives (x ∷ [])) (l .list .ensures .0) ∙ sym (outcome-sound _ e),
+      (
+        l .list .ensures .1 .0 ∙ ap (λ f. after f (rank-rows-of (s .image .now) (s .column) (s .start) (s .goal) (s .wanted)) (s .rows .now)) (sym e),
+        (
+          l .list .ensures .1 .1 .0 ∙ ap (λ f. after f (rank-costs-of (s .image .now) (s .column) (s .start) (s .goal) (s .wanted)) (s .costs .now)) (sym e),
+          work-emptied one (l .list .ensures .1 .1 .1) ∙ cleared-is (s .work .now) ∙ ap (λ f. cleared f (s .work .now)) (sym e),
+        ),
+      ),
+    )
+
+pub write-ranked-spec : {M : Type 1} → statement M
+write-ranked-spec =
+    tie.close
+    (tie.spec
+    check-costs-requires
+    enum-told
+    enum-told-2
+    refusal-requires
+    returns
+    list-requires
+    same-length
+    same-length-2
+    same-length-3
+    returns-2
+    cast-t21
+    same-length-4
+    same-length-5
+    same-length-6
+    returns-3)
