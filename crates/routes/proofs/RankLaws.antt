@@ -24,46 +24,46 @@ use Rattle.image.proofs.OutcomeLaws.{then-fault, then-next, then-sound, after-f
 use Rattle.ranking.specs.Ranking.{Problem, Ranked}
 use Rattle.ranking.proofs.ResultLaws.{problem-of, ranked-count, ranked-cost}
 use Rattle.terms.proofs.PathLaws.{column-within}
-use Rattle.routes.specs.Calls.{search-rows, count-row, room-row, workspace, path-rows, rank-rows, rank-of, rank-rows-of, rank-costs-of, cleared}
+use Rattle.routes.specs.Calls.{ranking-rows, room-row, workspace, path-rows, rank-rows, rank-of, rank-rows-of, rank-costs-of, cleared}
 use Rattle.routes.specs.Decoded.{InColumn, Ends, ListSlices, ListedWork, Loaded}
 use Rattle.routes.proofs.CostLaws.{column-cost-le}
-use Rattle.routes.proofs.RowLaws.{SearchSound, search-sound, counted, too-short, long-enough, roomy}
+use Rattle.routes.proofs.RowLaws.{SearchSound, RankingSound, ranking-sound, too-short, long-enough, roomy}
 use Rattle.routes.proofs.ShortestLaws.{path-none, some-path}
 
 -- ---- the rows before 15
-module _ (b : List ℕ) (u s t K rows costs work : ℕ) (first : (search-rows b u s t then count-row K) ≡ sound) (n : ℕ) (nodes-are : n ≡ netOf b .nodes) where
-  next-rows : rank-rows b u s t K rows costs work ≡ (room-row rows (K * n) then room-row costs K then room-row work (workspace n K))
+module _ (b : List ℕ) (u s t K rows costs work : ℕ) (first : ranking-rows b u s t K work ≡ sound) (n : ℕ) (nodes-are : n ≡ netOf b .nodes) where
+  next-rows : rank-rows b u s t K rows costs work ≡ (room-row rows (K * n) then room-row costs K)
   unfolding rank-rows
-  next-rows = then-next _ first ∙ ap (λ (n : ℕ). room-row rows (K * n) then room-row costs K then room-row work (workspace n K)) (sym nodes-are)
+  next-rows = then-next _ first ∙ ap (λ (n : ℕ). room-row rows (K * n) then room-row costs K) (sym nodes-are)
 
   pub rows-short : rows < K * n → rank-rows b u s t K rows costs work ≡ fault 13 0
   rows-short h = next-rows ∙ then-fault _ (too-short _ _ h)
 
   module _ (rows-long : K * n ≤ rows) where
     pub costs-short : costs < K → rank-rows b u s t K rows costs work ≡ fault 13 0
-    costs-short h = next-rows ∙ then-next _ (long-enough _ _ rows-long) ∙ then-fault _ (too-short _ _ h)
+    costs-short h = next-rows ∙ then-next _ (long-enough _ _ rows-long) ∙ too-short _ _ h
 
-    module _ (costs-long : K ≤ costs) where
-      pub work-short : work < workspace n K → rank-rows b u s t K rows costs work ≡ fault 13 0
-      work-short h = next-rows ∙ then-next _ (long-enough _ _ rows-long) ∙ then-next _ (long-enough _ _ costs-long) ∙ too-short _ _ h
+    pub slices-long : K ≤ costs → rank-rows b u s t K rows costs work ≡ sound
+    slices-long h = next-rows ∙ then-next _ (long-enough _ _ rows-long) ∙ long-enough _ _ h
 
-      pub slices-long : workspace n K ≤ work → rank-rows b u s t K rows costs work ≡ sound
-      slices-long h = next-rows ∙ then-next _ (long-enough _ _ rows-long) ∙ then-next _ (long-enough _ _ costs-long) ∙ long-enough _ _ h
+-- the workspace has room for K slots, and one more
+pub slots-fit : (n K work : ℕ) → workspace n K ≤ work → (K + 1) * (n + 16) ≤ work
+unfolding workspace
+slots-fit n K work h = omega arith
 
 module _ (b : List ℕ) (u s t K : ℕ) (rows costs work : List ℕ) (e : rank-rows b u s t K (length rows) (length costs) (length work) ≡ sound) where
-  pub rank-sound : SearchSound b u s t
+  sound-rows : RankingSound b u s t K (length work)
   unfolding rank-rows
-  rank-sound = search-sound b u s t (then-sound _ _ (then-sound _ _ e .0) .0)
+  sound-rows = ranking-sound b u s t K (length work) (then-sound _ _ e .0)
+
+  pub rank-sound : SearchSound b u s t
+  rank-sound = sound-rows .search
 
   pub rank-slices : ListSlices (netOf b .nodes) K rows costs work
-  unfolding rank-rows workspace
+  unfolding rank-rows
   rank-slices =
-      let e₁ = then-sound _ _ e in
-      let e₂ = then-sound _ _ (e₁ .1) in
-      let e₃ = then-sound _ _ (e₂ .1) in
-      let k = counted _ (then-sound _ _ (e₁ .0) .1) in
-      let w : (K + 1) * (netOf b .nodes + 16) + 16 * netOf b .nodes + 64 ≤ length work = roomy _ _ (e₃ .1) in
-      record { wanted-from = k .0; wanted-to = k .1; rows-long = roomy _ _ (e₂ .0); costs-long = roomy _ _ (e₃ .0); slots-long = omega arith }
+      let f = then-sound _ _ (then-sound _ _ e .1) in
+      record { wanted-from = sound-rows .wanted-from; wanted-to = sound-rows .wanted-to; rows-long = roomy _ _ (f .0); costs-long = roomy _ _ (f .1); slots-long = omega (arith, slots-fit (netOf b .nodes) K (length work) (sound-rows .work-long)) }
 
 pub slices-for : {n N K : ℕ} {rows costs work : List ℕ} → n ≡ N → ListSlices N K rows costs work → ListSlices n K rows costs work
 slices-for {K = K} {rows} {costs} {work} e S = subst (λ n. ListSlices n K rows costs work) (sym e) S

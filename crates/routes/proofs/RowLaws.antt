@@ -21,7 +21,7 @@ use Rattle.image.proofs.OutcomeLaws.{outcome-fault, then-fault, then-next, then
 use Rattle.image.proofs.CheckLaws.{sized, same-sizes, rejected}
 use Rattle.image.proofs.PartLaws.{length-arcs}
 use Rattle.image.proofs.NetworkLaws.{accepted-network, length-columns}
-use Rattle.routes.specs.Calls.{ends-row, goal-row, column-row, room-row, list-row, cost-row, count-row, search-rows, dearest-anywhere, label-fault, regret-fault}
+use Rattle.routes.specs.Calls.{ends-row, goal-row, column-row, room-row, list-row, cost-row, count-row, workspace, search-rows, ranking-rows, dearest-anywhere, label-fault, regret-fault}
 use Rattle.routes.specs.Decoded.{Accepted, Node, InColumn, Ends}
 use Rattle.routes.proofs.CostLaws.{all-nodes-row, all-columns-row}
 use Rattle.terms.specs.Regret as regret
@@ -153,6 +153,21 @@ search-sound b u s t e =
     let c = and-both (leb 1 u) (leb u (length (netOf b .columns))) (not-false _ (row-sound _ _ _ (e₁ .1))) in
     let n = ends-sound _ _ _ (e₂ .1) in
     record { accepted = e₂ .0; ends = record { start-in = n .0; goal-in = n .1; apart = apart-of _ _ _ (e₂ .1) }; from = leb-true _ _ (c .0); upto = leb-true _ _ (c .1) }
+
+-- what the rows of Rank and Robust say where none up to the workspace's applies
+pub record RankingSound (b : List ℕ) (u s t K work : ℕ) : Type 0 where
+  pub search : SearchSound b u s t
+  pub wanted-from : 1 ≤ K
+  pub wanted-to : K ≤ 256
+  pub work-long : workspace (netOf b .nodes) K ≤ work
+
+pub ranking-sound : (b : List ℕ) (u s t K work : ℕ) → ranking-rows b u s t K work ≡ sound → RankingSound b u s t K work
+unfolding ranking-rows
+ranking-sound b u s t K work e =
+    let e₁ = then-sound _ _ e in
+    let e₂ = then-sound _ _ (e₁ .1) in
+    let k = counted K (e₂ .0) in
+    record { search = search-sound b u s t (e₁ .0); wanted-from = k .0; wanted-to = k .1; work-long = roomy _ _ (e₂ .1) }
 
 -- ---- Label
 module _ {b : List ℕ} {n m k : ℕ} (a : Accepted b n m k) (u t room : ℕ) where

@@ -62,6 +62,13 @@ search-rows b u s t = (image-fault b then ends-row (netOf b) s t) then column-ro
 unfoldable pub workspace : ℕ → ℕ → ℕ
 workspace n K = (K + 1) * (n + 16) + 16 * n + 64
 
+-- the rows of Rank and Robust up to 13 for the workspace, which has this length
+unfoldable pub ranking-rows : List ℕ → ℕ → ℕ → ℕ → ℕ → ℕ → Fault
+ranking-rows b u s t K work =
+    search-rows b u s t
+    then count-row K
+    then room-row work (workspace (netOf b .nodes) K)
+
 -- the workspace: "after a result .. all of it is 0"
 unfoldable pub cleared : Fault → List ℕ → List ℕ
 cleared f work = after f (replicate (length work) 0) work
@@ -126,10 +133,9 @@ regret-outcome b s t nodes = outcome (regret-fault b s t nodes) (figure (netOf b
 -- the rows before 15, for slices of these lengths: "Rank: K times n, and K costs"
 unfoldable pub rank-rows : List ℕ → ℕ → ℕ → ℕ → ℕ → ℕ → ℕ → ℕ → Fault
 rank-rows b u s t K rows costs work =
-    (search-rows b u s t then count-row K)
+    ranking-rows b u s t K work
     then room-row rows (K * netOf b .nodes)
     then room-row costs K
-    then room-row work (workspace (netOf b .nodes) K)
 
 unfoldable pub rank-fault : List ℕ → ℕ → ℕ → ℕ → ℕ → ℕ → ℕ → ℕ → Fault
 rank-fault b u s t K rows costs work = rank-rows b u s t K rows costs work then path-rows b u s t
@@ -152,10 +158,7 @@ rank-outcome b u s t K rows costs work = outcome (rank-fault b u s t K rows cost
 -- ---- Robust: column r, start s, goal t, K
 -- the rows before 15, for slices of these lengths: "a written node list needs n places"
 unfoldable pub robust-rows : List ℕ → ℕ → ℕ → ℕ → ℕ → ℕ → ℕ → Fault
-robust-rows b r s t K path work =
-    (search-rows b r s t then count-row K)
-    then room-row path (netOf b .nodes)
-    then room-row work (workspace (netOf b .nodes) K)
+robust-rows b r s t K path work = ranking-rows b r s t K work then room-row path (netOf b .nodes)
 
 -- "with N = 0 row 15 applies"; row 16 is about all columns, which this call reads
 unfoldable pub choice-rows : List ℕ → ℕ → ℕ → ℕ → Fault

@@ -1,8 +1,7 @@
 // Rank: the first paths of the ranking order.
 use super::loading::load;
 use super::rows::check_costs;
-use super::rows::check_wanted;
-use super::rows::workspace;
+use super::rows::check_ranking;
 use candidates::clear;
 use candidates::write_rows;
 use image::Checked;
@@ -47,7 +46,7 @@ fn check_rank(
 ) -> Checked
     ensures { λ r. ⌜ checked r ≡ outcome (rank-rows (now (image .entry)) column start goal wanted rows costs work) (sizes (now (image .entry))) ⌝ }
 {
-    let answer = check_wanted(image, column, start, goal, wanted);
+    let answer = check_ranking(image, column, start, goal, wanted, work);
     let Checked::Network(sizes) = answer else {
         return answer;
     };
@@ -57,9 +56,6 @@ fn check_rank(
         return Checked::Refused(Refusal::SliceTooShort);
     }
     if costs < k {
-        return Checked::Refused(Refusal::SliceTooShort);
-    }
-    if work < workspace(n, k) {
         return Checked::Refused(Refusal::SliceTooShort);
     }
     answer

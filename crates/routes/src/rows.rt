@@ -13,7 +13,7 @@ ghost use Rattle.image.specs.Outcome.{_then_, outcome};
 ghost use Rattle.image.specs.Layout.{netOf};
 ghost use Rattle.image.specs.Calls.{image-fault, sizes};
 ghost use Rattle.image.specs.Answers.{checked, triple};
-ghost use Rattle.routes.specs.Calls.{ends-row, cost-row, search-rows, count-row, workspace};
+ghost use Rattle.routes.specs.Calls.{ends-row, cost-row, search-rows, ranking-rows, workspace};
 
 // Whether u is one of the columns 1 to k: row 11.
 pub fn is_column(k: u32, u: u32) -> bool
@@ -59,12 +59,27 @@ pub fn check_search(image: &[u8], column: u32, start: u32, goal: u32) -> Checked
     answer
 }
 
-// The same, and row 12 for a number of wanted paths.
-pub fn check_wanted(image: &[u8], column: u32, start: u32, goal: u32, wanted: u32) -> Checked
-    ensures { λ r. ⌜ checked r ≡ outcome (search-rows (now (image .entry)) column start goal then count-row wanted) (sizes (now (image .entry))) ⌝ }
+// How many numbers a workspace must have for `wanted` paths in a network of n nodes.
+pub fn workspace(n: usize, wanted: usize) -> usize
+    requires { ⌜ (n ≤ 200) × (wanted ≤ 256) ⌝ }
+    ensures { λ r. ⌜ r ≡ workspace n wanted ⌝ }
+{
+    (wanted + 1) * (n + 16) + 16 * n + 64
+}
+
+// The rows before 12, and rows 12 and 13 for a number of wanted paths and a workspace of `work` numbers.
+pub fn check_ranking(
+    image: &[u8],
+    column: u32,
+    start: u32,
+    goal: u32,
+    wanted: u32,
+    work: usize,
+) -> Checked
+    ensures { λ r. ⌜ checked r ≡ outcome (ranking-rows (now (image .entry)) column start goal wanted work) (sizes (now (image .entry))) ⌝ }
 {
     let answer = check_search(image, column, start, goal);
-    let Checked::Network(_) = answer else {
+    let Checked::Network(sizes) = answer else {
         return answer;
     };
     if wanted < 1 {
@@ -73,15 +88,10 @@ pub fn check_wanted(image: &[u8], column: u32, start: u32, goal: u32, wanted: u3
     if 256 < wanted {
         return Checked::Refused(Refusal::WrongPathCount);
     }
+    if work < workspace(sizes.n as usize, wanted as usize) {
+        return Checked::Refused(Refusal::SliceTooShort);
+    }
     answer
-}
-
-// How many numbers a workspace must have for `wanted` paths in a network of n nodes.
-pub fn workspace(n: usize, wanted: usize) -> usize
-    requires { ⌜ (n ≤ 200) × (wanted ≤ 256) ⌝ }
-    ensures { λ r. ⌜ r ≡ workspace n wanted ⌝ }
-{
-    (wanted + 1) * (n + 16) + 16 * n + 64
 }
 
 // Row 16, the last of every call: a path has at most n - 1 arcs, and each costs at most 1,000,000.

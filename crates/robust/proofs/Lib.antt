@@ -1,0 +1,4 @@
+pub mod LeaderLaws
+pub mod CountingLaws
+pub mod PricedLaws
+pub mod VerdictLaws

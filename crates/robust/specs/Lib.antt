@@ -1,0 +1,4 @@
+pub mod Leader
+pub mod Counting
+pub mod Verdict
+pub mod Answers

@@ -1,0 +1,91 @@
+// Paths are counted in the ranking order, and the earliest with the least figure leads.
+ghost use mathlib.Core.Path.{_≡_};
+ghost use Prim.Native.Nat.{_+_, _≤_, _<_, max};
+ghost use lib.ListN.{length};
+ghost use Rattle.terms.specs.Network.{column};
+ghost use Rattle.terms.specs.Paths.{Path};
+ghost use Rattle.candidates.specs.Slots.{entry-at};
+ghost use Rattle.candidates.specs.Keeping.{Readable};
+ghost use Rattle.candidates.specs.Routes.{route-at, Rooted};
+ghost use Rattle.ranking.specs.Found.{Ends};
+ghost use Rattle.regret.specs.Columns.{network};
+ghost use Rattle.robust.specs.Counting.{Priced, Counted, Outlook};
+use candidates::cost_at;
+use candidates::lay_out;
+use candidates::length_at;
+use regret::measure;
+
+// The earliest path with the least figure of those counted: its place among the ranked paths, its
+// figure and its worst column.
+pub struct Leader {
+    pub place: usize,
+    pub figure: u64,
+    pub worst: u32,
+}
+
+// The larger of two numbers.
+pub fn larger(a: u64, b: u64) -> u64
+    ensures { λ r. ⌜ r ≡ max a b ⌝ }
+{
+    if a < b { b } else { a }
+}
+
+// Whether the path at a place is the next to be counted: there is one, its deviation in the column is
+// below the least figure so far, and it is wanted. `best` is the column's least cost.
+pub fn due(
+    work: &[u32],
+    n: usize,
+    count: usize,
+    place: usize,
+    best: u64,
+    figure: u64,
+    wanted: usize,
+) -> bool
+    requires { ⌜ Readable n (now work) count × (place ≤ count) ⌝ }
+    requires { ⌜ (place < count → best ≤ entry-at n (now work) place .cost) ⌝ }
+    ensures { λ r. ⌜ Outlook n (now (work .entry)) count place (best + figure) wanted r ⌝ }
+{
+    if place == count {
+        return false;
+    }
+    let deviation = cost_at(work, n, place) - best;
+    if figure <= deviation {
+        return false;
+    }
+    place < wanted
+}
+
+// Counts the path at the place `rank`, which is the next: it is laid out and measured, and leads from
+// now on if its figure is smaller than the leader's.
+pub fn count_path(
+    tails: &[u16],
+    heads: &[u16],
+    first_out: &[u16],
+    costs: &[u32],
+    bests: &[u64],
+    work: &[u32],
+    n: usize,
+    start: u16,
+    goal: usize,
+    rank: usize,
+    leader: Leader,
+    path: &mut [u16],
+    arcs: &mut [u16],
+) -> Leader
+    requires { ⌜ Priced n start goal (now tails) (now heads) (now «first_out») (now costs) (now bests) ⌝ }
+    requires { ⌜ Ends (n + 1) start goal × (n ≤ length (now path)) × (n ≤ length (now arcs) + 1) ⌝ }
+    requires { ⌜ Rooted n (now work) rank × Path (column (network n (length (now bests)) (now tails) (now heads) (now costs)) 1) start goal (route-at start n (now work) rank) ⌝ }
+    ensures { λ r. ⌜ Counted (network n (length (now (bests .entry))) (now (tails .entry)) (now (heads .entry)) (now (costs .entry))) start goal (route-at start n (now (work .entry)) rank) rank leader r ⌝ }
+{
+    let len = length_at(work, n, rank);
+    lay_out(work, n, rank, len, start, path);
+    let found = measure(tails, heads, first_out, costs, bests, n, &path[..len], arcs);
+    if found.figure < leader.figure {
+        return Leader {
+            place: rank,
+            figure: found.figure,
+            worst: found.worst,
+        };
+    }
+    leader
+}
