@@ -1,7 +1,7 @@
 -- Text that grows piece by piece. Assumes nothing.
-use Prim.Native.Nat.{ℕ, suc, _+_, _≤_, _<_}
+use Prim.Native.Nat.{ℕ, _+_, _≤_, _<_}
 use native.Mathlib.Omega.{arith}
-use native.Mathlib.Nat.{add-zero}
+use native.Mathlib.Nat.{zero-add, add-zero}
 use native.Mathlib.Numerals.{add-one}
 use mathlib.Core.Path.{_≡_, refl, sym, _∙_, ap, subst}
 use mathlib.Core.List.{List, [], _∷_, _++_, append-assoc}
@@ -66,3 +66,7 @@ wrote-as {t} {t′} {at = at} {next} e w = subst (λ (l : List ℕ). Wrote t at 
 -- behind a piece there is room for what was to follow it
 pub wrote-room : {t t′ a : List ℕ} {at next : ℕ} → Wrote t at a t′ next → (rest : ℕ) → at + (length a + rest) ≤ length t → next + rest ≤ length t′
 wrote-room w rest h = omega (arith, w .behind, wrote-length w)
+
+-- text at the beginning of a slice
+pub wrote-first : {t t′ new : List ℕ} {next : ℕ} → Wrote t 0 new t′ next → (next ≡ length new) × (t′ ≡ new ++ drop (length new) t)
+wrote-first {t} {t′} {new} w = (w .behind ∙ zero-add (length new), w .holds ∙ ap (λ (i : ℕ). new ++ drop i t) (zero-add (length new)))

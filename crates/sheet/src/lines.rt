@@ -2,7 +2,6 @@
 // behind what it wrote.
 use super::words::write_number;
 use super::words::write_word;
-ghost use mathlib.Core.List.{_++_};
 ghost use Prim.Native.Nat.{_+_, _≤_};
 ghost use lib.ListN.{length};
 ghost use Rattle.terms.specs.Robust.{settled, left-open};

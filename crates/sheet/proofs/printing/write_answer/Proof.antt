@@ -1,7 +1,7 @@
 -- `sheet::printing::write_answer` meets its contract. Assumes nothing.
 use Prim.Native.Nat.{_≤_}
 use native.Mathlib.Omega.{arith}
-use mathlib.Core.Path.{_≡_, sym, ap, subst}
+use mathlib.Core.Path.{sym, ap, subst}
 use lib.ListN.{length, take}
 use lib.Seq.{length-take-le}
 use Rattle.terms.specs.Robust.{settled, left-open}
