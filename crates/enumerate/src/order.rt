@@ -60,9 +60,9 @@ fn swap(rows: &mut [Row], costs: &mut [Costs], i: usize, j: usize) {
     put_costs(costs, j, numbers);
 }
 
-// Puts the paths into the ranking order in column u.
-pub fn rank(u: u32, rows: &mut [Row], costs: &mut [Costs]) {
-    for i in 0..rows.len() {
+// Puts the first `count` paths of the ranking order in column u in front, in this order.
+pub fn rank(u: u32, count: usize, rows: &mut [Row], costs: &mut [Costs]) {
+    for i in 0..count {
         let next = first(u, rows, costs, i);
         swap(rows, costs, i, next);
     }

@@ -70,6 +70,10 @@ unfolding netOf
 length-columns b = length-cut (column-count b) (arc-count b) (cost-list b)
 
 -- ---- the promise
+pub accepted-costs : (b : List ℕ) → image-fault b ≡ sound → (w : ℕ) → w ∈ cost-list b → w ≤ 1000000
+unfolding image-fault lists-fault
+accepted-costs b e = sound-costs 0 (cost-list b) (then-sound _ _ (then-sound _ _ e .1) .1)
+
 pub accepted-network : (b : List ℕ) → image-fault b ≡ sound → Admitted (netOf b)
 unfolding image-fault lists-fault netOf cost-list costs-in
 accepted-network b e = record {
@@ -81,7 +85,7 @@ accepted-network b e = record {
   arcs-of = arcs .0;
   rising = arcs .1;
   full = λ c m. column c m .0 ∙ sym (length-pairs (arc-count b) (node-list b));
-  costs-to = λ c m w o. sound-costs 0 (cost-list b) (lists .1) w (column c m .1 w o);
+  costs-to = λ c m w o. accepted-costs b e w (column c m .1 w o);
 }
   where
     h : HeaderSound b

@@ -103,3 +103,14 @@ module _ (b : List ℕ) (accepted : image-fault b ≡ sound) where
         let e : arc-count b ≡ m = sym m-is in
         cut-at (column-count b) (arc-count b) (cost-list b) i (omega arith)
         ∙ rw (e, count, drop-decode 4 (i * m) rest (drop (costs-start m) b), take-decode 4 m rest (drop (4 * (i * m)) (drop (costs-start m) b)) (omega (arith, at-end)), drop-drop (4 * (i * m)) (costs-start m) b, decode-part 4 m (drop (costs-start m + 4 * (i * m)) b))
+
+  -- all columns stand from the offset of the costs to the end
+  module _ (m k : ℕ) (m-is : m ≡ arc-count b) (k-is : k ≡ column-count b) where
+    pub columns-end : costs-start m + 4 * (m * k) ≡ length b
+    columns-end =
+        let e : costs-start (arc-count b) + 4 * (arc-count b * column-count b) ≡ length b = omega (arith, length-is, costs-start-is (arc-count b)) in
+        ap₂ (λ (x y : ℕ). costs-start x + 4 * (x * y)) m-is k-is ∙ e
+
+    pub columns-at : decode 4 (m * k) (drop (costs-start m) b) ≡ cost-list b
+    unfolding cost-list costs-in
+    columns-at = ap₂ (λ (x y : ℕ). decode 4 (x * y) (drop (costs-start x) b)) m-is k-is

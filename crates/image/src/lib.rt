@@ -17,6 +17,7 @@ pub use checking::Sizes;
 pub use checking::check;
 pub use parts::read_arcs;
 pub use parts::read_column;
+pub use parts::read_columns;
 pub use refusal::Refusal;
 pub use rows::is_node;
 pub use unpacking::Unpacked;

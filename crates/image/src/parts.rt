@@ -1,13 +1,14 @@
-// The arcs and one column of an accepted image, read for the layers above.
+// The arcs and the columns of an accepted image, read for the layers above.
 use super::bytes::read16;
+use super::layout::cost_count;
 use super::layout::costs_start;
 use super::unpacking::read_costs;
 ghost use mathlib.Core.Path.{_≡_};
 ghost use mathlib.Core.List.{[], _++_, map};
-ghost use Prim.Native.Nat.{_-_, _≤_};
+ghost use Prim.Native.Nat.{_*_, _-_, _≤_};
 ghost use lib.ListN.{length, getD, drop};
 ghost use Rattle.image.specs.Outcome.{sound};
-ghost use Rattle.image.specs.Layout.{arc-count, column-count, netOf};
+ghost use Rattle.image.specs.Layout.{arc-count, column-count, cost-list, netOf};
 ghost use Rattle.image.specs.Calls.{image-fault};
 
 // The tails and heads of the image's m arcs.
@@ -32,4 +33,14 @@ pub fn read_column(image: &[u8], m: u32, u: u32, weights: &mut [u32])
     let start = (costs_start(m) + 4 * ((u - 1) * m)) as usize;
     let end = start + 4 * (m as usize);
     read_costs(&image[start..end], m as usize, weights);
+}
+
+// The costs of all k columns, one after the other, as they stand in the image from the offset of the costs on.
+pub fn read_columns(image: &[u8], m: u32, k: u32, costs: &mut [u32])
+    requires { ⌜ (image-fault (now image) ≡ sound) × (m ≡ arc-count (now image)) × (k ≡ column-count (now image)) × (m * k ≤ length (now costs)) ⌝ }
+    ensures { λ _. ⌜ now (costs .exit) ≡ cost-list (now (image .entry)) ++ drop (m * k) (now (costs .entry)) ⌝ }
+{
+    let start = costs_start(m) as usize;
+    let count = cost_count(m, k) as usize;
+    read_costs(&image[start..], count, costs);
 }

@@ -1,14 +1,14 @@
 -- The arcs of a path: where they are found, and that their sum in a column is the path's cost there. Assumes nothing.
-use Prim.Native.Nat.{ℕ, zero, suc, _+_, _*_, _-_, _≤_, _<_}
+use Prim.Native.Nat.{ℕ, zero, suc, _+_, _-_, _≤_, _<_}
 use native.Mathlib.Omega.{arith}
 use native.Mathlib.Numerals.{add-one}
-use native.Mathlib.Nat.{suc-mul, mul-le-mul, mul-le-mul-right, eq-or-lt-of-le}
+use native.Mathlib.Nat.{eq-or-lt-of-le}
 use mathlib.Core.Path.{_≡_, refl, _∙_, ap, ap₂, subst}
 use mathlib.Core.Bool.{true}
 use mathlib.Core.Logic.{⊎-elim}
 use mathlib.Core.List.{List, [], _∷_}
-use lib.ListN.{length, getD, set, take, drop, length-take, length-drop}
-use lib.Seq.{drop-cons, drop-length, getD-take, length-take-le}
+use lib.ListN.{length, getD, set, take, drop, length-take}
+use lib.Seq.{drop-cons, drop-length, getD-take}
 use Rattle.terms.specs.Network.{Graph, linked, column}
 use Rattle.terms.specs.Paths.{Route, ByArcs, along, single, cost, cost-from}
 use Rattle.terms.proofs.ListLaws.{getD-mem, map-numbers}
@@ -58,18 +58,6 @@ module _ {n : ℕ} {ts hs ws : List ℕ} (A : Arcs n ts hs ws) where
   nodes-within (v ∷ []) single h i l = absurd (omega arith)
   nodes-within (v ∷ x ∷ p) (along a b) h zero l = tail-within A v x a .1
   nodes-within (v ∷ x ∷ p) (along a b) h (suc i) l = later-within A v (x ∷ p) (along a b) (getD-mem (x ∷ p) 0 i (omega arith)) .1
-
--- ---- columns of m costs lie inside the costs, which are not many
-module _ {m u : ℕ} {costs bests arcs : List ℕ} (s : Summed m costs bests arcs) (from : 1 ≤ u) (upto : u ≤ length bests) where
-  pub column-inside : ((u - 1) * m + m ≤ length costs) × (length costs ≤ 8000)
-  column-inside = (omega (arith, s .costs-long, suc-mul (u - 1) m, mul-le-mul-right {m = suc (u - 1)} {n = length bests} m (omega arith)), omega (arith, s .costs-long, mul-le-mul (s .columns-to) (s .arcs-few)))
-
-  -- the part that starts at column u has its costs
-  pub column-part : take ((u - 1) * m + m - (u - 1) * m) (drop ((u - 1) * m) costs) ≡ column-costs m costs u
-  column-part = let e : (u - 1) * m + m - (u - 1) * m ≡ m = omega arith in rw e
-
-  pub column-full : length (column-costs m costs u) ≡ m
-  column-full = length-take-le m (drop ((u - 1) * m) costs) (omega (arith, length-drop ((u - 1) * m) costs, column-inside .0))
 
 -- ---- a path in the columns that arrays hold
 module _ (bests : List ℕ) {n : ℕ} {ts hs outs costs path : List ℕ} (C : Columns n (length bests) ts hs outs costs) (b : ByArcs (column (network n (length bests) ts hs costs) 1) path) where

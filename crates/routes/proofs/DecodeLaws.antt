@@ -116,6 +116,9 @@ module _ {net : Net} {u : ℕ} (ok : Admitted net) (from : 1 ≤ u) (upto : u �
   pub decoded : (ts hs ws : List ℕ) → ts ≡ tails (net .arcs) → hs ≡ heads (net .arcs) → ws ≡ getD (net .columns) (u - 1) [] → Decoded net u ts hs ws
   unfolding column
   decoded ts hs ws e f g = rw (e, f, g) (record {
+    tails-are = refl;
+    heads-are = refl;
+    weights-are = refl;
     graph-is = graph-weigh (net .arcs) (costs-of net u);
     arcs = arcs-fit;
     light = λ i h. cost-light i (rw length-map at h);

@@ -2,6 +2,7 @@ pub mod DecodeLaws
 pub mod CostLaws
 pub mod LabelLaws
 pub mod RankLaws
+pub mod ChoiceLaws
 pub mod RowLaws
 pub mod ArcLaws
 pub mod RoomLaws

@@ -159,7 +159,7 @@ module _ {b : List ℕ} {m u s t : ℕ} (c : InColumn b m u) (ends : Ends (netOf
       problem-of (l .network (N + 1) refl) (record { start-from = ends .start-in .from; start-place = omega (arith, ends .start-in .upto); goal-place = omega (arith, ends .goal-in .upto); apart = ends .apart }) (λ x. refl)
       (l .labels-long) (l .least)
 
-  column-least : Least (column (netOf b) u) [] t overall
+  pub column-least : Least (column (netOf b) u) [] t overall
   column-least = subst (λ g. Least g [] t overall) (l .column-is .graph-is) (l .least)
 
   pub none-reached : (K : ℕ) → getD overall s 0 ≡ far → rank-of b u s t K ≡ []

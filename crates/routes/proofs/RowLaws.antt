@@ -31,9 +31,19 @@ unfolding _then_
 then-assoc sound g h = refl
 then-assoc (fault n p) g h = refl
 
+-- a row that does not apply can stand last
+pub then-last : (f : Fault) {g : Fault} → g ≡ sound → (f then g) ≡ f
+unfolding _then_
+then-last sound e = e
+then-last (fault n p) e = refl
+
 -- Check's refusal is the call's
 pub refused-first : (b : List ℕ) {o : Outcome} {number place : ℕ} (g : Fault) (values : List ℕ) → o ≡ refuses number place → o ≡ check-outcome b → o ≡ outcome (image-fault b then g) values
 refused-first b g values e f = e ∙ sym (outcome-fault values (then-fault g (rejected b (sym e ∙ f))))
+
+-- a refusal is no result
+pub never : {A : Type 0} {n p : ℕ} {l : List ℕ} → refuses n p ≡ gives l → A
+never e = let z : _≡_ {A = ℕ} 0 1 = cc in absurd (omega arith)
 
 -- ---- what an answer that gives sizes says: the rows so far are sound, the image is accepted, and these are its sizes
 pub given-sizes : {b : List ℕ} (f : Fault) {n m k : ℕ} → (f ≡ sound → image-fault b ≡ sound) → gives (n ∷ m ∷ k ∷ []) ≡ outcome f (sizes b) → (f ≡ sound) × Accepted b n m k

@@ -46,17 +46,26 @@ module _ {b : List ℕ} {m u s t : ℕ} (c : InColumn b m u) (ends : Ends (netOf
   net : Admitted (netOf b)
   net = accepted-network b (c .passes)
 
+  -- row 15
+  pub row-none : ((p : Route) → Path (column (netOf b) u) s t p → ⊥) → no-path-row (netOf b .nodes) (column (netOf b) u) s t ≡ fault 15 0
+  unfolding no-path-row row
+  row-none none =
+      let empty : length (paths (netOf b .nodes) (column (netOf b) u) s t) ≡ 0 = no-members _ (λ p o. none p (listed-path (netOf b .nodes) o)) in
+      rw (eq-eqb _ 0 empty)
+
+  pub row-some : {p : Route} → Path (column (netOf b) u) s t p → no-path-row (netOf b .nodes) (column (netOf b) u) s t ≡ sound
+  unfolding no-path-row row
+  row-some h =
+      let one = mem-length (path-listed (netOf b .nodes) (column-within net u) (ends .start-in .from) (ends .start-in .upto) h) in
+      rw (ne-eqb (length (paths (netOf b .nodes) (column (netOf b) u) s t)) 0 (λ (e : length (paths (netOf b .nodes) (column (netOf b) u) s t) ≡ 0). omega arith))
+
   pub path-none : ((p : Route) → In (column (netOf b) u) s t (everything s) p → ⊥) → path-rows b u s t ≡ fault 15 0
-  unfolding path-rows no-path-row row
-  path-none none =
-      let empty : length (paths (netOf b .nodes) (column (netOf b) u) s t) ≡ 0 = no-members _ (λ p o. none p (in-everything (listed-path (netOf b .nodes) o))) in
-      then-fault _ (rw (eq-eqb _ 0 empty))
+  unfolding path-rows
+  path-none none = then-fault _ (row-none (λ p h. none p (in-everything h)))
 
   pub some-path : {p : Route} → Path (column (netOf b) u) s t p → path-rows b u s t ≡ sound
-  unfolding path-rows no-path-row row
-  some-path h =
-      let one = mem-length (path-listed (netOf b .nodes) (column-within net u) (ends .start-in .from) (ends .start-in .upto) h) in
-      then-next _ (rw (ne-eqb (length (paths (netOf b .nodes) (column (netOf b) u) s t)) 0 (λ (e : length (paths (netOf b .nodes) (column (netOf b) u) s t) ≡ 0). omega arith))) ∙ dearest-row net u s t (c .from) (c .upto)
+  unfolding path-rows
+  some-path h = then-next _ (row-some h) ∙ dearest-row net u s t (c .from) (c .upto)
 
   module _ {p : Route} (f : First (column (netOf b) u) s t (everything s) p) where
     pub path-some : path-rows b u s t ≡ sound

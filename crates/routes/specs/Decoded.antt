@@ -1,15 +1,19 @@
 -- An accepted image as the path layer reads it: its network's sizes, and one column as a graph in three arrays. Assumes nothing.
-use Prim.Native.Nat.{ℕ, _+_, _*_, _≤_, _<_}
+use Prim.Native.Nat.{ℕ, _+_, _*_, _-_, _≤_, _<_}
 use mathlib.Core.Path.{_≡_}
-use mathlib.Core.List.{List, []}
+use mathlib.Core.List.{List, [], map}
 use lib.ListN.{length, getD, replicate}
 use Rattle.terms.specs.Network.{Net, column}
+use Rattle.terms.specs.Paths.{Route, Path}
 use Rattle.image.specs.Outcome.{sound}
 use Rattle.image.specs.Layout.{netOf}
 use Rattle.image.specs.Calls.{image-fault}
 use Rattle.labels.specs.Arcs.{graph, Arcs}
+use Rattle.labels.specs.Chains.{Chains}
 use Rattle.labels.specs.Labels.{Least}
 use Rattle.ranking.specs.Star.{Network}
+use Rattle.regret.specs.Columns.{network, column-costs}
+use Rattle.robust.specs.Counting.{Priced}
 
 -- image b is accepted, and its network has n nodes, m arcs and k columns
 pub record Accepted (b : List ℕ) (n m k : ℕ) : Type 0 where
@@ -32,6 +36,9 @@ pub record InColumn (b : List ℕ) (m u : ℕ) : Type 0 where
 
 -- the arrays hold column u of the network
 pub record Decoded (net : Net) (u : ℕ) (ts hs ws : List ℕ) : Type 0 where
+  pub tails-are : ts ≡ map (λ a. a .0) (net .arcs)
+  pub heads-are : hs ≡ map (λ a. a .1) (net .arcs)
+  pub weights-are : ws ≡ getD (net .columns) (u - 1) []
   pub graph-is : graph ts hs ws ≡ column net u
   pub arcs : Arcs (net .nodes) ts hs ws
   pub light : (i : ℕ) → i < length ts → getD ws i 0 ≤ 1000000
@@ -88,3 +95,37 @@ pub record Loaded (net : Net) (u t : ℕ) (ts hs ws outs ins nexts ls : List ℕ
   pub network : (k : ℕ) → k ≡ net .nodes + 1 → Network k ts hs ws outs ins nexts
   pub least : Least (graph ts hs ws) [] t ls
   pub labels-long : length ls ≡ net .nodes + 1
+
+-- ---- all columns
+-- the arrays hold the arcs, and chains of those into each node; in some column a path goes from s to t
+pub record Reached (net : Net) (s t : ℕ) (ts hs ins nexts : List ℕ) : Type 0 where
+  pub tails-are : ts ≡ map (λ a. a .0) (net .arcs)
+  pub heads-are : hs ≡ map (λ a. a .1) (net .arcs)
+  pub chains : Chains hs ins nexts
+  pub ins-long : length ins ≡ net .nodes + 1
+  pub ends : Ends (net .nodes) s t
+  pub in-column : ℕ
+  pub from : 1 ≤ in-column
+  pub upto : in-column ≤ length (net .columns)
+  pub route : Route
+  pub path : Path (column net in-column) s t route
+
+-- the arrays hold the arcs and all columns, one after the other, and best(u) for each column u
+pub record Held (net : Net) (s t : ℕ) (ts hs outs costs bests : List ℕ) : Type 0 where
+  pub network-is : network (net .nodes) (length bests) ts hs costs ≡ net
+  pub costs-of : (u : ℕ) → 1 ≤ u → u ≤ length bests → column-costs (length ts) costs u ≡ getD (net .columns) (u - 1) []
+  pub priced : Priced (net .nodes) s t ts hs outs costs bests
+
+-- room for k columns of m arcs, and to measure a path
+pub record ChoiceRoom (n m k : ℕ) (scratch arcs costs bests : List ℕ) : Type 0 where
+  pub scratch-long : length scratch ≡ n
+  pub arcs-long : length arcs ≡ n
+  pub costs-long : length costs ≡ m * k
+  pub bests-long : length bests ≡ k
+
+-- slices long enough for one path, and for a workspace of K + 1 slots
+pub record ChoiceSlices (n K : ℕ) (path work : List ℕ) : Type 0 where
+  pub wanted-from : 1 ≤ K
+  pub wanted-to : K ≤ 256
+  pub path-long : n ≤ length path
+  pub slots-long : (K + 1) * (n + 16) ≤ length work

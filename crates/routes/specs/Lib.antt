@@ -3,3 +3,4 @@ pub mod Answers
 pub mod Decoded
 pub mod Labels
 pub mod Lists
+pub mod Demands

@@ -1,31 +1,26 @@
 // The calls of the image layer, each held to the answer that it should give and to what the slices
 // that are lent to it should hold after it.
-use super::answers::Answer;
-use super::answers::length;
-use super::answers::of_build;
-use super::answers::of_check;
-use super::answers::of_unpack;
-use super::answers::same_answer;
-use super::numbers::count;
-use super::numbers::product;
-use super::path_calls::label_agrees;
-use super::path_calls::regret_agrees;
-use super::path_calls::shortest_agrees;
 use super::plain_answers::check_answer;
-use super::report::CHECK;
-use super::report::LABEL;
-use super::report::REBUILD;
-use super::report::REGRET;
-use super::report::Report;
-use super::report::SHORTEST;
-use super::report::UNPACK;
-use super::slices::BYTE_PATTERN;
-use super::slices::NODE_PATTERN;
-use super::slices::NUMBER_PATTERN;
-use super::slices::holds_bytes;
-use super::slices::holds_nodes;
-use super::slices::holds_numbers;
 use image::Unpacked;
+use trials::answers::Answer;
+use trials::answers::of_build;
+use trials::answers::of_check;
+use trials::answers::of_unpack;
+use trials::answers::same_answer;
+use trials::answers::single;
+use trials::numbers::count;
+use trials::numbers::product;
+use trials::refused_images::note_refused_paths;
+use trials::report::CHECK;
+use trials::report::REBUILD;
+use trials::report::Report;
+use trials::report::UNPACK;
+use trials::slices::BYTE_PATTERN;
+use trials::slices::NODE_PATTERN;
+use trials::slices::NUMBER_PATTERN;
+use trials::slices::holds_bytes;
+use trials::slices::holds_nodes;
+use trials::slices::holds_numbers;
 
 // Places for the largest network's image and lists, and some more.
 const IMAGE_PLACES: usize = 36100;
@@ -141,7 +136,7 @@ fn rebuild_with(image: &[u8], nodes: &mut [u16], costs: &mut [u32]) -> bool {
         &nodes[0..node_count],
         &costs[0..cost_count],
         image.len(),
-        length(count(image.len())),
+        single(count(image.len())),
         image,
     )
 }
@@ -159,12 +154,7 @@ pub fn note_refused_image(mut report: Report, image: &[u8], expected: Answer) ->
     report = report.note(CHECK, check_agrees(image, expected));
     report = report.note(UNPACK, unpack_agrees(image, 12, 12, expected, &[], &[]));
     report = report.note(UNPACK, unpack_agrees(image, 0, 0, expected, &[], &[]));
-    report = report.note(LABEL, label_agrees(image, 1, 4, 12, expected, &[]));
-    report = report.note(LABEL, label_agrees(image, 0, 0, 0, expected, &[]));
-    report = report.note(SHORTEST, shortest_agrees(image, 1, 1, 4, 12, expected, &[]));
-    report = report.note(SHORTEST, shortest_agrees(image, 0, 0, 0, 0, expected, &[]));
-    report = report.note(REGRET, regret_agrees(image, 1, 4, &[1, 3, 4], expected));
-    report.note(REGRET, regret_agrees(image, 0, 0, &[], expected))
+    note_refused_paths(report, image, expected)
 }
 
 // An image is refused as the plain check says, or else Unpack and Build give it back.

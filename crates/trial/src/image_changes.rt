@@ -1,11 +1,11 @@
 // Network S's image with fields changed, cut short or made longer, and with each byte changed: what
 // Check and Unpack say of it.
-use super::answers::refusal;
 use super::image_calls::note_image;
 use super::image_calls::note_refused_image;
-use super::networks::lay_out_s;
-use super::networks::s_byte;
-use super::report::Report;
+use trials::answers::refusal;
+use trials::networks::lay_out_s;
+use trials::networks::s_byte;
+use trials::report::Report;
 
 // Each row: an offset and a number of two bytes that is put there, the same once more, and the
 // number and place of the refusal.

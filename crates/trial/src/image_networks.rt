@@ -1,25 +1,25 @@
 // Sound networks: Build gives the image of the lists, and Check and Unpack take it. Tried with
 // network S, the network without arcs and the largest network.
-use super::answers::Answer;
-use super::answers::length;
-use super::answers::refusal;
-use super::answers::sizes;
 use super::image_calls::build_agrees;
 use super::image_calls::check_agrees;
 use super::image_calls::rebuild_agrees;
 use super::image_calls::unpack_agrees;
-use super::networks::S_COSTS;
-use super::networks::S_NODES;
-use super::networks::largest_nodes;
-use super::networks::lay_out_s;
-use super::plain_image::arc_count;
-use super::plain_image::encode;
-use super::plain_image::total;
-use super::report::BUILD;
-use super::report::CHECK;
-use super::report::REBUILD;
-use super::report::Report;
-use super::report::UNPACK;
+use trials::answers::Answer;
+use trials::answers::refusal;
+use trials::answers::single;
+use trials::answers::sizes;
+use trials::networks::S_COSTS;
+use trials::networks::S_NODES;
+use trials::networks::largest_nodes;
+use trials::networks::lay_out_s;
+use trials::plain_image::arc_count;
+use trials::plain_image::encode;
+use trials::plain_image::total;
+use trials::report::BUILD;
+use trials::report::CHECK;
+use trials::report::REBUILD;
+use trials::report::Report;
+use trials::report::UNPACK;
 
 // Build into a slice that is exactly long enough, into a longer one and into one a byte too short.
 fn note_builds(
@@ -30,7 +30,7 @@ fn note_builds(
     costs: &[u32],
     image: &[u8],
 ) -> Report {
-    let result = length(total(nodes, costs));
+    let result = single(total(nodes, costs));
     let short = refusal(13, 0);
     let room = total(nodes, costs) as usize;
     let exact = build_agrees(n, k, nodes, costs, room, result, image);
@@ -91,7 +91,7 @@ pub fn note_network(
 // Network S's image, with document 01's numbers.
 fn note_s(image: &[u8]) -> Report {
     let report = note_network(Report::new(), 4, 2, &S_NODES, &S_COSTS, image);
-    let built = build_agrees(4, 2, &S_NODES, &S_COSTS, 84, length(84), image);
+    let built = build_agrees(4, 2, &S_NODES, &S_COSTS, 84, single(84), image);
     report
         .note(BUILD, built)
         .note(CHECK, check_agrees(image, sizes(4, 5, 2)))

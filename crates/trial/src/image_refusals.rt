@@ -1,13 +1,13 @@
 // The refusal table on lists: what Build answers, and what Check and Unpack answer for the image of
 // the same lists.
-use super::answers::refusal;
 use super::image_calls::build_agrees;
 use super::image_calls::note_refused_image;
-use super::plain_image::encode;
-use super::plain_image::total;
-use super::report::BUILD;
-use super::report::CHECK;
-use super::report::Report;
+use trials::answers::refusal;
+use trials::plain_image::encode;
+use trials::plain_image::total;
+use trials::report::BUILD;
+use trials::report::CHECK;
+use trials::report::Report;
 
 // Build into a slice of `room` bytes refuses with this number and place, and writes nothing.
 fn build_refuses(

@@ -1,18 +1,18 @@
 // What Check and Build answer by the refusal table of document 01, row by row, written apart from
 // the library.
-use super::answers::Answer;
-use super::answers::length;
-use super::answers::refusal;
-use super::answers::sizes;
-use super::numbers::count;
-use super::numbers::product;
-use super::numbers::wide16;
-use super::plain_image::arc_count;
-use super::plain_image::decode_costs;
-use super::plain_image::decode_nodes;
-use super::plain_image::number16;
-use super::plain_image::number32;
-use super::plain_image::total;
+use trials::answers::Answer;
+use trials::answers::refusal;
+use trials::answers::single;
+use trials::answers::sizes;
+use trials::numbers::count;
+use trials::numbers::product;
+use trials::numbers::wide16;
+use trials::plain_image::arc_count;
+use trials::plain_image::decode_costs;
+use trials::plain_image::decode_nodes;
+use trials::plain_image::number16;
+use trials::plain_image::number32;
+use trials::plain_image::total;
 ghost use Prim.Native.Nat.{_≤_};
 
 // Row 3.
@@ -96,7 +96,7 @@ pub fn build_answer(n: u32, k: u32, nodes: &[u16], costs: &[u32], room: usize) -
     if room < bytes as usize {
         return lists_answer(n, nodes, costs, refusal(13, 0));
     }
-    lists_answer(n, nodes, costs, length(bytes))
+    lists_answer(n, nodes, costs, single(bytes))
 }
 
 // Row 4 for an image.

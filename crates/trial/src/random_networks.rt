@@ -3,31 +3,28 @@
 use super::image_calls::build_agrees;
 use super::image_calls::note_image;
 use super::image_networks::note_network;
-use super::networks::draw_network;
-use super::networks::number_at;
-use super::path_random::note_paths;
 use super::plain_answers::build_answer;
-use super::plain_image::encode;
-use super::plain_image::total;
-use super::random::Random;
-use super::random::draw;
-use super::report::BUILD;
-use super::report::CHECK;
-use super::report::Report;
+use trials::networks::draw_network;
+use trials::networks::number_at;
+use trials::plain_image::encode;
+use trials::plain_image::total;
+use trials::random::Random;
+use trials::random::draw;
+use trials::report::BUILD;
+use trials::report::CHECK;
+use trials::report::Report;
 
 // The calls on a sound network.
 fn note_sound(
-    mut report: Report,
+    report: Report,
     n: u32,
     k: u32,
     nodes: &[u16],
     costs: &[u32],
-    numbers: &[u32],
     image: &mut [u8],
 ) -> Report {
     encode(n, k, nodes, costs, image);
-    report = note_network(report, n, k, nodes, costs, image);
-    note_paths(report, n, k, nodes, costs, numbers, image)
+    note_network(report, n, k, nodes, costs, image)
 }
 
 // The calls on lists that may be in error, held to the plain answers.
@@ -125,7 +122,7 @@ fn note_drawn(
     if changed {
         note_changed(report, n, k, nodes, costs, numbers, image)
     } else {
-        note_sound(report, n, k, nodes, costs, numbers, image)
+        note_sound(report, n, k, nodes, costs, image)
     }
 }
 

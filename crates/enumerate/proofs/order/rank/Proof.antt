@@ -7,10 +7,10 @@ use Rattle.enumerate.proofs.order.rank.Statement.{statement}
 use Rattle.enumerate.proofs.order.rank.Tie as tie
 
 abbrev Inv-loop : tie.InvT-loop
-Inv-loop u rows₀ costs₀ i₀ i-end rows costs i = (length rows ≡ length rows₀) × (length costs ≡ length costs₀)
+Inv-loop u count rows₀ costs₀ i₀ rows costs i = (length rows ≡ length rows₀) × (length costs ≡ length costs₀)
 
 abbrev μ-loop : tie.MeasureT-loop
-μ-loop u rows₀ costs₀ i₀ i-end rows costs i = i-end - i
+μ-loop u count rows₀ costs₀ i₀ rows costs i = count - i
 
 pub rank-spec : {M : Type 1} → statement M
 rank-spec =

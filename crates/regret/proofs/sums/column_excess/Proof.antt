@@ -7,7 +7,7 @@ use lib.ListN.{length, getD}
 use borrow.Author.Needs.{needs}
 use Rattle.regret.specs.Columns.{column-costs}
 use Rattle.regret.specs.Steps.{sum-of, excess}
-use Rattle.regret.proofs.StepLaws.{column-inside, column-part, column-full}
+use Rattle.regret.proofs.ColumnLaws.{column-inside, column-part, column-full}
 use Rattle.regret.proofs.sums.column_excess.Statement.{statement}
 use Rattle.regret.proofs.sums.column_excess.Tie as tie
 
@@ -15,7 +15,7 @@ abbrev start : tie.After-shared-slice-known3 → tie.Start
 start c = c .before .before .before
 
 inside : (c : tie.After-shared-slice-known3) → ((start c .args .u - 1) * start c .args .m + start c .args .m ≤ length (start c .args .costs .now)) × (length (start c .args .costs .now) ≤ 8000)
-inside c = let p = start c .pre in column-inside (p .0) (p .1 .0) (p .1 .1)
+inside c = let p = start c .pre in column-inside (start c .args .costs .now) (p .0 .columns-to) (p .0 .arcs-few) (p .0 .costs-long) (p .1 .0) (p .1 .1)
 
 sub-from : tie.Need-sub-from
 sub-from c = search needs
@@ -50,14 +50,14 @@ part-arc-sum-end c = inside (c .before) .0
 arc-sum-requires : tie.Need-arc-sum-requires
 arc-sum-requires c κs = let s = start (c .before .before) in
     let p = s .pre in
-    let long = ap length (column-part (p .0) (p .1 .0) (p .1 .1)) ∙ column-full (p .0) (p .1 .0) (p .1 .1) in
+    let a = s .args in
+    let long = ap length (column-part (a .m) (a .costs .now) (a .u)) ∙ column-full (a .costs .now) (p .0 .columns-to) (p .0 .arcs-few) (p .0 .costs-long) (p .1 .0) (p .1 .1) in
     (p .0 .steps-few, λ i h. rw long (p .0 .arcs-in i h))
 
 -- the sum is that of the column's costs, and at least the best
 sum-is : (c : tie.After-arc-sum) → c .arc-sum .result ≡ sum-of (column-costs (start (c .before .before .before) .args .m) (start (c .before .before .before) .args .costs .now) (start (c .before .before .before) .args .u)) (start (c .before .before .before) .args .arcs .now)
 sum-is c = let s = start (c .before .before .before) in
-    let p = s .pre in
-    c .arc-sum .ensures ∙ ap (λ (l : List ℕ). sum-of l (s .args .arcs .now)) (column-part (p .0) (p .1 .0) (p .1 .1))
+    c .arc-sum .ensures ∙ ap (λ (l : List ℕ). sum-of l (s .args .arcs .now)) (column-part (s .args .m) (s .args .costs .now) (s .args .u))
 
 low : (c : tie.After-arc-sum) → getD (start (c .before .before .before) .args .bests .now) (start (c .before .before .before) .args .u - 1) 0 ≤ sum-of (column-costs (start (c .before .before .before) .args .m) (start (c .before .before .before) .args .costs .now) (start (c .before .before .before) .args .u)) (start (c .before .before .before) .args .arcs .now)
 low c = let p = start (c .before .before .before) .pre in p .0 .bests-below _ (p .1 .0) (p .1 .1)

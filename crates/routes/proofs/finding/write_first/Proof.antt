@@ -9,12 +9,13 @@ use Rattle.terms.specs.Paths.{cost}
 use Rattle.ranking.specs.Branches.{everything, First}
 use Rattle.ranking.proofs.FirstLaws.{found-tail, found-empty, extent-tail}
 use Rattle.image.specs.Layout.{netOf}
-use Rattle.image.specs.Outcome.{gives, refuses}
+use Rattle.image.specs.Outcome.{gives}
 use Rattle.image.specs.Answers.{checked}
 use Rattle.image.proofs.OutcomeLaws.{outcome-fault, outcome-sound, after-fault}
 use Rattle.routes.proofs.CostLaws.{bound-row-sound}
 use Rattle.routes.proofs.DecodeLaws.{few-nodes}
 use Rattle.routes.proofs.ShortestLaws.{path-none, path-some, path-cost, rest-is, values-are, written-is}
+use Rattle.routes.proofs.RowLaws.{never}
 use borrow.Author.Needs.{needs}
 use Rattle.routes.proofs.finding.write_first.Statement.{statement}
 use Rattle.routes.proofs.finding.write_first.Tie as tie
@@ -48,9 +49,6 @@ first c = found-tail (c .before .before .before .before .find .ensures .1) (c .f
 
 reach : (c : tie.After-found) → (1 < c .found .given .0 .0) × (c .found .given .0 .0 ≤ length (route c))
 reach c = extent-tail (c .before .before .before .before .find .ensures .0) (c .found .given .1)
-
-never : {A : Type 0} {n p : ℕ} {l : List ℕ} → refuses n p ≡ gives l → A
-never e = let z : _≡_ {A = ℕ} 0 1 = cc in absurd (omega arith)
 
 returns : tie.Need-returns
 returns c = let f = c .before .before .before .before in

@@ -3,13 +3,14 @@ use Prim.Native.Nat.{ℕ, _≤_}
 use native.Mathlib.Omega.{arith}
 use mathlib.Core.Path.{_≡_, sym, _∙_, ap}
 use mathlib.Core.List.{List, [], _∷_}
-use Rattle.image.specs.Outcome.{gives, refuses, after}
+use Rattle.image.specs.Outcome.{gives, after}
 use Rattle.image.specs.Answers.{checked}
 use Rattle.image.proofs.OutcomeLaws.{outcome-fault, outcome-sound, after-fault}
 use Rattle.routes.specs.Calls.{rank-rows-of, rank-costs-of, cleared}
 use Rattle.routes.proofs.CostLaws.{bound-row-sound}
 use Rattle.routes.proofs.DecodeLaws.{few-nodes}
 use Rattle.routes.proofs.RankLaws.{none-listed, some-listed, few-listed, no-rows, no-costs, work-unused, work-emptied, cleared-is, cleared-not}
+use Rattle.routes.proofs.RowLaws.{never}
 use borrow.Author.Needs.{needs}
 use Rattle.routes.proofs.listing.write_ranked.Statement.{statement}
 use Rattle.routes.proofs.listing.write_ranked.Tie as tie
@@ -17,9 +18,6 @@ use Rattle.routes.proofs.listing.write_ranked.Tie as tie
 -- the image has few nodes
 bounded : (s : tie.Start) → (1 ≤ s .args .sizes .n) × (s .args .sizes .n ≤ 200)
 bounded s = (omega (arith, s .pre .0 .1 .start-in, s .pre .1 .0), omega (arith, few-nodes (s .pre .0 .0), s .pre .1 .0))
-
-never : {A : Type 0} {n p : ℕ} {l : List ℕ} → refuses n p ≡ gives l → A
-never e = let z : _≡_ {A = ℕ} 0 1 = cc in absurd (omega arith)
 
 check-costs-requires : tie.Need-check-costs-requires
 check-costs-requires c κs = bounded (c .before .before .before .before)

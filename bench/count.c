@@ -1,0 +1,29 @@
+// Calls Rank once, of the library or of the plain engine, for callgrind to count its instructions:
+// count SHAPE TOP K library|plain
+#include "network.h"
+#include "rank.h"
+
+#include <stdlib.h>
+#include <string.h>
+
+static struct network net;
+static uint16_t rows[256 * MOST_NODES];
+static uint32_t costs[256], work[257 * (MOST_NODES + 16) + 16 * MOST_NODES + 64];
+
+// Callgrind counts from the entry of this function to its end.
+__attribute__((noinline)) struct reply counted(rank_call *rank, uint32_t wanted) {
+    return rank(net.image, net.image_length, 1, 1, net.n, wanted, rows, wanted * (size_t)net.n, costs, wanted, work, workspace(net.n, wanted));
+}
+
+int main(int argc, char **argv) {
+    if (argc != 5)
+        return 2;
+    unsigned shape = 0;
+    while (shape < SHAPES && strcmp(shape_names[shape], argv[1]) != 0)
+        shape++;
+    if (shape == SHAPES)
+        return 2;
+    make_network(&net, shape, (uint32_t)atoi(argv[2]));
+    struct reply r = counted(strcmp(argv[4], "plain") == 0 ? plain_rank : vihrolom_rank, (uint32_t)atoi(argv[3]));
+    return r.refusal != 0;
+}

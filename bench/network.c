@@ -1,0 +1,123 @@
+#include "network.h"
+
+#include <string.h>
+
+const char *const shape_names[SHAPES] = {"grid", "sparse", "dense", "layered", "ladder"};
+
+// xorshift64*
+static uint64_t state;
+
+static uint32_t draw(uint32_t below) {
+    state ^= state >> 12;
+    state ^= state << 25;
+    state ^= state >> 27;
+    return (uint32_t)(((state * 2685821657736338717u) >> 32) % below);
+}
+
+// Whether there is an arc from the one node to the other.
+static uint8_t arc[MOST_NODES + 1][MOST_NODES + 1];
+
+static void both_ways(unsigned a, unsigned b) {
+    arc[a][b] = 1;
+    arc[b][a] = 1;
+}
+
+// Nodes in rows, each joined both ways to its neighbours: m = 2 (rows (columns - 1) + columns (rows - 1)).
+static unsigned lattice(unsigned rows, unsigned columns) {
+    for (unsigned r = 0; r < rows; r++)
+        for (unsigned c = 0; c < columns; c++) {
+            unsigned v = r * columns + c + 1;
+            if (c + 1 < columns)
+                both_ways(v, v + 1);
+            if (r + 1 < rows)
+                both_ways(v, v + columns);
+        }
+    return rows * columns;
+}
+
+// m arcs drawn from all.
+static unsigned sparse(unsigned n, unsigned m) {
+    while (m > 0) {
+        unsigned a = 1 + draw(n), b = 1 + draw(n);
+        if (a != b && !arc[a][b]) {
+            arc[a][b] = 1;
+            m--;
+        }
+    }
+    return n;
+}
+
+// All arcs.
+static unsigned dense(unsigned n) {
+    for (unsigned a = 1; a <= n; a++)
+        for (unsigned b = 1; b <= n; b++)
+            arc[a][b] = a != b;
+    return n;
+}
+
+// From each node arcs to `degree` nodes of the next layer, drawn.
+static unsigned layered(unsigned layers, unsigned width, unsigned degree) {
+    for (unsigned v = 1; v <= (layers - 1) * width; v++) {
+        unsigned next = ((v - 1) / width + 1) * width + 1, left = degree;
+        while (left > 0) {
+            unsigned y = next + draw(width);
+            if (!arc[v][y]) {
+                arc[v][y] = 1;
+                left--;
+            }
+        }
+    }
+    return layers * width;
+}
+
+static void put(uint8_t *at, unsigned bytes, uint32_t x) {
+    while (bytes-- > 0) {
+        *at++ = (uint8_t)x;
+        x >>= 8;
+    }
+}
+
+static void write_image(struct network *net) {
+    unsigned m = net->m;
+    uint8_t *b = net->image;
+    net->image_length = 24 + 8 * (size_t)m;
+    put(b, 2, 1);
+    put(b + 2, 2, net->n);
+    put(b + 4, 2, m);
+    put(b + 6, 2, 1);
+    put(b + 8, 4, 24);
+    put(b + 12, 4, 24 + 4 * m);
+    put(b + 16, 4, 24 + 8 * m);
+    put(b + 20, 4, 0);
+    for (unsigned i = 0; i < m; i++) {
+        put(b + 24 + 4 * i, 2, net->tail[i]);
+        put(b + 26 + 4 * i, 2, net->head[i]);
+        put(b + 24 + 4 * m + 4 * i, 4, net->cost[i]);
+    }
+}
+
+void make_network(struct network *net, unsigned shape, uint32_t top) {
+    state = 88172645463325252u + shape;
+    memset(arc, 0, sizeof arc);
+    switch (shape) {
+    case 0: net->n = lattice(14, 14); break;
+    case 1: net->n = sparse(200, 1000); break;
+    case 2: net->n = dense(32); break;
+    case 3: net->n = layered(18, 11, 5); break;
+    default: net->n = lattice(2, 100); break;
+    }
+    net->m = 0;
+    for (unsigned a = 1; a <= net->n; a++)
+        for (unsigned b = 1; b <= net->n; b++)
+            if (arc[a][b]) {
+                net->tail[net->m] = (uint16_t)a;
+                net->head[net->m] = (uint16_t)b;
+                net->cost[net->m] = 1 + draw(top);
+                net->m++;
+            }
+    write_image(net);
+}
+
+size_t workspace(unsigned n, unsigned wanted) {
+    return (size_t)(wanted + 1) * (n + 16) + 16 * (size_t)n + 64;
+}

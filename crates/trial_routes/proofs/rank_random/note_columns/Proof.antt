@@ -1,0 +1,31 @@
+-- `trial_routes::rank_random::note_columns` is safe and ends.
+use Prim.Native.Nat.{_-_}
+use mathlib.Core.Path.{_≡_}
+use borrow.Author.Needs.{needs}
+use lib.ListN.{length}
+use Rattle.trial_routes.proofs.rank_random.note_columns.Statement.{statement}
+use Rattle.trial_routes.proofs.rank_random.note_columns.Tie as tie
+
+abbrev Inv-loop : tie.InvT-loop
+Inv-loop report₀ n k code numbers image paths₀ prices₀ u₀ report paths prices u = (length paths ≡ length paths₀) × (length prices ≡ length prices₀)
+
+abbrev μ-loop : tie.MeasureT-loop
+μ-loop report₀ n k code numbers image paths₀ prices₀ u₀ report paths prices u = k - u
+
+pub note-columns-spec : {M : Type 1} → statement M
+note-columns-spec =
+    tie.close
+    (tie.spec
+    Inv-loop
+    μ-loop
+    (λ c. search needs)
+    (λ c κs. search needs)
+    (λ c. search needs)
+    (λ c. search needs)
+    (λ c. search needs)
+    (λ c. search needs)
+    (λ c. search needs)
+    (λ c. search needs)
+    (λ c. search needs)
+    (λ c. search needs)
+    (λ c. search needs))

@@ -1,0 +1,25 @@
+// The tests of the path layer. Each case holds what a call gave to what document 01 says that it
+// gives, and the program prints, for each kind of case, how many agreed and how many differed.
+//
+// The files path_*.rt test Label, Shortest and Regret, and rank_*.rt Rank. The answers come from
+// document 01, from networks whose paths are known, or from the crate enumerate, which is written
+// apart from the library. Images that every call refuses are tested by the program trial.
+
+mod path_cases;
+mod path_lists;
+mod path_random;
+mod path_refusals;
+mod random_networks;
+mod rank_cases;
+mod rank_ladder;
+mod rank_random;
+mod rank_refusals;
+
+fn main() {
+    path_cases::run();
+    path_refusals::run();
+    rank_cases::run();
+    rank_ladder::run();
+    rank_refusals::run();
+    random_networks::run();
+}

@@ -1,0 +1,182 @@
+// Document 01's cases for the calls of the path layer: network S, the network of zero costs, the
+// network without arcs and the line of 200 nodes.
+use trials::answers::pair;
+use trials::answers::refusal;
+use trials::networks::lay_out_s;
+use trials::networks::line_arcs;
+use trials::networks::line_nodes;
+use trials::path_calls::note_label;
+use trials::path_calls::note_shortest;
+use trials::path_calls::regret_agrees;
+use trials::path_calls::shortest_agrees;
+use trials::plain_image::encode;
+use trials::report::REGRET;
+use trials::report::Report;
+use trials::report::SHORTEST;
+
+// The label of a node that cannot reach the goal.
+const UNREACHED: u32 = 4294967295;
+
+// Regret of a path gives this figure and worst column.
+fn regret_is(
+    report: Report,
+    image: &[u8],
+    start: u32,
+    goal: u32,
+    nodes: &[u16],
+    figure: u32,
+    worst: u32,
+) -> Report {
+    let agrees = regret_agrees(image, start, goal, nodes, pair(figure, worst));
+    report.note(REGRET, agrees)
+}
+
+// Regret of a list that is no path gives 14 at this place.
+fn list_refused(
+    report: Report,
+    image: &[u8],
+    start: u32,
+    goal: u32,
+    nodes: &[u16],
+    place: u32,
+) -> Report {
+    let agrees = regret_agrees(image, start, goal, nodes, refusal(14, place));
+    report.note(REGRET, agrees)
+}
+
+// Shortest from a start from which the goal cannot be reached.
+fn no_path(report: Report, image: &[u8], start: u32, goal: u32) -> Report {
+    let agrees = shortest_agrees(image, 1, start, goal, 9, refusal(15, 0), &[]);
+    report.note(SHORTEST, agrees)
+}
+
+fn labels_of_s(mut report: Report, image: &[u8]) -> Report {
+    report = note_label(report, image, 1, 4, &[5, 3, 2, 0]);
+    report = note_label(report, image, 2, 4, &[5, 1, 7, 0]);
+    report = note_label(report, image, 2, 3, &[1, 2, 0, UNREACHED]);
+    note_label(report, image, 1, 1, &[0, UNREACHED, UNREACHED, UNREACHED])
+}
+
+fn paths_of_s(mut report: Report, image: &[u8]) -> Report {
+    report = note_shortest(report, image, 1, 1, 4, 4, &[1, 2, 3, 4], 5);
+    report = note_shortest(report, image, 2, 1, 4, 4, &[1, 2, 4], 5);
+    report = note_shortest(report, image, 2, 1, 3, 4, &[1, 3], 1);
+    report = no_path(report, image, 4, 1);
+    no_path(report, image, 3, 2)
+}
+
+fn figures_of_s(mut report: Report, image: &[u8]) -> Report {
+    report = regret_is(report, image, 1, 4, &[1, 2, 4], 3, 1);
+    report = regret_is(report, image, 1, 4, &[1, 3, 4], 3, 2);
+    report = regret_is(report, image, 1, 4, &[1, 2, 3, 4], 8, 2);
+    report = regret_is(report, image, 2, 4, &[2, 4], 3, 1);
+    regret_is(report, image, 1, 2, &[1, 2], 0, 1)
+}
+
+// The places of row 14: at the front, at a node that repeats or has no arc to it, at the end.
+fn lists_on_s(mut report: Report, image: &[u8]) -> Report {
+    report = list_refused(report, image, 1, 4, &[], 0);
+    report = list_refused(report, image, 1, 4, &[2, 4], 0);
+    report = list_refused(report, image, 1, 4, &[1, 4], 1);
+    report = list_refused(report, image, 1, 4, &[1, 0, 4], 1);
+    report = list_refused(report, image, 1, 4, &[1, 65535], 1);
+    report = list_refused(report, image, 1, 4, &[1, 2, 1, 3, 4], 2);
+    report = list_refused(report, image, 1, 4, &[1, 2, 2, 4], 2);
+    report = list_refused(report, image, 1, 4, &[1, 2, 4, 3], 3);
+    report = list_refused(report, image, 1, 4, &[1], 1);
+    report = list_refused(report, image, 1, 4, &[1, 2], 2);
+    report = list_refused(report, image, 1, 3, &[1, 2, 4], 3);
+    report = list_refused(report, image, 4, 1, &[4], 1);
+    list_refused(report, image, 4, 1, &[4, 1], 1)
+}
+
+fn network_s() {
+    let mut image = [0u8; 84];
+    lay_out_s(&mut image);
+    let mut report = labels_of_s(Report::new(), &image);
+    report = paths_of_s(report, &image);
+    report = figures_of_s(report, &image);
+    lists_on_s(report, &image).print(b"network S");
+}
+
+fn note_zero_costs(mut report: Report, image: &[u8]) -> Report {
+    report = note_label(report, image, 1, 4, &[0, 0, 0, 0]);
+    report = note_label(report, image, 1, 2, &[0, 0, 0, UNREACHED]);
+    report = note_shortest(report, image, 1, 1, 4, 4, &[1, 3, 2, 4], 0);
+    report = note_shortest(report, image, 1, 3, 4, 4, &[3, 2, 4], 0);
+    report = regret_is(report, image, 1, 4, &[1, 3, 2, 4], 0, 1);
+    report = regret_is(report, image, 1, 4, &[1, 3, 4], 0, 1);
+    list_refused(report, image, 1, 4, &[1, 3, 2, 3, 4], 3)
+}
+
+// n = 4, k = 1, arcs 1→3, 2→3, 2→4, 3→2, 3→4, all cost 0.
+fn zero_costs() {
+    let mut image = [0u8; 64];
+    encode(
+        4,
+        1,
+        &[1, 3, 2, 3, 2, 4, 3, 2, 3, 4],
+        &[0, 0, 0, 0, 0],
+        &mut image,
+    );
+    note_zero_costs(Report::new(), &image).print(b"network of zero costs");
+}
+
+// n = 2, m = 0, k = 1.
+fn no_arcs() {
+    let mut image = [0u8; 24];
+    encode(2, 1, &[], &[], &mut image);
+    let mut report = note_label(Report::new(), &image, 1, 2, &[UNREACHED, 0]);
+    report = no_path(report, &image, 1, 2);
+    list_refused(report, &image, 1, 2, &[1, 2], 1).print(b"network without arcs");
+}
+
+fn line_label(i: usize) -> u32 {
+    if i < 200 {
+        (199000000 - 1000000 * i) as u32
+    } else {
+        0
+    }
+}
+
+// The labels of the line's nodes to the last of 200.
+fn line_labels(labels: &mut [u32]) {
+    for i in 0..labels.len() {
+        labels[i] = line_label(i);
+    }
+}
+
+fn note_line(image: &[u8], nodes: &[u16], labels: &[u32]) -> Report {
+    let mut report = note_label(Report::new(), image, 1, 200, labels);
+    if nodes.len() != 200 {
+        return report.note(REGRET, false);
+    }
+    report = note_shortest(report, image, 1, 1, 200, 200, nodes, 199000000);
+    report = regret_is(report, image, 1, 200, nodes, 0, 1);
+    report = list_refused(report, image, 1, 200, &nodes[0..199], 199);
+    list_refused(report, image, 2, 1, &nodes[1..200], 199)
+}
+
+fn lay_out_line(arcs: &mut [u16], nodes: &mut [u16], labels: &mut [u32], image: &mut [u8]) {
+    line_arcs(arcs);
+    line_nodes(nodes);
+    line_labels(labels);
+    encode(200, 1, arcs, &[1000000; 199], image);
+}
+
+// 200 nodes in a line, arcs from each to the next, each cost 1,000,000.
+fn line() {
+    let mut arcs = [0u16; 398];
+    let mut nodes = [0u16; 200];
+    let mut labels = [0u32; 200];
+    let mut image = [0u8; 1616];
+    lay_out_line(&mut arcs, &mut nodes, &mut labels, &mut image);
+    note_line(&image, &nodes, &labels).print(b"line of 200 nodes");
+}
+
+pub fn run() {
+    network_s();
+    zero_costs();
+    no_arcs();
+    line();
+}

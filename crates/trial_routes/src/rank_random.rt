@@ -1,0 +1,254 @@
+// Random networks: Rank, held to the plain enumeration of all paths.
+use super::path_random::lay_out_paths;
+use enumerate::Costs;
+use enumerate::Row;
+use trials::answers::refusal;
+use trials::answers::single;
+use trials::networks::number_at;
+use trials::numbers::count;
+use trials::numbers::narrow;
+use trials::numbers::places;
+use trials::rank_calls::Request;
+use trials::rank_calls::Rooms;
+use trials::rank_calls::longer;
+use trials::rank_calls::needed_rooms;
+use trials::rank_calls::note_short_ranks;
+use trials::rank_calls::rank_agrees;
+use trials::report::RANK;
+use trials::report::Report;
+
+// The node at an index of the rows that Rank writes: n places for each path.
+fn node_at(n: usize, paths: &[Row], at: usize) -> u16 {
+    if n == 0 {
+        return 0;
+    }
+    let row = enumerate::row_at(paths, at / n);
+    let place = at % n;
+    if 7 < place {
+        return 0;
+    }
+    row[place]
+}
+
+// Fills a list with the rows that Rank writes.
+fn expect_rows(n: usize, paths: &[Row], rows: &mut [u16]) {
+    for at in 0..rows.len() {
+        rows[at] = node_at(n, paths, at);
+    }
+}
+
+// Fills a list with the costs in column u.
+fn expect_costs(u: u32, prices: &[Costs], costs: &mut [u32]) {
+    for i in 0..costs.len() {
+        costs[i] = narrow(enumerate::in_column(enumerate::costs_at(prices, i), u));
+    }
+}
+
+// Slices that are exactly long enough in even columns, and longer in odd ones.
+fn lent(n: u32, request: Request) -> Rooms {
+    let needed = needed_rooms(n, request.wanted);
+    if request.column % 2 == 0 {
+        return needed;
+    }
+    longer(needed)
+}
+
+// Rank where the ranked paths begin with these, as many as it gives.
+fn rank_is(
+    image: &[u8],
+    n: u32,
+    request: Request,
+    paths: &[Row],
+    prices: &[Costs],
+    rows: &mut [u16],
+    costs: &mut [u32],
+) -> bool {
+    expect_rows(n as usize, paths, rows);
+    expect_costs(request.column, prices, costs);
+    let found = single(count(costs.len()));
+    rank_agrees(image, request, lent(n, request), found, rows, costs)
+}
+
+// The same, with lists made for what it should write.
+fn rank_gives(
+    image: &[u8],
+    n: u32,
+    request: Request,
+    given: u32,
+    paths: &[Row],
+    prices: &[Costs],
+) -> bool {
+    let mut rows = [0u16; 2048];
+    let mut costs = [0u32; 256];
+    let row_count = places(given, n);
+    let cost_count = given as usize;
+    if 2048 < row_count {
+        return false;
+    }
+    if 256 < cost_count {
+        return false;
+    }
+    rank_is(
+        image,
+        n,
+        request,
+        paths,
+        prices,
+        &mut rows[0..row_count],
+        &mut costs[0..cost_count],
+    )
+}
+
+fn least(a: u32, b: u32) -> u32 {
+    if a < b { a } else { b }
+}
+
+// Rank, by all paths with their costs, which are put into its order as far as it goes.
+fn rank_holds(
+    image: &[u8],
+    n: u32,
+    request: Request,
+    paths: &mut [Row],
+    prices: &mut [Costs],
+) -> bool {
+    if paths.len() == 0 {
+        return rank_agrees(image, request, lent(n, request), refusal(15, 0), &[], &[]);
+    }
+    let given = least(request.wanted, count(paths.len()));
+    enumerate::rank(request.column, given as usize, paths, prices);
+    rank_gives(image, n, request, given, paths, prices)
+}
+
+// K: 256 in one of 64 cases, and else 1 to 12.
+fn drawn_wanted(number: u32) -> u32 {
+    let high = number / 65536;
+    if high % 64 == 0 {
+        return 256;
+    }
+    1 + high % 12
+}
+
+// Rank for a pair of nodes in column u, and in column 1 also with slices that are too short.
+fn note_column(
+    report: Report,
+    n: u32,
+    u: u32,
+    code: u32,
+    numbers: &[u32],
+    image: &[u8],
+    paths: &mut [Row],
+    prices: &mut [Costs],
+) -> Report {
+    let request = Request {
+        column: u,
+        start: code % 8 + 1,
+        goal: code / 8 + 1,
+        wanted: drawn_wanted(number_at(numbers, 8 * (code as usize) + (u as usize))),
+    };
+    let noted = report.note(RANK, rank_holds(image, n, request, paths, prices));
+    if u != 1 {
+        return noted;
+    }
+    note_short_ranks(noted, image, request, needed_rooms(n, request.wanted))
+}
+
+fn note_columns(
+    mut report: Report,
+    n: u32,
+    k: u32,
+    code: u32,
+    numbers: &[u32],
+    image: &[u8],
+    paths: &mut [Row],
+    prices: &mut [Costs],
+) -> Report {
+    for u in 1..=k {
+        report = note_column(report, n, u, code, numbers, image, paths, prices);
+    }
+    report
+}
+
+// Rank for one of the 64 pairs of eight nodes, if the network has both and they differ.
+fn note_code(
+    report: Report,
+    code: u32,
+    n: u32,
+    k: u32,
+    arcs: &[u16],
+    costs: &[u32],
+    numbers: &[u32],
+    image: &[u8],
+    rows: &mut [Row],
+    prices: &mut [Costs],
+) -> Report {
+    let start = code % 8 + 1;
+    let goal = code / 8 + 1;
+    if n < start || n < goal || start == goal {
+        return report;
+    }
+    let found = lay_out_paths(start, goal, arcs, costs, rows, prices);
+    if rows.len() < found {
+        return report.note(RANK, false);
+    }
+    if prices.len() < found {
+        return report.note(RANK, false);
+    }
+    let all = &mut rows[0..found];
+    let priced = &mut prices[0..found];
+    note_columns(report, n, k, code, numbers, image, all, priced)
+}
+
+fn note_codes(
+    mut report: Report,
+    n: u32,
+    k: u32,
+    arcs: &[u16],
+    costs: &[u32],
+    numbers: &[u32],
+    image: &[u8],
+    rows: &mut [Row],
+    prices: &mut [Costs],
+) -> Report {
+    for code in 0..64u32 {
+        report = note_code(
+            report,
+            code,
+            n,
+            k,
+            arcs,
+            costs,
+            numbers,
+            image,
+            rows,
+            prices,
+        );
+    }
+    report
+}
+
+// Rank on a network of up to eight nodes, between all of them and in all columns.
+pub fn note_ranks(
+    report: Report,
+    n: u32,
+    k: u32,
+    arcs: &[u16],
+    costs: &[u32],
+    numbers: &[u32],
+    image: &[u8],
+) -> Report {
+    let row = [0u16; 8];
+    let price = [0u64; 8];
+    let mut rows = [row; 3914];
+    let mut prices = [price; 1957];
+    note_codes(
+        report,
+        n,
+        k,
+        arcs,
+        costs,
+        numbers,
+        image,
+        &mut rows,
+        &mut prices,
+    )
+}

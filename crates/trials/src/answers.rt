@@ -1,0 +1,146 @@
+// The answer of a call as numbers, in document 01's terms.
+use super::slices::holds_numbers;
+use image::Built;
+use image::Checked;
+use image::Refusal;
+use image::Sizes;
+use image::Unpacked;
+use routes::Labelled;
+use routes::Listed;
+use routes::Regretted;
+use routes::Routed;
+
+// A refusal's number and place; or the number 0, the place 0 and the values that the call gave,
+// filled up with 0.
+pub struct Answer {
+    pub number: u32,
+    pub place: u32,
+    pub values: [u32; 6],
+}
+
+pub fn refusal(number: u32, place: u32) -> Answer {
+    Answer {
+        number,
+        place,
+        values: [0; 6],
+    }
+}
+
+// Build's result, a length in bytes, or Rank's, a number of paths.
+pub fn single(value: u32) -> Answer {
+    Answer {
+        number: 0,
+        place: 0,
+        values: [value, 0, 0, 0, 0, 0],
+    }
+}
+
+// Check's and Unpack's result.
+pub fn sizes(n: u32, m: u32, k: u32) -> Answer {
+    Answer {
+        number: 0,
+        place: 0,
+        values: [n, m, k, 0, 0, 0],
+    }
+}
+
+// Shortest's result, a length and a cost, or Regret's, a figure and a worst column.
+pub fn pair(first: u32, second: u32) -> Answer {
+    Answer {
+        number: 0,
+        place: 0,
+        values: [first, second, 0, 0, 0, 0],
+    }
+}
+
+// Label's result, which has no values.
+pub fn written() -> Answer {
+    pair(0, 0)
+}
+
+// The number of a row of the refusal table, and the place that it names.
+fn of_refusal(row: Refusal) -> Answer {
+    match row {
+        Refusal::ImageTooShort => refusal(1, 0),
+        Refusal::WrongEdition => refusal(2, 0),
+        Refusal::SizeOutOfRange => refusal(3, 0),
+        Refusal::WrongField => refusal(4, 0),
+        Refusal::WrongLength => refusal(5, 0),
+        Refusal::ArcOutOfRange(arc) => refusal(6, arc),
+        Refusal::ArcToItself(arc) => refusal(7, arc),
+        Refusal::ArcNotRising(arc) => refusal(8, arc),
+        Refusal::CostTooLarge(cost) => refusal(9, cost),
+        Refusal::WrongEnds => refusal(10, 0),
+        Refusal::WrongColumn => refusal(11, 0),
+        Refusal::WrongPathCount => refusal(12, 0),
+        Refusal::SliceTooShort => refusal(13, 0),
+        Refusal::NotAPath(position) => refusal(14, position),
+        Refusal::NoPath => refusal(15, 0),
+        Refusal::CostOverflow => refusal(16, 0),
+    }
+}
+
+fn of_sizes(given: Sizes) -> Answer {
+    sizes(given.n, given.m, given.k)
+}
+
+pub fn of_check(answer: Checked) -> Answer {
+    match answer {
+        Checked::Network(given) => of_sizes(given),
+        Checked::Refused(row) => of_refusal(row),
+    }
+}
+
+pub fn of_build(answer: Built) -> Answer {
+    match answer {
+        Built::Image(bytes) => single(bytes),
+        Built::Refused(row) => of_refusal(row),
+    }
+}
+
+pub fn of_unpack(answer: Unpacked) -> Answer {
+    match answer {
+        Unpacked::Lists(given) => of_sizes(given),
+        Unpacked::Refused(row) => of_refusal(row),
+    }
+}
+
+pub fn of_label(answer: Labelled) -> Answer {
+    match answer {
+        Labelled::Written => written(),
+        Labelled::Refused(row) => of_refusal(row),
+    }
+}
+
+pub fn of_shortest(answer: Routed) -> Answer {
+    match answer {
+        Routed::Path(length, cost) => pair(length, cost),
+        Routed::Refused(row) => of_refusal(row),
+    }
+}
+
+pub fn of_regret(answer: Regretted) -> Answer {
+    match answer {
+        Regretted::Measured(given) => pair(given.figure, given.worst),
+        Regretted::Refused(row) => of_refusal(row),
+    }
+}
+
+pub fn of_rank(answer: Listed) -> Answer {
+    match answer {
+        Listed::Paths(count) => single(count),
+        Listed::Refused(row) => of_refusal(row),
+    }
+}
+
+pub fn same_answer(a: Answer, b: Answer) -> bool {
+    if a.number != b.number {
+        return false;
+    }
+    if a.place != b.place {
+        return false;
+    }
+    let given = a.values;
+    let expected = b.values;
+    holds_numbers(&given, &expected)
+}

@@ -1,0 +1,49 @@
+// The calls of the path layer on an image that is refused.
+use super::answers::Answer;
+use super::path_calls::label_agrees;
+use super::path_calls::regret_agrees;
+use super::path_calls::shortest_agrees;
+use super::rank_calls::Request;
+use super::rank_calls::Rooms;
+use super::rank_calls::needed_rooms;
+use super::rank_calls::rank_agrees;
+use super::report::LABEL;
+use super::report::RANK;
+use super::report::REGRET;
+use super::report::Report;
+use super::report::SHORTEST;
+
+fn note_refused_ranks(report: Report, image: &[u8], expected: Answer) -> Report {
+    let request = Request {
+        column: 1,
+        start: 1,
+        goal: 4,
+        wanted: 5,
+    };
+    let nothing = Request {
+        column: 0,
+        start: 0,
+        goal: 0,
+        wanted: 0,
+    };
+    let empty = Rooms {
+        rows: 0,
+        costs: 0,
+        work: 0,
+    };
+    let asked = rank_agrees(image, request, needed_rooms(4, 5), expected, &[], &[]);
+    let not_asked = rank_agrees(image, nothing, empty, expected, &[], &[]);
+    report.note(RANK, asked).note(RANK, not_asked)
+}
+
+// Every call of the path layer refuses the image with this answer and writes nothing, whatever else
+// it is given.
+pub fn note_refused_paths(mut report: Report, image: &[u8], expected: Answer) -> Report {
+    report = report.note(LABEL, label_agrees(image, 1, 4, 12, expected, &[]));
+    report = report.note(LABEL, label_agrees(image, 0, 0, 0, expected, &[]));
+    report = report.note(SHORTEST, shortest_agrees(image, 1, 1, 4, 12, expected, &[]));
+    report = report.note(SHORTEST, shortest_agrees(image, 0, 0, 0, 0, expected, &[]));
+    report = report.note(REGRET, regret_agrees(image, 1, 4, &[1, 3, 4], expected));
+    report = report.note(REGRET, regret_agrees(image, 0, 0, &[], expected));
+    note_refused_ranks(report, image, expected)
+}
