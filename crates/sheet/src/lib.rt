@@ -7,3 +7,4 @@ mod refusals;
 mod words;
 
 pub use printing::Printed;
+pub use printing::sheet;
