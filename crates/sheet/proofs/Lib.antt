@@ -1,0 +1,4 @@
+pub mod DecimalLaws
+pub mod TextLaws
+pub mod LineLaws
+pub mod PrintLaws

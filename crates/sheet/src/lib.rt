@@ -1,0 +1,10 @@
+// The sheet of document 01: Robust's answer on an image as lines of text. No call asks anything of
+// its caller.
+
+mod lines;
+mod printing;
+mod refusals;
+mod words;
+
+pub use printing::Printed;
+pub use printing::sheet;
