@@ -1,9 +1,9 @@
 -- The search for the path of least greatest regret: what is given, and what holds while paths are counted. Assumes nothing.
-use Prim.Native.Nat.{ℕ, _+_, _-_, _*_, _≤_, _<_}
+use Prim.Native.Nat.{ℕ, _+_, _-_, _≤_, _<_}
 use mathlib.Core.Path.{_≡_}
 use mathlib.Core.Bool.{Bool, true, false}
 use mathlib.Core.List.{List, [], map}
-use lib.ListN.{length, take, drop, getD}
+use lib.ListN.{length, getD}
 use Rattle.terms.specs.Lists.{numbers}
 use Rattle.terms.specs.Network.{Graph, Net, column}
 use Rattle.terms.specs.Paths.{Route, cost}
@@ -12,7 +12,7 @@ use Rattle.terms.specs.Regret.{best, figure, worst}
 use Rattle.candidates.specs.Slots.{entry-at, entries}
 use Rattle.ranking.specs.Ranking.{Filled}
 use Rattle.ranking.specs.State.{Searching}
-use Rattle.regret.specs.Columns.{Columns, network}
+use Rattle.regret.specs.Columns.{Columns, network, column-costs}
 use Rattle.robust.specs.declared.counting.Leader.{Leader}
 use Rattle.robust.specs.Leader.{Leading, Going}
 
@@ -26,7 +26,7 @@ pub record Priced (n s t : ℕ) (ts hs outs costs bests : List ℕ) : Type 0 whe
 pub record InColumn (r k : ℕ) (ts ws costs : List ℕ) : Type 0 where
   pub from : 1 ≤ r
   pub upto : r ≤ k
-  pub weights-are : ws ≡ take (length ts) (drop ((r - 1) * length ts) costs)
+  pub weights-are : ws ≡ column-costs (length ts) costs r
 
 -- ---- while paths are counted
 -- j paths are counted. low is best(r), so a path that costs low + figure or more has at least this figure as its deviation in r

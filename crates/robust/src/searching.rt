@@ -158,6 +158,8 @@ pub fn search(
             path,
             arcs,
         );
+        // the path that is ranked costs less than the limit, also where its own deviation reaches the
+        // least figure
         let limit = larger(best + leader.figure, cost_at(work, n, j) + 1);
         count = split(
             tails,

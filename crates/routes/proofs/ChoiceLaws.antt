@@ -12,6 +12,7 @@ use Rattle.terms.specs.Paths.{Route, Path}
 use Rattle.terms.specs.Lists.{_∈_, numbers}
 use Rattle.terms.specs.Regret.{best}
 use Rattle.terms.specs.Robust as terms
+use Rattle.terms.specs.Robust.{robust}
 use Rattle.terms.specs.Ranking.{ranked}
 use Rattle.terms.proofs.ColumnLaws.{cut-at}
 use Rattle.terms.proofs.Demand3Laws.{demand-3}
@@ -22,17 +23,17 @@ use Rattle.labels.specs.Arcs.{graph}
 use Rattle.labels.specs.Labels.{far}
 use Rattle.image.specs.Layout.{arc-count, column-count, cost-list, netOf}
 use Rattle.image.specs.Calls.{image-fault}
-use Rattle.image.specs.Outcome.{Fault, sound, fault, gives, after}
+use Rattle.image.specs.Outcome.{Fault, sound, fault, Outcome, gives, outcome, after}
 use Rattle.image.proofs.NetworkLaws.{accepted-network, accepted-costs, length-columns}
 use Rattle.image.proofs.PartLaws.{length-arcs}
-use Rattle.image.proofs.OutcomeLaws.{then-next, then-sound, after-sound}
+use Rattle.image.proofs.OutcomeLaws.{then-next, then-sound, outcome-sound, after-sound}
 use Rattle.ranking.specs.Ranking.{Space}
 use Rattle.ranking.specs.Star.{Star}
 use Rattle.regret.specs.Bests.{Joined}
 use Rattle.regret.specs.Columns.{arc-pairs, network, column-costs, Columns}
 use Rattle.regret.proofs.BestLaws.{joined}
 use Rattle.robust.specs.Answers.{chosen-length, answered}
-use Rattle.robust.specs.Counting as robust
+use Rattle.robust.specs.Counting as counting
 use Rattle.robust.specs.declared.answering.Answer.{Answer}
 use Rattle.robust.specs.declared.answering.Answer.the-variants.{Settled, Open}
 use Rattle.robust.specs.declared.answering.Choice.{Choice}
@@ -119,7 +120,14 @@ module _ {b : List ℕ} {m k s t : ℕ} (a : Accepted b (netOf b .nodes) m k) {t
 pub read-ready : {b : List ℕ} {n m k : ℕ} → Accepted b n m k → (image-fault b ≡ sound) × (m ≡ arc-count b) × (k ≡ column-count b)
 read-ready {b} a = (a .passes, a .arcs-are ∙ length-arcs b (a .passes), a .columns-are ∙ length-columns b)
 
--- ---- a loaded column whose start is reached
+-- ---- a loaded column
+pub loaded-star : {net : Net} {u t : ℕ} {ts hs ws outs ins nexts overall : List ℕ} → Loaded net u t ts hs ws outs ins nexts overall → Star (net .nodes) ts hs outs
+loaded-star {net} {ts = ts} {hs} {outs = outs} l =
+    let W = l .network (net .nodes + 1) refl in
+    let e : W .nodes ≡ net .nodes = omega (arith, W .places) in
+    subst (λ n. Star n ts hs outs) e (W .star)
+
+-- whose start is reached
 module _ {b : List ℕ} {m r s t : ℕ} (c : InColumn b m r) (ends : Ends (netOf b .nodes) s t) {ts hs ws outs ins nexts overall : List ℕ} (l : Loaded (netOf b) r t ts hs ws outs ins nexts overall) (h : getD overall s 0 ≡ far → ⊥) where
   found : (p : Route) × Path (column (netOf b) r) s t p
   found =
@@ -156,13 +164,13 @@ unreached-row {s = s} c ends l e = row-none c ends (λ p h. let k = column-least
 
 -- ---- in a network of n nodes, where n is the image's number
 module _ {net : Net} {n s t : ℕ} (n-is : n ≡ net .nodes) {ts hs outs costs bests : List ℕ} (H : Held net s t ts hs outs costs bests) where
-  pub priced-for : robust.Priced n s t ts hs outs costs bests
-  priced-for = subst (λ n. robust.Priced n s t ts hs outs costs bests) (sym n-is) (H .priced)
+  pub priced-for : counting.Priced n s t ts hs outs costs bests
+  priced-for = subst (λ n. counting.Priced n s t ts hs outs costs bests) (sym n-is) (H .priced)
 
   pub network-for : network n (length bests) ts hs costs ≡ net
   network-for = ap (λ n. network n (length bests) ts hs costs) n-is ∙ H .network-is
 
-  pub column-for : {r : ℕ} {ws : List ℕ} → 1 ≤ r → r ≤ length bests → ws ≡ getD (net .columns) (r - 1) [] → robust.InColumn r (length bests) ts ws costs
+  pub column-for : {r : ℕ} {ws : List ℕ} → 1 ≤ r → r ≤ length bests → ws ≡ getD (net .columns) (r - 1) [] → counting.InColumn r (length bests) ts ws costs
   column-for {r} from upto e = record { from = from; upto = upto; weights-are = e ∙ sym (H .costs-of r from upto) }
 
 pub space-for : {n N K : ℕ} {path work : List ℕ} → n ≡ N → ChoiceSlices N K path work → Space n (K + 1) work
@@ -187,6 +195,16 @@ module _ (A : Answer) where
     chosen-written =
         let p-is : take (chosen-length A) new ≡ chosen ans = sym (chosen-answered (take (chosen-length A) new)) ∙ ap chosen e in
         w ∙ ap₂ (λ (p : Route) (k : ℕ). p ++ drop k old) p-is (sym chosen-long ∙ ap length p-is) ∙ sym (after-sound _ old refl)
+
+-- what is found in the network of the arrays, which is the image's
+module _ (b : List ℕ) (r s t K : ℕ) {net : Net} (net-is : net ≡ netOf b) {f : Fault} (e : f ≡ sound) where
+  pub values-in : {o : Outcome} → o ≡ gives (robust-values (robust net r s t K)) → o ≡ outcome f (robust-values (robust-of b r s t K))
+  unfolding robust-of
+  values-in h = h ∙ ap (λ net. gives (robust-values (robust net r s t K))) net-is ∙ sym (outcome-sound _ e)
+
+  pub path-in : (old : List ℕ) {new : List ℕ} → new ≡ after sound (chosen (robust net r s t K)) old → new ≡ after f (chosen (robust-of b r s t K)) old
+  unfolding robust-of
+  path-in old h = h ∙ ap (λ net. after sound (chosen (robust net r s t K)) old) net-is ∙ ap (λ f. after f (chosen (robust (netOf b) r s t K)) old) (sym e)
 
 pub state-settled : (A : Answer) (c : Choice) (count : ℕ) → A ≡ Settled c count → (p : Route) → length p ≡ chosen-length A → gives (c .length ∷ c .figure ∷ c .worst ∷ count ∷ 1 ∷ 0 ∷ []) ≡ gives (robust-values (answered p A))
 unfolding robust-values

@@ -1,13 +1,17 @@
 -- `routes::choosing::choose_in` meets its contract. Assumes nothing.
 use native.Mathlib.Omega.{arith}
-use mathlib.Core.Path.{refl, sym, _∙_, ap}
-use Rattle.terms.specs.Robust.{robust}
-use Rattle.image.specs.Outcome.{gives, after}
-use Rattle.image.proofs.OutcomeLaws.{outcome-fault, outcome-sound, after-fault}
-use Rattle.routes.specs.Calls.{robust-of, robust-values, chosen, cleared}
+use mathlib.Core.Path.{_≡_, sym, _∙_, ap}
+use lib.ListN.{length}
+use Rattle.terms.specs.Network.{column}
+use Rattle.image.specs.Outcome.{sound, outcome, after}
+use Rattle.image.specs.Layout.{netOf}
+use Rattle.image.proofs.OutcomeLaws.{outcome-fault, after-fault}
+use Rattle.regret.specs.Columns.{network}
+use Rattle.routes.specs.Answers.{decided}
+use Rattle.routes.specs.Calls.{no-path-row, robust-of, robust-values, chosen, cleared}
 use Rattle.routes.proofs.DecodeLaws.{few-nodes}
 use Rattle.routes.proofs.RankLaws.{rank-problem, cleared-is, cleared-not}
-use Rattle.routes.proofs.ChoiceLaws.{reached, some-ranked, reached-row, unreached-row, priced-for, network-for, column-for, space-for}
+use Rattle.routes.proofs.ChoiceLaws.{loaded-star, reached, some-ranked, reached-row, unreached-row, priced-for, network-for, column-for, space-for, values-in, path-in}
 use borrow.Author.Needs.{needs}
 use Rattle.routes.proofs.choosing.choose_in.Statement.{statement}
 use Rattle.routes.proofs.choosing.choose_in.Tie as tie
@@ -72,7 +76,7 @@ price-requires c κs = let l = c .before .before .before .before .before .before
     let L = l .load .ensures in (
       p .0 .0,
       (
-        (reached (p .0 .1) (p .0 .2) L (c .before .before .before .before .before .before .before .before .before .before .before .if1 .left), L .network _ refl .star),
+        (reached (p .0 .1) (p .0 .2) L (c .before .before .before .before .before .before .before .before .before .before .before .if1 .left), loaded-star L),
         (
           (long, record { dirty-long = omega (arith, l .load .kept, r .dirty-long, long); queue-long = omega (arith, l .load .kept, r .queue-long, long) }, r .bars-long ∙ sym long),
           (r .no-bars, (C .costs-long, C .bests-long)),
@@ -165,18 +169,30 @@ same-length-28 c = c .before .before .before .before .before .before .before .be
 same-length-29 : tie.Need-same-length-29
 same-length-29 c = c .before .before .before .before .before .before .before .before .before .before .before .before .before .before .before .before .before .before .before .before .choose-priced .kept .1 .1 .1 .1 .1 .1 .1 .1 .1 .1 .1 .1 .1 .1 .1 .1 .1 .1 .1 .1 .1 .1 .1 .0
 
+abbrev loaded : tie.After-slice-known44 → tie.After-load
+loaded c = c .before .before .before .before .before .before .before .before .before .before .before .before .before .before .before .before .before .before .before .before .before .before .before .before .before .before .before .before .before .before .before .before .before .before .before .before .before .before .before .before .before .before .before .before .before .before .before .before .before .before .before .before .before .before .before .before .before .before .before .before .before .before .before .before .before .before .before .before .before .before .before .before .before .before .before .before .before .before .before .before .before .before
+
+-- the network of the arrays is the image's
+net-is : (c : tie.After-slice-known44) → let s = start (loaded c) .args in network (length (s .laid .now)) (length (c .before .before .before .before .before .before .before .before .before .before .before .before .before .before .before .before .before .before .before .before .before .before .before .before .before .before .before .before .before .before .before .before .before .before .before .before .before .before .before .before .before .before .before .before .before .before .before .before .before .before .price .last .1 .1 .1 .1 .1 .1 .1 .1 .1 .1 .1 .1 .1 .1 .1 .0)) (loaded c .load .last .1 .1 .1 .1 .0) (loaded c .load .last .1 .1 .1 .1 .1 .0) (c .before .before .before .before .before .before .before .before .before .before .before .before .before .before .before .before .before .before .before .before .before .before .before .before .before .before .before .before .before .before .before .before .before .before .before .before .before .before .before .before .before .before .before .before .before .before .before .before .before .before .price .last .1 .1 .1 .1 .1 .1 .1 .1 .1 .1 .1 .1 .1 .1 .0) ≡ netOf (s .image .now)
+net-is c = network-for (start (loaded c) .pre .1 .1 .1 .0 .route-long) (c .before .before .before .before .before .before .before .before .before .before .before .before .before .before .before .before .before .before .before .before .before .before .before .before .before .before .before .before .before .before .before .before .before .before .before .before .before .before .before .before .before .before .before .before .before .before .before .before .before .before .price .ensures)
+
+some : (c : tie.After-slice-known44) → let s = start (loaded c) .args in no-path-row (netOf (s .image .now) .nodes) (column (netOf (s .image .now)) (s .r)) (s .start) (s .goal) ≡ sound
+some c = let p = start (loaded c) .pre in reached-row (p .0 .1) (p .0 .2) (loaded c .load .ensures) (c .before .before .before .before .before .before .before .before .before .before .before .before .before .before .before .before .before .before .before .before .before .before .before .before .before .before .before .before .before .before .before .before .before .before .before .before .before .before .before .before .before .before .before .before .before .before .before .before .before .before .before .before .before .before .before .before .before .before .before .before .before .before .if1 .left)
+
+values-are : (c : tie.After-slice-known44) → let s = start (loaded c) .args in decided (c .before .before .before .before .before .before .before .before .before .before .before .before .before .before .before .before .before .before .before .before .choose-priced .result) ≡ outcome (no-path-row (netOf (s .image .now) .nodes) (column (netOf (s .image .now)) (s .r)) (s .start) (s .goal)) (robust-values (robust-of (s .image .now) (s .r) (s .start) (s .goal) (s .wanted)))
+values-are c = let s = start (loaded c) .args in
+    values-in (s .image .now) (s .r) (s .start) (s .goal) (s .wanted) (net-is c) (some c) (c .before .before .before .before .before .before .before .before .before .before .before .before .before .before .before .before .before .before .before .before .choose-priced .ensures .0)
+
+path-is : (c : tie.After-slice-known44) → let s = start (loaded c) .args in c .before .before .before .before .before .before .before .before .before .before .before .before .before .before .before .before .before .before .before .before .choose-priced .last .1 .1 .1 .1 .1 .1 .1 .1 .1 .1 .1 .1 .1 .1 .1 .1 .1 .1 .1 .1 .1 .1 .1 .0 ≡ after (no-path-row (netOf (s .image .now) .nodes) (column (netOf (s .image .now)) (s .r)) (s .start) (s .goal)) (chosen (robust-of (s .image .now) (s .r) (s .start) (s .goal) (s .wanted))) (s .path .now)
+path-is c = let s = start (loaded c) .args in
+    path-in (s .image .now) (s .r) (s .start) (s .goal) (s .wanted) (net-is c) (some c) (s .path .now) (c .before .before .before .before .before .before .before .before .before .before .before .before .before .before .before .before .before .before .before .before .choose-priced .ensures .1 .0)
+
+work-is : (c : tie.After-slice-known44) → let s = start (loaded c) .args in c .before .before .before .before .before .before .before .before .before .before .before .before .before .before .before .before .before .before .before .before .choose-priced .last .1 .1 .1 .1 .1 .1 .1 .1 .1 .1 .1 .1 .1 .1 .1 .1 .1 .1 .1 .0 ≡ cleared (no-path-row (netOf (s .image .now) .nodes) (column (netOf (s .image .now)) (s .r)) (s .start) (s .goal)) (s .work .now)
+work-is c = let s = start (loaded c) .args in
+    c .before .before .before .before .before .before .before .before .before .before .before .before .before .before .before .before .before .before .before .before .choose-priced .ensures .1 .1 ∙ cleared-is (s .work .now) ∙ ap (λ f. cleared f (s .work .now)) (sym (some c))
+
 returns-2 : tie.Need-returns-2
-unfolding robust-of
-returns-2 c = let d = c .before .before .before .before .before .before .before .before .before .before .before .before .before .before .before .before .before .before .before .before .choose-priced .ensures in
-    let q = c .before .before .before .before .before .before .before .before .before .before .before .before .before .before .before .before .before .before .before .before .before .before .before .before .before .before .before .before .before .before .before .before .before .before .before .before .before .before .before .before .before .before .before .before .before .before .before .before .before .before .price .ensures in
-    let l = c .before .before .before .before .before .before .before .before .before .before .before .before .before .before .before .before .before .before .before .before .before .before .before .before .before .before .before .before .before .before .before .before .before .before .before .before .before .before .before .before .before .before .before .before .before .before .before .before .before .before .before .before .before .before .before .before .before .before .before .before .before .before .before .before .before .before .before .before .before .before .before .before .before .before .before .before .before .before .before .before .before .before in
-    let s = start l .args in
-    let p = start l .pre in
-    let net = network-for (p .1 .1 .1 .0 .route-long) q in
-    let e = reached-row (p .0 .1) (p .0 .2) (l .load .ensures) (c .before .before .before .before .before .before .before .before .before .before .before .before .before .before .before .before .before .before .before .before .before .before .before .before .before .before .before .before .before .before .before .before .before .before .before .before .before .before .before .before .before .before .before .before .before .before .before .before .before .before .before .before .before .before .before .before .before .before .before .before .before .before .if1 .left) in (
-      d .0 ∙ ap (λ net. gives (robust-values (robust net (s .r) (s .start) (s .goal) (s .wanted)))) net ∙ sym (outcome-sound _ e),
-      (d .1 .0 ∙ ap (λ net. after _ (chosen (robust net (s .r) (s .start) (s .goal) (s .wanted))) (s .path .now)) net ∙ ap (λ f. after f _ (s .path .now)) (sym e), d .1 .1 ∙ cleared-is (s .work .now) ∙ ap (λ f. cleared f (s .work .now)) (sym e)),
-    )
+returns-2 c = (values-are c, (path-is c, work-is c))
 
 pub choose-in-spec : {M : Type 1} → statement M
 choose-in-spec =

@@ -1,8 +1,9 @@
 -- `routes::choosing::choose_priced` meets its contract. Assumes nothing.
-use Prim.Native.Nat.{ℕ}
+use Prim.Native.Nat.{ℕ, _≤_}
 use native.Mathlib.Omega.{arith}
 use mathlib.Core.Path.{_∙_, ap}
-use lib.ListN.{replicate}
+use lib.ListN.{length, replicate}
+use Rattle.robust.specs.Answers.{chosen-length}
 use Rattle.image.specs.Outcome.{gives}
 use Rattle.routes.specs.Calls.{robust-values}
 use Rattle.routes.proofs.ChoiceLaws.{chosen-long, chosen-written}
@@ -54,7 +55,7 @@ returns : tie.Need-returns
 returns c = let l = c .before .before .before .before .before .before .before .before .before .before .before .before .before .before .before .before .before .before .before .before .before .before .before .before .before .least-regret in
     let s = c .before .before .before .before .before .before .before .before .before .before .before .before .before .before .before .before .before .before .before .before .before .before .before .before .before .before .before .before .before .before .before .before .before .before .before .before .before .before .before .before .before .before .before .before .before .before .before .before .before .before .before .before .before .before .before in
     let e = l .ensures .1 .1 in
-    let fits = omega (arith, e .1 .1, l .kept .1 .1 .1 .1 .1 .1 .1 .1 .1 .1 .1 .1 .1 .1 .1 .1 .1 .1 .1 .1 .1 .1 .1 .0, s .pre .1 .1 .1 .3) in (
+    let fits : chosen-length (l .result) ≤ length (l .last .1 .1 .1 .1 .1 .1 .1 .1 .1 .1 .1 .1 .1 .1 .1 .1 .1 .1 .1 .1 .1 .1 .1 .0) = omega (arith, e .1 .1, l .kept .1 .1 .1 .1 .1 .1 .1 .1 .1 .1 .1 .1 .1 .1 .1 .1 .1 .1 .1 .1 .1 .1 .1 .0, s .pre .1 .1 .1 .3) in (
       c .state .ensures _ (chosen-long (l .result) (s .args .path .now) (e .0) (e .1 .0) fits) ∙ ap (λ a. gives (robust-values a)) (e .0),
       (chosen-written (l .result) (s .args .path .now) (e .0) (e .1 .0) fits, c .before .before .before .clear .ensures ∙ ap (λ (k : ℕ). replicate k 0) (l .kept .1 .1 .1 .1 .1 .1 .1 .1 .1 .1 .1 .1 .1 .1 .1 .1 .1 .1 .1 .0)),
     )
