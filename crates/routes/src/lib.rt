@@ -14,6 +14,7 @@ mod rows;
 
 pub use choosing::Decided;
 pub use choosing::Decision;
+pub use choosing::robust;
 pub use finding::Routed;
 pub use finding::shortest;
 pub use labelling::Labelled;
