@@ -1,9 +1,10 @@
 // The tests of the path layer. Each case holds what a call gave to what document 01 says that it
 // gives, and the program prints, for each kind of case, how many agreed and how many differed.
 //
-// The files path_*.rt test Label, Shortest and Regret, and rank_*.rt Rank. The answers come from
-// document 01, from networks whose paths are known, or from the crate enumerate, which is written
-// apart from the library. Images that every call refuses are tested by the program trial.
+// The files path_*.rt test Label, Shortest and Regret, rank_*.rt Rank and robust_*.rt Robust. The
+// answers come from document 01, from networks whose paths are known, or from the crate enumerate,
+// which is written apart from the library. Images that every call refuses are tested by the program
+// trial.
 
 mod path_cases;
 mod path_lists;
@@ -14,6 +15,10 @@ mod rank_cases;
 mod rank_ladder;
 mod rank_random;
 mod rank_refusals;
+mod robust_cases;
+mod robust_ladder;
+mod robust_random;
+mod robust_refusals;
 
 fn main() {
     path_cases::run();
@@ -21,5 +26,8 @@ fn main() {
     rank_cases::run();
     rank_ladder::run();
     rank_refusals::run();
+    robust_cases::run();
+    robust_ladder::run();
+    robust_refusals::run();
     random_networks::run();
 }

@@ -134,7 +134,8 @@ fn note_line(report: Report, image: &[u8], wanted: u32, nodes: &[u16]) -> Report
     )
 }
 
-fn lay_out_line(arcs: &mut [u16], nodes: &mut [u16], image: &mut [u8]) {
+// The image of the line, and its one path.
+pub fn lay_out_line(arcs: &mut [u16], nodes: &mut [u16], image: &mut [u8]) {
     line_arcs(arcs);
     line_nodes(nodes);
     encode(200, 1, arcs, &[1000000; 199], image);

@@ -20,7 +20,7 @@ use trials::slices::NUMBER_PATTERN;
 ghost use Prim.Native.Nat.{_≤_};
 
 // Two to the power b, for b up to 7.
-fn power(b: usize) -> usize
+pub fn power(b: usize) -> usize
     ensures { λ r. ⌜ (1 ≤ r) × (r ≤ 128) ⌝ }
 {
     match b {
@@ -52,7 +52,7 @@ fn arc_node(at: usize) -> usize {
 }
 
 // The cost of an arc in column 1: of the arc to the higher node.
-fn arc_cost(arc: usize) -> usize {
+pub fn arc_cost(arc: usize) -> usize {
     let step = arc / 4;
     if arc % 4 != 1 {
         return 0;
@@ -85,7 +85,7 @@ fn higher(column: u32, c: usize, step: usize) -> usize
 }
 
 // The node of path c at a place of its row.
-fn path_node(column: u32, c: usize, place: usize) -> usize {
+pub fn path_node(column: u32, c: usize, place: usize) -> usize {
     let step = place / 2;
     if 132 < place {
         return 0;
@@ -101,7 +101,7 @@ fn path_cost(column: u32, c: usize) -> usize {
     if column == 1 { c } else { 132 }
 }
 
-fn lay_out_arcs(arcs: &mut [u16]) {
+pub fn lay_out_arcs(arcs: &mut [u16]) {
     for at in 0..arcs.len() {
         arcs[at] = (arc_node(at) % 65536) as u16;
     }

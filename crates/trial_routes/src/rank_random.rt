@@ -1,11 +1,13 @@
-// Random networks: Rank, held to the plain enumeration of all paths.
+// Random networks: Rank, held to the plain enumeration of all paths, and Robust by the same paths.
 use super::path_random::lay_out_paths;
+use super::robust_random::note_robusts;
 use enumerate::Costs;
 use enumerate::Row;
 use trials::answers::refusal;
 use trials::answers::single;
 use trials::networks::number_at;
 use trials::numbers::count;
+use trials::numbers::least;
 use trials::numbers::narrow;
 use trials::numbers::places;
 use trials::rank_calls::Request;
@@ -99,10 +101,6 @@ fn rank_gives(
     )
 }
 
-fn least(a: u32, b: u32) -> u32 {
-    if a < b { a } else { b }
-}
-
 // Rank, by all paths with their costs, which are put into its order as far as it goes.
 fn rank_holds(
     image: &[u8],
@@ -128,7 +126,23 @@ fn drawn_wanted(number: u32) -> u32 {
     1 + high % 12
 }
 
-// Rank for a pair of nodes in column u, and in column 1 also with slices that are too short.
+// Rank, and in column 1 also with slices that are too short.
+fn note_rank(
+    report: Report,
+    image: &[u8],
+    n: u32,
+    request: Request,
+    paths: &mut [Row],
+    prices: &mut [Costs],
+) -> Report {
+    let noted = report.note(RANK, rank_holds(image, n, request, paths, prices));
+    if request.column != 1 {
+        return noted;
+    }
+    note_short_ranks(noted, image, request, needed_rooms(n, request.wanted))
+}
+
+// Rank and Robust for a pair of nodes in column u.
 fn note_column(
     report: Report,
     n: u32,
@@ -136,6 +150,7 @@ fn note_column(
     code: u32,
     numbers: &[u32],
     image: &[u8],
+    bests: Costs,
     paths: &mut [Row],
     prices: &mut [Costs],
 ) -> Report {
@@ -145,11 +160,8 @@ fn note_column(
         goal: code / 8 + 1,
         wanted: drawn_wanted(number_at(numbers, 8 * (code as usize) + (u as usize))),
     };
-    let noted = report.note(RANK, rank_holds(image, n, request, paths, prices));
-    if u != 1 {
-        return noted;
-    }
-    note_short_ranks(noted, image, request, needed_rooms(n, request.wanted))
+    let noted = note_rank(report, image, n, request, paths, prices);
+    note_robusts(noted, image, n, request, bests, paths, prices)
 }
 
 fn note_columns(
@@ -159,16 +171,17 @@ fn note_columns(
     code: u32,
     numbers: &[u32],
     image: &[u8],
+    bests: Costs,
     paths: &mut [Row],
     prices: &mut [Costs],
 ) -> Report {
     for u in 1..=k {
-        report = note_column(report, n, u, code, numbers, image, paths, prices);
+        report = note_column(report, n, u, code, numbers, image, bests, paths, prices);
     }
     report
 }
 
-// Rank for one of the 64 pairs of eight nodes, if the network has both and they differ.
+// Rank and Robust for one of the 64 pairs of eight nodes, if the network has both and they differ.
 fn note_code(
     report: Report,
     code: u32,
@@ -195,7 +208,8 @@ fn note_code(
     }
     let all = &mut rows[0..found];
     let priced = &mut prices[0..found];
-    note_columns(report, n, k, code, numbers, image, all, priced)
+    let bests = enumerate::bests(k, all, priced);
+    note_columns(report, n, k, code, numbers, image, bests, all, priced)
 }
 
 fn note_codes(
@@ -226,7 +240,7 @@ fn note_codes(
     report
 }
 
-// Rank on a network of up to eight nodes, between all of them and in all columns.
+// Rank and Robust on a network of up to eight nodes, between all of them and in all columns.
 pub fn note_ranks(
     report: Report,
     n: u32,

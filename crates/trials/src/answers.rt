@@ -5,6 +5,8 @@ use image::Checked;
 use image::Refusal;
 use image::Sizes;
 use image::Unpacked;
+use routes::Decided;
+use routes::Decision;
 use routes::Labelled;
 use routes::Listed;
 use routes::Regretted;
@@ -50,6 +52,24 @@ pub fn pair(first: u32, second: u32) -> Answer {
         number: 0,
         place: 0,
         values: [first, second, 0, 0, 0, 0],
+    }
+}
+
+// Robust's result where it is settled: the length, the figure, the worst column and the count.
+pub fn settled(length: u32, figure: u32, worst: u32, count: u32) -> Answer {
+    Answer {
+        number: 0,
+        place: 0,
+        values: [length, figure, worst, count, 0, 0],
+    }
+}
+
+// Robust's result where it is open: the same, a mark and the floor.
+pub fn left_open(length: u32, figure: u32, worst: u32, count: u32, floor: u32) -> Answer {
+    Answer {
+        number: 0,
+        place: 0,
+        values: [length, figure, worst, count, 1, floor],
     }
 }
 
@@ -130,6 +150,22 @@ pub fn of_rank(answer: Listed) -> Answer {
     match answer {
         Listed::Paths(count) => single(count),
         Listed::Refused(row) => of_refusal(row),
+    }
+}
+
+fn of_settled(given: Decision) -> Answer {
+    settled(given.length, given.figure, given.worst, given.count)
+}
+
+fn of_open(given: Decision, floor: u32) -> Answer {
+    left_open(given.length, given.figure, given.worst, given.count, floor)
+}
+
+pub fn of_robust(answer: Decided) -> Answer {
+    match answer {
+        Decided::Settled(given) => of_settled(given),
+        Decided::Open(given, floor) => of_open(given, floor),
+        Decided::Refused(row) => of_refusal(row),
     }
 }
 

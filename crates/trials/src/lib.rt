@@ -10,4 +10,5 @@ pub mod random;
 pub mod rank_calls;
 pub mod refused_images;
 pub mod report;
+pub mod robust_calls;
 pub mod slices;

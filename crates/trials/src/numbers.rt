@@ -1,4 +1,4 @@
-// Casts and products of numbers that need no proof where they are used.
+// Casts, products and the lesser of numbers that need no proof where they are used.
 ghost use Prim.Native.Nat.{_≤_, _<_};
 
 pub fn wide8(byte: u8) -> u16
@@ -32,6 +32,10 @@ pub fn places(a: u32, b: u32) -> usize
     ensures { λ r. ⌜ r < 1000000000 ⌝ }
 {
     count(product(a, b) as usize) as usize
+}
+
+pub fn least(a: u32, b: u32) -> u32 {
+    if a < b { a } else { b }
 }
 
 // A node as a number of two bytes. The tests have no higher node.

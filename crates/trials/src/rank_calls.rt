@@ -20,7 +20,7 @@ const ROW_PLACES: usize = 2060;
 
 const COST_PLACES: usize = 270;
 
-const WORK_PLACES: usize = 6370;
+pub const WORK_PLACES: usize = 6370;
 
 // What is asked of a call that ranks paths: K is `wanted`.
 pub struct Request {
@@ -55,13 +55,14 @@ pub fn longer(given: Rooms) -> Rooms {
     }
 }
 
-fn less(room: usize) -> usize {
+// A place less, where there is one.
+pub fn less(room: usize) -> usize {
     if room == 0 { 0 } else { room - 1 }
 }
 
 // What the workspace holds after a call with this number: nothing was written if it is a refusal,
 // and all of it is 0 if not.
-fn work_after(number: u32) -> u32 {
+pub fn work_after(number: u32) -> u32 {
     if number == 0 { 0 } else { NUMBER_PATTERN }
 }
 

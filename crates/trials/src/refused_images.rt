@@ -10,30 +10,49 @@ use super::rank_calls::rank_agrees;
 use super::report::LABEL;
 use super::report::RANK;
 use super::report::REGRET;
+use super::report::ROBUST;
 use super::report::Report;
 use super::report::SHORTEST;
+use super::robust_calls::RouteRooms;
+use super::robust_calls::needed_route_rooms;
+use super::robust_calls::robust_agrees;
 
-fn note_refused_ranks(report: Report, image: &[u8], expected: Answer) -> Report {
-    let request = Request {
+// A request that network S admits.
+fn admitted() -> Request {
+    Request {
         column: 1,
         start: 1,
         goal: 4,
         wanted: 5,
-    };
-    let nothing = Request {
+    }
+}
+
+// A request that no network admits.
+fn nothing() -> Request {
+    Request {
         column: 0,
         start: 0,
         goal: 0,
         wanted: 0,
-    };
+    }
+}
+
+fn note_refused_ranks(report: Report, image: &[u8], expected: Answer) -> Report {
     let empty = Rooms {
         rows: 0,
         costs: 0,
         work: 0,
     };
-    let asked = rank_agrees(image, request, needed_rooms(4, 5), expected, &[], &[]);
-    let not_asked = rank_agrees(image, nothing, empty, expected, &[], &[]);
+    let asked = rank_agrees(image, admitted(), needed_rooms(4, 5), expected, &[], &[]);
+    let not_asked = rank_agrees(image, nothing(), empty, expected, &[], &[]);
     report.note(RANK, asked).note(RANK, not_asked)
+}
+
+fn note_refused_robusts(report: Report, image: &[u8], expected: Answer) -> Report {
+    let empty = RouteRooms { path: 0, work: 0 };
+    let asked = robust_agrees(image, admitted(), needed_route_rooms(4, 5), expected, &[]);
+    let not_asked = robust_agrees(image, nothing(), empty, expected, &[]);
+    report.note(ROBUST, asked).note(ROBUST, not_asked)
 }
 
 // Every call of the path layer refuses the image with this answer and writes nothing, whatever else
@@ -45,5 +64,6 @@ pub fn note_refused_paths(mut report: Report, image: &[u8], expected: Answer) ->
     report = report.note(SHORTEST, shortest_agrees(image, 0, 0, 0, 0, expected, &[]));
     report = report.note(REGRET, regret_agrees(image, 1, 4, &[1, 3, 4], expected));
     report = report.note(REGRET, regret_agrees(image, 0, 0, &[], expected));
-    note_refused_ranks(report, image, expected)
+    report = note_refused_ranks(report, image, expected);
+    note_refused_robusts(report, image, expected)
 }

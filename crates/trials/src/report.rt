@@ -17,9 +17,11 @@ pub const REGRET: usize = 6;
 
 pub const RANK: usize = 7;
 
+pub const ROBUST: usize = 8;
+
 pub struct Report {
-    pub agree: [u32; 8],
-    pub differ: [u32; 8],
+    pub agree: [u32; 9],
+    pub differ: [u32; 9],
 }
 
 // Prints `title call: 3 agree, 0 differ`, if there was a comparison.
@@ -40,14 +42,14 @@ fn print_line(title: &[u8], call: &[u8], agree: u32, differ: u32) {
 impl Report {
     pub fn new() -> Report {
         Report {
-            agree: [0; 8],
-            differ: [0; 8],
+            agree: [0; 9],
+            differ: [0; 9],
         }
     }
 
     // The report with one comparison more.
     pub fn note(mut self, call: usize, agrees: bool) -> Report {
-        if 8 <= call {
+        if 9 <= call {
             return self;
         }
         if agrees {
@@ -73,5 +75,6 @@ impl Report {
         );
         print_line(title, b"regret", self.agree[REGRET], self.differ[REGRET]);
         print_line(title, b"rank", self.agree[RANK], self.differ[RANK]);
+        print_line(title, b"robust", self.agree[ROBUST], self.differ[ROBUST]);
     }
 }

@@ -7,10 +7,10 @@ use Rattle.trial_routes.proofs.rank_random.note_columns.Statement.{stat
 use Rattle.trial_routes.proofs.rank_random.note_columns.Tie as tie
 
 abbrev Inv-loop : tie.InvT-loop
-Inv-loop report₀ n k code numbers image paths₀ prices₀ u₀ report paths prices u = (length paths ≡ length paths₀) × (length prices ≡ length prices₀)
+Inv-loop report₀ n k code numbers image bests paths₀ prices₀ u₀ report paths prices u = (length paths ≡ length paths₀) × (length prices ≡ length prices₀)
 
 abbrev μ-loop : tie.MeasureT-loop
-μ-loop report₀ n k code numbers image paths₀ prices₀ u₀ report paths prices u = k - u
+μ-loop report₀ n k code numbers image bests paths₀ prices₀ u₀ report paths prices u = k - u
 
 pub note-columns-spec : {M : Type 1} → statement M
 note-columns-spec =
