@@ -1,5 +1,5 @@
 -- What a graph in arrays gives to the functions that read it: places for every index, small labels, exact labels. Assumes nothing.
-use Prim.Native.Nat.{ℕ, _+_}
+use Prim.Native.Nat.{ℕ, _+_, _≤_}
 use native.Mathlib.Omega.{arith}
 use mathlib.Core.Path.{_≡_, refl, sym, _∙_}
 use mathlib.Core.Bool.{false}
@@ -44,6 +44,9 @@ module _ {n : ℕ} {ts hs ws : List ℕ} (arcs : Arcs n ts hs ws) where
 module _ {k : ℕ} {ts hs ws outs ins nexts : List ℕ} (net : Network k ts hs ws outs ins nexts) where
   pub network-heads : Heads k hs ws
   network-heads = rw (net .places) (heads-of (net .arcs))
+
+  pub network-few : k ≤ 201
+  network-few = omega (arith, net .places, net .arcs .few-nodes)
 
   pub network-starts : Starts k hs outs
   network-starts = rw (net .places) (starts-of (net .arcs) (net .star))

@@ -10,12 +10,6 @@ use Rattle.ranking.specs.Laid.{Laid}
 use Rattle.ranking.specs.declared.first.Found.{Found}
 use Rattle.ranking.specs.declared.first.Found.the-variants.{Tail, Empty}
 
--- room to make labels anew; nodes have the places below k
-pub record Room (k : ℕ) (dirty queue labels : List ℕ) : Type 0 where
-  pub dirty-long : length dirty ≡ k
-  pub queue-long : length queue ≡ k
-  pub labels-long : length labels ≡ k
-
 -- the goal is a node, and is not flagged
 pub record Ahead (k goal : ℕ) (used : List ℕ) : Type 0 where
   pub place : goal < k

@@ -15,7 +15,7 @@ use Rattle.candidates.specs.Routes.{beginning, routes, size, Fits}
 use Rattle.candidates.specs.Bars.{barred}
 use Rattle.ranking.specs.Branches.{Branch, Beginning}
 use Rattle.ranking.specs.Flags.{Flagged}
-use Rattle.ranking.specs.Found.{Room, Begun, Idle}
+use Rattle.ranking.specs.Found.{Begun, Idle}
 use Rattle.ranking.specs.Laid.{Laid}
 use Rattle.ranking.specs.Star.{Network, Small, longest}
 use Rattle.ranking.specs.State.{Entered, Searching, taking-over}
@@ -32,11 +32,6 @@ pub record Problem (n s t : ℕ) (ts hs ws outs ins nexts overall : List ℕ) : 
   -- the labels do not exceed the costs of paths
   pub consistent : Consistent (graph ts hs ws) t overall []
   pub small : Small (n + 1) overall
-
--- room to make labels, and to lay out a route
-pub record Desk (n : ℕ) (dirty queue labels scratch : List ℕ) : Type 0 where
-  pub room : Room (n + 1) dirty queue labels
-  pub scratch-long : n ≤ length scratch
 
 -- a workspace of M slots, with entries of which the first j are ranked
 pub record Filled (n M : ℕ) (g : Graph) (s j : ℕ) (w : List ℕ) (count : ℕ) : Type 0 where

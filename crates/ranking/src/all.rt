@@ -5,7 +5,7 @@ ghost use lib.ListN.{length};
 ghost use Rattle.labels.specs.Arcs.{graph};
 ghost use Rattle.labels.specs.Labels.{Least};
 ghost use Rattle.ranking.specs.Branches.{everything};
-ghost use Rattle.ranking.specs.Found.{Room, Idle, Ends, Extent, FirstFound};
+ghost use Rattle.ranking.specs.Found.{Idle, Ends, Extent, FirstFound};
 ghost use Rattle.ranking.specs.Star.{Network};
 use crate::exits::Next;
 use crate::exits::least_exit;
@@ -27,14 +27,10 @@ pub fn shortest(
     used: &mut [u8],
     barred: &[u8],
     path: &mut [u16],
-    dirty: &mut [u8],
-    queue: &mut [u16],
-    labels: &mut [u64],
 ) -> Found
     requires { ⌜ Network (length (now used)) (now tails) (now heads) (now weights) (now «first_out») (now «first_in») (now «next_in») ⌝ }
     requires { ⌜ Idle (length (now used)) (now used) (now barred) × (length (now used) ≤ length (now path) + 1) ⌝ }
     requires { ⌜ Ends (length (now used)) start goal ⌝ }
-    requires { ⌜ Room (length (now used)) (now dirty) (now queue) (now labels) ⌝ }
     requires { ⌜ Least (graph (now tails) (now heads) (now weights)) (now used) goal (now overall) × (length (now overall) ≡ length (now used)) ⌝ }
     ensures { λ _. ⌜ now (used .exit) ≡ now (used .entry) ⌝ }
     ensures { λ r. ⌜ Extent 1 (now (path .exit)) r ⌝ }
@@ -62,9 +58,6 @@ pub fn shortest(
         1,
         y,
         l,
-        dirty,
-        queue,
-        labels,
     );
     used[v] = 0;
     found

@@ -6,7 +6,7 @@ ghost use Rattle.labels.specs.Arcs.{graph};
 ghost use Rattle.candidates.specs.Slots.{entries};
 ghost use Rattle.candidates.specs.Keeping.{Kept};
 ghost use Rattle.ranking.specs.Exits.{Unmarked};
-ghost use Rattle.ranking.specs.Ranking.{Problem, Desk, Filled, Deviation, Restored, Changed, Settled, TooDear};
+ghost use Rattle.ranking.specs.Ranking.{Problem, Filled, Deviation, Restored, Changed, Settled, TooDear};
 ghost use Rattle.ranking.specs.State.{branch-of, taking-over};
 ghost use Rattle.ranking.specs.Walks.{Choice};
 use crate::exits::Next;
@@ -49,10 +49,6 @@ fn enter(
     used: &mut [u8],
     barred: &[u8],
     path: &mut [u16],
-    dirty: &mut [u8],
-    queue: &mut [u16],
-    labels: &mut [u64],
-    scratch: &mut [u16],
     work: &mut [u32],
     n: usize,
     slots: usize,
@@ -65,7 +61,6 @@ fn enter(
     l: u64,
 ) -> usize
     requires { ⌜ Problem n start goal (now tails) (now heads) (now weights) (now «first_out») (now «first_in») (now «next_in») (now overall) ⌝ }
-    requires { ⌜ Desk n (now dirty) (now queue) (now labels) (now scratch) ⌝ }
     requires { ⌜ Filled n slots (graph (now tails) (now heads) (now weights)) start from (now work) count ⌝ }
     requires { ⌜ Deviation n (graph (now tails) (now heads) (now weights)) start goal (entries n (now work) count) from (now used) (now barred) (now path) parent d before ⌝ }
     requires { ⌜ Choice (graph (now tails) (now heads) (now weights)) (now overall) (Unmarked (now used) (now barred)) (getD (now path) (d - 1) 0) l y ⌝ }
@@ -88,14 +83,11 @@ fn enter(
         d,
         y,
         l,
-        dirty,
-        queue,
-        labels,
     ) else {
         return count;
     };
     let cost = before + rest;
-    let place = place_for(work, n, from, count, cost, &path[..len], start, scratch);
+    let place = place_for(work, n, from, count, cost, &path[..len], start);
     if place == slots {
         return count;
     }
@@ -127,10 +119,6 @@ pub fn consider(
     used: &mut [u8],
     barred: &[u8],
     path: &mut [u16],
-    dirty: &mut [u8],
-    queue: &mut [u16],
-    labels: &mut [u64],
-    scratch: &mut [u16],
     work: &mut [u32],
     n: usize,
     slots: usize,
@@ -142,7 +130,6 @@ pub fn consider(
     before: u64,
 ) -> usize
     requires { ⌜ Problem n start goal (now tails) (now heads) (now weights) (now «first_out») (now «first_in») (now «next_in») (now overall) ⌝ }
-    requires { ⌜ Desk n (now dirty) (now queue) (now labels) (now scratch) ⌝ }
     requires { ⌜ Filled n slots (graph (now tails) (now heads) (now weights)) start from (now work) count ⌝ }
     requires { ⌜ Deviation n (graph (now tails) (now heads) (now weights)) start goal (entries n (now work) count) from (now used) (now barred) (now path) parent d before ⌝ }
     ensures { λ _. ⌜ Restored (now (used .entry)) (now (path .entry)) d (now (used .exit)) (now (path .exit)) ⌝ }
@@ -173,10 +160,6 @@ pub fn consider(
         used,
         barred,
         path,
-        dirty,
-        queue,
-        labels,
-        scratch,
         work,
         n,
         slots,

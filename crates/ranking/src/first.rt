@@ -9,7 +9,7 @@ ghost use Rattle.labels.specs.Arcs.{graph};
 ghost use Rattle.ranking.specs.Branches.{branch, In, First, Beginning};
 ghost use Rattle.ranking.specs.Exits.{Unmarked};
 ghost use Rattle.ranking.specs.Flags.{Flagged, Fresh};
-ghost use Rattle.ranking.specs.Found.{Room, Ahead, Begun, Kept, FirstFound};
+ghost use Rattle.ranking.specs.Found.{Ahead, Begun, Kept, FirstFound};
 ghost use Rattle.ranking.specs.Laid.{Laid, Longer, Tried};
 ghost use Rattle.ranking.specs.Star.{Network};
 ghost use Rattle.ranking.specs.Walks.{Consistent, Choice};
@@ -38,14 +38,12 @@ fn steps(
     used: &mut [u8],
     path: &mut [u16],
     at: usize,
-    dirty: &mut [u8],
-    queue: &mut [u16],
     labels: &mut [u64],
 ) -> usize
     requires { ⌜ Network (length (now used)) (now tails) (now heads) (now weights) (now «first_out») (now «first_in») (now «next_in») ⌝ }
     requires { ⌜ Laid (length (now used)) (now used) (now path) at × (1 ≤ at) ⌝ }
     requires { ⌜ (goal < length (now used)) × ((getD (now path) (at - 1) 0 ≡ goal → ⊥) → getD (now used) goal 0 ≡ 0) ⌝ }
-    requires { ⌜ Room (length (now used)) (now dirty) (now queue) (now labels) ⌝ }
+    requires { ⌜ length (now labels) ≡ length (now used) ⌝ }
     ensures { λ r. ⌜ Longer (length (now (used .entry))) (now (path .entry)) at (now (used .exit)) (now (path .exit)) r ⌝ }
     ensures { λ r. ⌜ ((s : ℕ) (p : Route) → In (graph (now (tails .entry)) (now (heads .entry)) (now (weights .entry))) s goal (branch (take at (now (path .entry))) []) p → First (graph (now (tails .entry)) (now (heads .entry)) (now (weights .entry))) s goal (branch (take at (now (path .entry))) []) (take r (now (path .exit)))) ⌝ }
 {
@@ -59,8 +57,6 @@ fn steps(
             next_in,
             used,
             goal,
-            dirty,
-            queue,
             labels,
         );
         let Next::Node(y, _) = least_exit(heads, weights, first_out, x, labels, used, used) else {
@@ -87,14 +83,12 @@ fn by_steps(
     path: &mut [u16],
     d: usize,
     y: u16,
-    dirty: &mut [u8],
-    queue: &mut [u16],
     labels: &mut [u64],
 ) -> usize
     requires { ⌜ Network (length (now used)) (now tails) (now heads) (now weights) (now «first_out») (now «first_in») (now «next_in») ⌝ }
     requires { ⌜ Laid (length (now used)) (now used) (now path) d × Fresh (length (now used)) (now used) y ⌝ }
     requires { ⌜ Ahead (length (now used)) goal (now used) ⌝ }
-    requires { ⌜ Room (length (now used)) (now dirty) (now queue) (now labels) ⌝ }
+    requires { ⌜ length (now labels) ≡ length (now used) ⌝ }
     ensures { λ r. ⌜ Tried (now (used .entry)) (now (path .entry)) d (now (used .exit)) (now (path .exit)) r ⌝ }
     ensures { λ r. ⌜ ((s : ℕ) (p : Route) → In (graph (now (tails .entry)) (now (heads .entry)) (now (weights .entry))) s goal (branch (take d (now (path .entry)) ++ (y ∷ [])) []) p → First (graph (now (tails .entry)) (now (heads .entry)) (now (weights .entry))) s goal (branch (take d (now (path .entry)) ++ (y ∷ [])) []) (take r (now (path .exit)))) ⌝ }
 {
@@ -111,8 +105,6 @@ fn by_steps(
         used,
         path,
         d + 1,
-        dirty,
-        queue,
         labels,
     );
     unmark(path, d, len, used);
@@ -120,8 +112,8 @@ fn by_steps(
 }
 
 // The first path of the branch of path[..d], whose next node is not barred, by labels with the nodes
-// of path[..d] barred.
-fn exact_path(
+// of path[..d] barred. labels have a place for each node.
+fn by_labels(
     tails: &[u16],
     heads: &[u16],
     weights: &[u32],
@@ -133,14 +125,12 @@ fn exact_path(
     barred: &[u8],
     path: &mut [u16],
     d: usize,
-    dirty: &mut [u8],
-    queue: &mut [u16],
     labels: &mut [u64],
 ) -> Found
     requires { ⌜ Network (length (now used)) (now tails) (now heads) (now weights) (now «first_out») (now «first_in») (now «next_in») ⌝ }
     requires { ⌜ Begun (length (now used)) (now used) (now barred) (now path) d ⌝ }
     requires { ⌜ Ahead (length (now used)) goal (now used) ⌝ }
-    requires { ⌜ Room (length (now used)) (now dirty) (now queue) (now labels) ⌝ }
+    requires { ⌜ length (now labels) ≡ length (now used) ⌝ }
     ensures { λ r. ⌜ Kept (now (used .entry)) (now (path .entry)) d (now (used .exit)) (now (path .exit)) r ⌝ }
     ensures { λ r. ⌜ ((s : ℕ) (F : List ℕ) → Beginning (graph (now (tails .entry)) (now (heads .entry)) (now (weights .entry))) s goal (take d (now (path .entry))) → Flagged (now (barred .entry)) F → FirstFound (graph (now (tails .entry)) (now (heads .entry)) (now (weights .entry))) s goal (branch (take d (now (path .entry))) F) (now (path .exit)) r) ⌝ }
 {
@@ -151,8 +141,6 @@ fn exact_path(
         next_in,
         used,
         goal,
-        dirty,
-        queue,
         labels,
     );
     let v = path[d - 1] as usize;
@@ -175,11 +163,47 @@ fn exact_path(
         path,
         d,
         y,
-        dirty,
-        queue,
         labels,
     );
     Found::Tail(len, l)
+}
+
+// The same, with room made for the labels.
+fn exact_path(
+    tails: &[u16],
+    heads: &[u16],
+    weights: &[u32],
+    first_out: &[u16],
+    first_in: &[u16],
+    next_in: &[u16],
+    goal: usize,
+    used: &mut [u8],
+    barred: &[u8],
+    path: &mut [u16],
+    d: usize,
+) -> Found
+    requires { ⌜ Network (length (now used)) (now tails) (now heads) (now weights) (now «first_out») (now «first_in») (now «next_in») ⌝ }
+    requires { ⌜ Begun (length (now used)) (now used) (now barred) (now path) d ⌝ }
+    requires { ⌜ Ahead (length (now used)) goal (now used) ⌝ }
+    ensures { λ r. ⌜ Kept (now (used .entry)) (now (path .entry)) d (now (used .exit)) (now (path .exit)) r ⌝ }
+    ensures { λ r. ⌜ ((s : ℕ) (F : List ℕ) → Beginning (graph (now (tails .entry)) (now (heads .entry)) (now (weights .entry))) s goal (take d (now (path .entry))) → Flagged (now (barred .entry)) F → FirstFound (graph (now (tails .entry)) (now (heads .entry)) (now (weights .entry))) s goal (branch (take d (now (path .entry))) F) (now (path .exit)) r) ⌝ }
+{
+    let mut labels = [0u64; 201];
+    let places = used.len();
+    by_labels(
+        tails,
+        heads,
+        weights,
+        first_out,
+        first_in,
+        next_in,
+        goal,
+        used,
+        barred,
+        path,
+        d,
+        &mut labels[..places],
+    )
 }
 
 // The first path of the branch of path[..d], whose next node is not barred. y and l are its least exit
@@ -200,14 +224,10 @@ pub fn first_path(
     d: usize,
     y: u16,
     l: u64,
-    dirty: &mut [u8],
-    queue: &mut [u16],
-    labels: &mut [u64],
 ) -> Found
     requires { ⌜ Network (length (now used)) (now tails) (now heads) (now weights) (now «first_out») (now «first_in») (now «next_in») ⌝ }
     requires { ⌜ Begun (length (now used)) (now used) (now barred) (now path) d ⌝ }
     requires { ⌜ Ahead (length (now used)) goal (now used) ⌝ }
-    requires { ⌜ Room (length (now used)) (now dirty) (now queue) (now labels) ⌝ }
     requires { ⌜ Consistent (graph (now tails) (now heads) (now weights)) goal (now overall) (take d (now path)) × (length (now overall) ≡ length (now used)) ⌝ }
     requires { ⌜ Choice (graph (now tails) (now heads) (now weights)) (now overall) (Unmarked (now used) (now barred)) (getD (now path) (d - 1) 0) l y ⌝ }
     ensures { λ r. ⌜ Kept (now (used .entry)) (now (path .entry)) d (now (used .exit)) (now (path .exit)) r ⌝ }
@@ -229,8 +249,5 @@ pub fn first_path(
         barred,
         path,
         d,
-        dirty,
-        queue,
-        labels,
     )
 }

@@ -6,7 +6,7 @@ ghost use Prim.Native.Nat.{_+_, _<_};
 ghost use Rattle.labels.specs.Arcs.{graph};
 ghost use Rattle.labels.specs.Labels.{far};
 ghost use Rattle.candidates.specs.Slots.{entries};
-ghost use Rattle.ranking.specs.Ranking.{Problem, Desk, Filled, Changed, Space, Blank, Begins, Stage, Ranked};
+ghost use Rattle.ranking.specs.Ranking.{Problem, Filled, Changed, Space, Blank, Begins, Stage, Ranked};
 ghost use Rattle.ranking.specs.State.{Searching};
 use crate::branches::consider;
 use crate::splitting::split;
@@ -28,16 +28,11 @@ pub fn begin(
     used: &mut [u8],
     barred: &[u8],
     path: &mut [u16],
-    dirty: &mut [u8],
-    queue: &mut [u16],
-    labels: &mut [u64],
-    scratch: &mut [u16],
     work: &mut [u32],
     n: usize,
     slots: usize,
 ) -> usize
     requires { ⌜ Problem n start goal (now tails) (now heads) (now weights) (now «first_out») (now «first_in») (now «next_in») (now overall) ⌝ }
-    requires { ⌜ Desk n (now dirty) (now queue) (now labels) (now scratch) ⌝ }
     requires { ⌜ Space n slots (now work) ⌝ }
     requires { ⌜ Blank n (now used) (now barred) (now path) ⌝ }
     ensures { λ _. ⌜ now (used .exit) ≡ now (used .entry) ⌝ }
@@ -60,10 +55,6 @@ pub fn begin(
         used,
         barred,
         path,
-        dirty,
-        queue,
-        labels,
-        scratch,
         work,
         n,
         slots,
@@ -93,10 +84,6 @@ fn advance(
     used: &mut [u8],
     barred: &mut [u8],
     path: &mut [u16],
-    dirty: &mut [u8],
-    queue: &mut [u16],
-    labels: &mut [u64],
-    scratch: &mut [u16],
     work: &mut [u32],
     n: usize,
     slots: usize,
@@ -104,7 +91,6 @@ fn advance(
     rank: usize,
 ) -> usize
     requires { ⌜ Problem n start goal (now tails) (now heads) (now weights) (now «first_out») (now «first_in») (now «next_in») (now overall) ⌝ }
-    requires { ⌜ Desk n (now dirty) (now queue) (now labels) (now scratch) ⌝ }
     requires { ⌜ Filled n slots (graph (now tails) (now heads) (now weights)) start rank (now work) count ⌝ }
     requires { ⌜ Blank n (now used) (now barred) (now path) ⌝ }
     requires { ⌜ (rank < count) × Searching n (graph (now tails) (now heads) (now weights)) start goal slots far (entries n (now work) count) rank [] ⌝ }
@@ -129,10 +115,6 @@ fn advance(
         used,
         barred,
         path,
-        dirty,
-        queue,
-        labels,
-        scratch,
         work,
         n,
         slots,
@@ -157,16 +139,11 @@ pub fn rank_paths(
     used: &mut [u8],
     barred: &mut [u8],
     path: &mut [u16],
-    dirty: &mut [u8],
-    queue: &mut [u16],
-    labels: &mut [u64],
-    scratch: &mut [u16],
     work: &mut [u32],
     n: usize,
     slots: usize,
 ) -> usize
     requires { ⌜ Problem n start goal (now tails) (now heads) (now weights) (now «first_out») (now «first_in») (now «next_in») (now overall) ⌝ }
-    requires { ⌜ Desk n (now dirty) (now queue) (now labels) (now scratch) ⌝ }
     requires { ⌜ Space n slots (now work) ⌝ }
     requires { ⌜ Blank n (now used) (now barred) (now path) ⌝ }
     ensures { λ _. ⌜ now (used .exit) ≡ now (used .entry) ⌝ }
@@ -186,10 +163,6 @@ pub fn rank_paths(
         used,
         barred,
         path,
-        dirty,
-        queue,
-        labels,
-        scratch,
         work,
         n,
         slots,
@@ -209,10 +182,6 @@ pub fn rank_paths(
             used,
             barred,
             path,
-            dirty,
-            queue,
-            labels,
-            scratch,
             work,
             n,
             slots,

@@ -10,7 +10,7 @@ ghost use Rattle.labels.specs.Arcs.{graph, Arcs};
 ghost use Rattle.candidates.specs.Slots.{entries, none};
 ghost use Rattle.candidates.specs.Routes.{size};
 ghost use Rattle.ranking.specs.Laid.{Laid};
-ghost use Rattle.ranking.specs.Ranking.{Problem, Desk, Filled, Restored, Changed, Settled, Along, Emptied, Markable, Due, Blank};
+ghost use Rattle.ranking.specs.Ranking.{Problem, Filled, Restored, Changed, Settled, Along, Emptied, Markable, Due, Blank};
 ghost use Rattle.ranking.specs.Star.{Star, Heads, Starts};
 ghost use Rattle.ranking.specs.State.{Searching, branch-of, taking-over, waiting-to};
 use crate::branches::consider;
@@ -83,10 +83,6 @@ fn deviate(
     used: &mut [u8],
     barred: &mut [u8],
     path: &mut [u16],
-    dirty: &mut [u8],
-    queue: &mut [u16],
-    labels: &mut [u64],
-    scratch: &mut [u16],
     work: &mut [u32],
     n: usize,
     slots: usize,
@@ -97,7 +93,6 @@ fn deviate(
     before: u64,
 ) -> usize
     requires { ⌜ Problem n start goal (now tails) (now heads) (now weights) (now «first_out») (now «first_in») (now «next_in») (now overall) ⌝ }
-    requires { ⌜ Desk n (now dirty) (now queue) (now labels) (now scratch) ⌝ }
     requires { ⌜ Filled n slots (graph (now tails) (now heads) (now weights)) start (rank + 1) (now work) count ⌝ }
     requires { ⌜ Along n (graph (now tails) (now heads) (now weights)) start goal (entries n (now work) count) rank (now used) (now barred) (now path) d before ⌝ }
     requires { ⌜ d < size (getD (entries n (now work) count) rank none) ⌝ }
@@ -120,10 +115,6 @@ fn deviate(
         used,
         barred,
         path,
-        dirty,
-        queue,
-        labels,
-        scratch,
         work,
         n,
         slots,
@@ -153,10 +144,6 @@ fn deviations(
     used: &mut [u8],
     barred: &mut [u8],
     path: &mut [u16],
-    dirty: &mut [u8],
-    queue: &mut [u16],
-    labels: &mut [u64],
-    scratch: &mut [u16],
     work: &mut [u32],
     n: usize,
     slots: usize,
@@ -168,7 +155,6 @@ fn deviations(
     cost: u64,
 ) -> usize
     requires { ⌜ Problem n start goal (now tails) (now heads) (now weights) (now «first_out») (now «first_in») (now «next_in») (now overall) ⌝ }
-    requires { ⌜ Desk n (now dirty) (now queue) (now labels) (now scratch) ⌝ }
     requires { ⌜ Filled n slots (graph (now tails) (now heads) (now weights)) start (rank + 1) (now work) count ⌝ }
     requires { ⌜ Along n (graph (now tails) (now heads) (now weights)) start goal (entries n (now work) count) rank (now used) (now barred) (now path) len cost ⌝ }
     requires { ⌜ shared ≡ getD (entries n (now work) count) rank none .shared ⌝ }
@@ -196,10 +182,6 @@ fn deviations(
             used,
             barred,
             path,
-            dirty,
-            queue,
-            labels,
-            scratch,
             work,
             n,
             slots,
@@ -229,10 +211,6 @@ pub fn split(
     used: &mut [u8],
     barred: &mut [u8],
     path: &mut [u16],
-    dirty: &mut [u8],
-    queue: &mut [u16],
-    labels: &mut [u64],
-    scratch: &mut [u16],
     work: &mut [u32],
     n: usize,
     slots: usize,
@@ -241,7 +219,6 @@ pub fn split(
     rank: usize,
 ) -> usize
     requires { ⌜ Problem n start goal (now tails) (now heads) (now weights) (now «first_out») (now «first_in») (now «next_in») (now overall) ⌝ }
-    requires { ⌜ Desk n (now dirty) (now queue) (now labels) (now scratch) ⌝ }
     requires { ⌜ Filled n slots (graph (now tails) (now heads) (now weights)) start rank (now work) count ⌝ }
     requires { ⌜ Blank n (now used) (now barred) (now path) ⌝ }
     requires { ⌜ Due n (graph (now tails) (now heads) (now weights)) start goal slots limit (entries n (now work) count) rank ⌝ }
@@ -268,10 +245,6 @@ pub fn split(
         used,
         barred,
         path,
-        dirty,
-        queue,
-        labels,
-        scratch,
         work,
         n,
         slots,

@@ -5,7 +5,6 @@ pub mod RankLaws
 pub mod ChoiceLaws
 pub mod RowLaws
 pub mod ArcLaws
-pub mod RoomLaws
 pub mod ListLaws
 pub mod RegretLaws
 pub mod LoadLaws

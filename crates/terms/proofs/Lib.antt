@@ -7,3 +7,4 @@ pub mod PrefixLaws
 pub mod RegretLaws
 pub mod RobustLaws
 pub mod Demand3Laws
+pub mod RoomLaws

@@ -20,8 +20,8 @@ use Rattle.ranking.proofs.FlagLaws.{flags-none}
 use Rattle.ranking.proofs.NetworkLaws.{network-heads, network-starts, network-small, network-consistent}
 
 -- the start of the function, and the calls
-abbrev entry : tie.After-slice-known5 → tie.Start
-entry c = c .before .before .before .before .before .before .before .before .before .before .before .before .before
+abbrev entry : tie.After-slice-known2 → tie.Start
+entry c = c .before .before .before .before .before .before .before .before .before .before
 
 abbrev start : tie.After-least-exit → tie.Start
 start c = entry (c .before .before)
@@ -29,11 +29,11 @@ start c = entry (c .before .before)
 abbrev chosen : tie.After-known-told → tie.After-least-exit
 chosen c = c .before .before .before
 
-abbrev told : tie.After-first-path-arg5 → tie.After-known-told
-told c = c .before .before .before .before .before
+abbrev told : tie.After-first-path-arg2 → tie.After-known-told
+told c = c .before .before
 
-abbrev found : tie.After-slice-known10 → tie.After-first-path
-found c = c .before .before .before .before .before .before .before .before .before .before
+abbrev found : tie.After-slice-known4 → tie.After-first-path
+found c = c .before .before .before .before
 
 abbrev net : tie.Start → Graph
 net s = graph (s .args .tails .now) (s .args .heads .now) (s .args .weights .now)
@@ -62,10 +62,10 @@ module _ (s : tie.Start) where
   beginning = rw laid (beginning-start (s .pre .1 .1 .0 .apart))
 
   consistent : (q : List ℕ) → Consistent (net s) (s .args .goal) (s .args .overall .now) q
-  consistent = network-consistent (s .pre .0) (s .pre .1 .1 .1 .1 .1) (s .pre .1 .1 .1 .1 .0) (s .pre .1 .0 .0 .none-used)
+  consistent = network-consistent (s .pre .0) (s .pre .1 .1 .1 .1) (s .pre .1 .1 .1 .0) (s .pre .1 .0 .0 .none-used)
 
 -- the flags after the search
-restored : (c : tie.After-slice-known10) → let s = start (chosen (told (found c .before))) in set (found c .first-path .last .1 .1 .1 .1 .1 .1 .1 .1 .0) (s .args .start) 0 ≡ s .args .used .now
+restored : (c : tie.After-slice-known4) → let s = start (chosen (told (found c .before))) in set (found c .first-path .last .1 .1 .1 .1 .1 .1 .1 .1 .0) (s .args .start) 0 ≡ s .args .used .now
 restored c = let s = start (chosen (told (found c .before))) in ap (λ (l : List ℕ). set l (s .args .start) 0) (found c .first-path .ensures .0 .flags) ∙ cleared s
 
 slice-write-path : tie.Need-slice-write-path
@@ -78,9 +78,9 @@ least-exit-requires : tie.Need-least-exit-requires
 least-exit-requires c κs =
     let s = entry (c .before) in
     let p = s .pre in
-    let long = p .1 .1 .1 .1 .1 in
+    let long = p .1 .1 .1 .1 in
     rw (long, length-set (s .args .used .now) (s .args .start) 1)
-    (network-heads (p .0), ((network-starts (p .0), p .1 .1 .0 .start-place), (network-small (p .0) long (p .1 .1 .1 .1 .0), (refl, p .1 .0 .0 .barred-long))))
+    (network-heads (p .0), ((network-starts (p .0), p .1 .1 .0 .start-place), (network-small (p .0) long (p .1 .1 .1 .0), (refl, p .1 .0 .0 .barred-long))))
 
 enum-known-y : tie.Need-enum-known-y
 enum-known-y c = search needs
@@ -112,7 +112,7 @@ first-path-requires c κs =
     let p = s .pre in
     let choice = chosen-node (x .least-exit .ensures .1 _ _ (p .0 .arcs) (p .0 .star)) (t .before .y .given .1) in
     let ahead = start-ahead (s .args .path .now) (p .1 .0 .1) (p .1 .0 .0) (p .1 .1 .0) in
-    rw (length-set (s .args .used .now) (s .args .start) 1) (p .0, (begun s, (ahead, (p .1 .1 .1 .0, ((consistent s _, p .1 .1 .1 .1 .1), rw (last-node s) choice)))))
+    rw (length-set (s .args .used .now) (s .args .start) 1) (p .0, (begun s, (ahead, ((consistent s _, p .1 .1 .1 .1), rw (last-node s) choice))))
 
 slice-write-used-3 : tie.Need-slice-write-used-3
 slice-write-used-3 c =
@@ -127,15 +127,6 @@ same-length-4 : tie.Need-same-length-4
 same-length-4 c =
     let f = found c in
     f .first-path .kept .1 .1 .1 .1 .1 .1 .1 .1 .1 .1 .0 ∙ length-set (start (chosen (told (f .before))) .args .path .now) 0 _
-
-same-length-5 : tie.Need-same-length-5
-same-length-5 c = search needs
-
-same-length-6 : tie.Need-same-length-6
-same-length-6 c = search needs
-
-same-length-7 : tie.Need-same-length-7
-same-length-7 c = search needs
 
 returns-2 : tie.Need-returns-2
 returns-2 c =
@@ -160,7 +151,4 @@ shortest-spec =
     slice-write-used-3
     same-length-3
     same-length-4
-    same-length-5
-    same-length-6
-    same-length-7
     returns-2)

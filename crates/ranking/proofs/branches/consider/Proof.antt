@@ -19,8 +19,8 @@ use borrow.Author.Needs.{needs}
 use Rattle.ranking.proofs.branches.consider.Statement.{statement}
 use Rattle.ranking.proofs.branches.consider.Tie as tie
 
-abbrev start : tie.After-slice-known8 → tie.Start
-start c = c .before .before .before .before .before .before .before .before .before .before .before .before .before .before .before .before
+abbrev start : tie.After-slice-known4 → tie.Start
+start c = c .before .before .before .before .before .before .before .before .before .before .before .before
 
 abbrev entry : tie.After-least-exit → tie.Start
 entry c = start (c .before .before)
@@ -39,10 +39,10 @@ problem : (s : tie.Start) → Problem (s .args .n) (s .args .start) (s .args .go
 problem s = s .pre .0
 
 filled : (s : tie.Start) → Filled (s .args .n) (s .args .slots) (net s) (s .args .start) (s .args .from) (s .args .work .now) (s .args .count)
-filled s = s .pre .1 .1 .0
+filled s = s .pre .1 .0
 
 deviation : (s : tie.Start) → Deviation (s .args .n) (net s) (s .args .start) (s .args .goal) (kept-entries s) (s .args .from) (s .args .used .now) (s .args .barred .now) (s .args .path .now) (s .args .parent) (s .args .d) (s .args .before)
-deviation s = s .pre .1 .1 .1
+deviation s = s .pre .1 .1
 
 last-place : (s : tie.Start) → getD (s .args .path .now) (s .args .d - 1) 0 < s .args .n + 1
 last-place s = let b = deviation s .begun in laid-place (s .args .d - 1) (omega (arith, b .some)) (b .laid)
@@ -114,9 +114,9 @@ returns-3 c = let x = c .before in
     (record { flags = refl; kept = refl }, (unchanged F, settled-dear (problem s) (deviation s) _ _ (F .entered) (choice k) (length-entries (s .args .n) (s .args .work .now) (s .args .count) ∙ d .0) (F .some) (d .1)))
 
 enter-requires : tie.Need-enter-requires
-enter-requires c κs = let k = c .before .before .before .before .before .before .before .before .before .before .before in
+enter-requires c κs = let k = c .before .before .before .before .before .before .before in
     let s = entry (told k) in
-    (problem s, (s .pre .1 .0, (filled s, (deviation s, choice k))))
+    (problem s, (filled s, (deviation s, choice k)))
 
 same-length-5 : tie.Need-same-length-5
 same-length-5 c = search needs
@@ -127,20 +127,8 @@ same-length-6 c = search needs
 same-length-7 : tie.Need-same-length-7
 same-length-7 c = search needs
 
-same-length-8 : tie.Need-same-length-8
-same-length-8 c = search needs
-
-same-length-9 : tie.Need-same-length-9
-same-length-9 c = search needs
-
-same-length-10 : tie.Need-same-length-10
-same-length-10 c = search needs
-
-same-length-11 : tie.Need-same-length-11
-same-length-11 c = search needs
-
 returns-4 : tie.Need-returns-4
-returns-4 c = let e = c .before .before .before .before .before .before .before .before .before .before .before .before .before .before in
+returns-4 c = let e = c .before .before .before .before .before .before in
     (e .enter .ensures .0, (e .enter .ensures .1 .0, e .enter .ensures .1 .1 _))
 
 pub consider-spec : {M : Type 1} → statement M
@@ -167,8 +155,4 @@ consider-spec =
     same-length-5
     same-length-6
     same-length-7
-    same-length-8
-    same-length-9
-    same-length-10
-    same-length-11
     returns-4)

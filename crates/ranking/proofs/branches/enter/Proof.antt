@@ -20,23 +20,23 @@ use borrow.Author.Needs.{needs}
 use Rattle.ranking.proofs.branches.enter.Statement.{statement}
 use Rattle.ranking.proofs.branches.enter.Tie as tie
 
-abbrev entry : tie.After-first-path-arg5 → tie.Start
-entry c = c .before .before .before .before .before .before .before .before .before .before .before .before .before .before .before .before .before .before .before .before
+abbrev entry : tie.After-first-path-arg2 → tie.Start
+entry c = c .before .before .before .before .before .before .before .before .before .before .before .before .before
 
 abbrev start : tie.After-first-path → tie.Start
 start c = entry (c .before)
 
-abbrev searched : tie.After-slice-known12 → tie.After-first-path
-searched c = c .before .before .before .before .before .before .before .before .before .before
+abbrev searched : tie.After-slice-known5 → tie.After-first-path
+searched c = c .before .before .before .before
 
 abbrev told : tie.After-known-told → tie.After-first-path
 told c = searched (c .before .before .before)
 
-abbrev placed : tie.After-slice-known13 → tie.After-place-for
-placed c = c .before .before
+abbrev placed : tie.After-place-for → tie.After-place-for
+placed c = c
 
 abbrev known : tie.After-place-for → tie.After-known-told
-known c = c .before .before .before .before
+known c = c .before .before .before
 
 -- what is known at the start
 abbrev net : tie.Start → Graph
@@ -49,10 +49,10 @@ problem : (s : tie.Start) → Problem (s .args .n) (s .args .start) (s .args .go
 problem s = s .pre .0
 
 filled : (s : tie.Start) → Filled (s .args .n) (s .args .slots) (net s) (s .args .start) (s .args .from) (s .args .work .now) (s .args .count)
-filled s = s .pre .1 .1 .0
+filled s = s .pre .1 .0
 
 deviation : (s : tie.Start) → Deviation (s .args .n) (net s) (s .args .start) (s .args .goal) (kept-entries s) (s .args .from) (s .args .used .now) (s .args .barred .now) (s .args .path .now) (s .args .parent) (s .args .d) (s .args .before)
-deviation s = s .pre .1 .1 .1 .0
+deviation s = s .pre .1 .1 .0
 
 -- the path, and what was found in it
 abbrev made : tie.After-first-path → List ℕ
@@ -85,7 +85,7 @@ first-path-requires : tie.Need-first-path-requires
 first-path-requires c κs = let s = entry c in
     let P = problem s in
     let D = deviation s in
-    rw (D .begun .laid .flags-long) (P .network, (D .begun, (goal-ahead P D, (s .pre .1 .0 .room, ((still-consistent P D, P .small .long), s .pre .1 .1 .1 .1)))))
+    rw (D .begun .laid .flags-long) (P .network, (D .begun, (goal-ahead P D, ((still-consistent P D, P .small .long), s .pre .1 .1 .1))))
 
 enum-known-len : tie.Need-enum-known-len
 enum-known-len c = search needs
@@ -98,15 +98,6 @@ same-length c = search needs
 
 same-length-2 : tie.Need-same-length-2
 same-length-2 c = search needs
-
-same-length-3 : tie.Need-same-length-3
-same-length-3 c = search needs
-
-same-length-4 : tie.Need-same-length-4
-same-length-4 c = search needs
-
-same-length-5 : tie.Need-same-length-5
-same-length-5 c = search needs
 
 returns : tie.Need-returns
 returns c = let x = searched (c .before .before) in
@@ -123,30 +114,18 @@ slice-aggregate-place-for : tie.Need-slice-aggregate-place-for
 slice-aggregate-place-for c = sym (length-take-le (len (c .before .before)) (made (told (c .before .before))) (extent (c .before .before) .1))
 
 place-for-requires : tie.Need-place-for-requires
-place-for-requires c κs = let s = start (told (c .before .before .before)) in
+place-for-requires c κs = let s = start (told (c .before .before)) in
     let F = filled s in
-    ((kept-readable (F .kept), F .entered .family), (omega (arith, F .entered .border, count-is s), s .pre .1 .0 .scratch-long))
+    ((kept-readable (F .kept), F .entered .family), omega (arith, F .entered .border, count-is s))
 
-same-length-6 : tie.Need-same-length-6
-same-length-6 c = search needs
+same-length-3 : tie.Need-same-length-3
+same-length-3 c = search needs
 
-same-length-7 : tie.Need-same-length-7
-same-length-7 c = search needs
+same-length-4 : tie.Need-same-length-4
+same-length-4 c = search needs
 
-same-length-8 : tie.Need-same-length-8
-same-length-8 c = search needs
-
-same-length-9 : tie.Need-same-length-9
-same-length-9 c = search needs
-
-same-length-10 : tie.Need-same-length-10
-same-length-10 c = search needs
-
-same-length-11 : tie.Need-same-length-11
-same-length-11 c = search needs
-
-same-length-12 : tie.Need-same-length-12
-same-length-12 c = search needs
+same-length-5 : tie.Need-same-length-5
+same-length-5 c = search needs
 
 returns-2 : tie.Need-returns-2
 returns-2 c = let x = placed (c .before) in
@@ -179,26 +158,14 @@ insert-requires c κs = let x = placed (c .before .before .before .before) in
     let s = start (told k) in
     (filled s .kept, (omega (arith, x .place-for .ensures .upper, count-is s), omega (arith, x .place-for .ensures .upper, count-is s, filled s .kept .upto), rest-short (problem s) (deviation s) (made (told k)) (len k) (restored (told k) .kept) (extent k .0) (extent k .1) (first k .0 .member .path)))
 
-same-length-13 : tie.Need-same-length-13
-same-length-13 c = search needs
+same-length-6 : tie.Need-same-length-6
+same-length-6 c = search needs
 
-same-length-14 : tie.Need-same-length-14
-same-length-14 c = search needs
+same-length-7 : tie.Need-same-length-7
+same-length-7 c = search needs
 
-same-length-15 : tie.Need-same-length-15
-same-length-15 c = search needs
-
-same-length-16 : tie.Need-same-length-16
-same-length-16 c = search needs
-
-same-length-17 : tie.Need-same-length-17
-same-length-17 c = search needs
-
-same-length-18 : tie.Need-same-length-18
-same-length-18 c = search needs
-
-same-length-19 : tie.Need-same-length-19
-same-length-19 c = search needs
+same-length-8 : tie.Need-same-length-8
+same-length-8 c = search needs
 
 returns-3 : tie.Need-returns-3
 returns-3 c = let i = c .before .before in
@@ -229,21 +196,14 @@ enter-spec =
     enum-told
     same-length
     same-length-2
-    same-length-3
-    same-length-4
-    same-length-5
     returns
     add-cost
     slice-reshare-prefix-place-for
     slice-aggregate-place-for
     place-for-requires
-    same-length-6
-    same-length-7
-    same-length-8
-    same-length-9
-    same-length-10
-    same-length-11
-    same-length-12
+    same-length-3
+    same-length-4
+    same-length-5
     returns-2
     cast-insert
     cast-insert-2
@@ -252,11 +212,7 @@ enter-spec =
     part-insert-start
     part-insert-end
     insert-requires
-    same-length-13
-    same-length-14
-    same-length-15
-    same-length-16
-    same-length-17
-    same-length-18
-    same-length-19
+    same-length-6
+    same-length-7
+    same-length-8
     returns-3)

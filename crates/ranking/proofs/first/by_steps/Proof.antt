@@ -11,16 +11,16 @@ use Rattle.ranking.proofs.FirstLaws.{still-ahead}
 use Rattle.ranking.proofs.LaidLaws.{take-more, laid-room, laid-more, tried}
 
 -- the start of the function, and the calls
-abbrev entry : tie.After-slice-known5 → tie.Start
-entry c = c .before .before .before .before .before .before .before .before .before .before .before
+abbrev entry : tie.After-slice-known3 → tie.Start
+entry c = c .before .before .before .before .before .before .before .before .before
 
 abbrev start : tie.After-steps → tie.Start
-start c = entry (c .before .before .before .before .before .before)
+start c = entry (c .before .before .before .before)
 
 abbrev stepped : tie.After-unmark-arg2 → tie.After-steps
-stepped c = c .before .before .before .before .before .before .before .before .before .before .before .before
+stepped c = c .before .before .before .before .before .before .before .before
 
-abbrev cleared : tie.After-slice-known11 → tie.After-unmark
+abbrev cleared : tie.After-slice-known7 → tie.After-unmark
 cleared c = c .before .before
 
 room : (s : tie.Start) → s .args .d < length (s .args .path .now)
@@ -29,7 +29,7 @@ room s = laid-room (s .pre .1 .0 .0) (s .pre .1 .0 .1)
 longer : (c : tie.After-steps) → let s = start c in Longer (length (s .args .used .now)) (set (s .args .path .now) (s .args .d) (s .args .y)) (s .args .d + 1) (c .steps .last .1 .1 .1 .1 .1 .1 .1 .0) (c .steps .last .1 .1 .1 .1 .1 .1 .1 .1 .0) (c .steps .result)
 longer c = let s = start c in rw (length-set (s .args .used .now) (s .args .y) 1) at (c .steps .ensures .0)
 
-done : (c : tie.After-slice-known11) → let w = stepped (cleared c .before) in let s = start w in
+done : (c : tie.After-slice-known7) → let w = stepped (cleared c .before) in let s = start w in
     Tried (s .args .used .now) (s .args .path .now) (s .args .d) (cleared c .unmark .last .1 .1 .1 .0) (w .steps .last .1 .1 .1 .1 .1 .1 .1 .1 .0) (w .steps .result)
 done c =
     let w = stepped (cleared c .before) in
@@ -50,7 +50,7 @@ add-steps c = search needs
 
 steps-requires : tie.Need-steps-requires
 steps-requires c κs =
-    let s = entry (c .before .before .before .before .before) in
+    let s = entry (c .before .before .before) in
     let p = s .pre in
     let l = p .1 .0 .0 in
     let f = p .1 .0 .1 in
@@ -73,12 +73,6 @@ same-length-2 c =
 same-length-3 : tie.Need-same-length-3
 same-length-3 c = search needs
 
-same-length-4 : tie.Need-same-length-4
-same-length-4 c = search needs
-
-same-length-5 : tie.Need-same-length-5
-same-length-5 c = search needs
-
 returns : tie.Need-returns
 returns c =
     let w = stepped (cleared c .before) in
@@ -98,6 +92,4 @@ by-steps-spec =
     same-length
     same-length-2
     same-length-3
-    same-length-4
-    same-length-5
     returns)

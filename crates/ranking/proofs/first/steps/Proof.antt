@@ -2,7 +2,7 @@
 -- the start; so there always is an exit. The room behind the path falls. Assumes nothing.
 use Rattle.ranking.proofs.first.steps.Statement.{statement}
 use Rattle.ranking.proofs.first.steps.Tie as tie
-use mathlib.Core.Path.{refl, sym, _∙_}
+use mathlib.Core.Path.{_≡_, refl, sym, _∙_}
 use mathlib.Core.List.{List, []}
 use Prim.Native.Nat.{ℕ, _-_, _<_}
 use native.Mathlib.Omega.{arith}
@@ -15,7 +15,6 @@ use Rattle.labels.specs.Arcs.{graph}
 use Rattle.ranking.specs.Flags.{Fresh}
 use Rattle.ranking.specs.Star.{Network}
 use Rattle.ranking.specs.Branches.{branch, In}
-use Rattle.ranking.specs.Found.{Room}
 use Rattle.ranking.proofs.FlagLaws.{unflagged}
 use Rattle.ranking.proofs.LaidLaws.{laid-room}
 use Rattle.ranking.proofs.WalkLaws.{Exact}
@@ -24,27 +23,27 @@ use Rattle.ranking.proofs.FirstLaws.{Stepping, stepping-place, stepping
 use Rattle.ranking.proofs.NetworkLaws.{network-heads, network-starts, network-arrays, network-small, network-exact}
 
 abbrev Inv-loop : tie.InvT-loop
-Inv-loop tails heads weights first-out first-in next-in goal used₀ path₀ at dirty₀ queue₀ labels₀ len₀ x₀ used path dirty queue labels len x =
-    Stepping (length used₀) path₀ at goal used path len x × Room (length used₀) dirty queue labels
+Inv-loop tails heads weights first-out first-in next-in goal used₀ path₀ at labels₀ len₀ x₀ used path labels len x =
+    Stepping (length used₀) path₀ at goal used path len x × (length labels ≡ length used₀)
     × ((s : ℕ) (p : Route) → In (graph tails heads weights) s goal (branch (take at path₀) []) p → Onward (graph tails heads weights) s goal (take at path₀) (take len path))
 
 abbrev μ-loop : tie.MeasureT-loop
-μ-loop tails heads weights first-out first-in next-in goal used₀ path₀ at dirty₀ queue₀ labels₀ len₀ x₀ used path dirty queue labels len x =
+μ-loop tails heads weights first-out first-in next-in goal used₀ path₀ at labels₀ len₀ x₀ used path labels len x =
     length path - len
 
 -- the start of the function, from before the loop and from the loop's head
-abbrev entry : tie.After-slice-known6 Inv-loop μ-loop → tie.Start Inv-loop μ-loop
-entry c = c .before .before .before .before .before .before .before .before .before .before .before .before
+abbrev entry : tie.After-slice-known4 Inv-loop μ-loop → tie.Start Inv-loop μ-loop
+entry c = c .before .before .before .before .before .before .before .before .before .before
 
 abbrev start : tie.At-loop Inv-loop μ-loop → tie.Start Inv-loop μ-loop
 start c = entry (c .before)
 
 -- a turn: the loop's head, the labels, the exit, and the next node
-abbrev turn : tie.After-least-arg4 Inv-loop μ-loop → tie.In-loop Inv-loop μ-loop
-turn c = c .before .before .before .before
+abbrev turn : tie.After-least-arg2 Inv-loop μ-loop → tie.In-loop Inv-loop μ-loop
+turn c = c .before .before
 
 abbrev labelled : tie.After-least-exit-arg2 Inv-loop μ-loop → tie.After-least Inv-loop μ-loop
-labelled c = c .before .before .before .before .before .before .before .before
+labelled c = c .before .before .before .before
 
 abbrev head : tie.After-least Inv-loop μ-loop → tie.At-loop Inv-loop μ-loop
 head c = turn (c .before) .before
@@ -64,12 +63,10 @@ net c = graph (start c .args .tails .now) (start c .args .heads .now) (start c .
 
 -- the new labels have a place for each node, and are exact
 abbrev made : tie.After-least Inv-loop μ-loop → List ℕ
-made c = c .least .last .1 .1 .1 .1 .1 .1 .1 .1 .0
+made c = c .least .last .1 .1 .1 .1 .1 .1 .0
 
-made-room : (c : tie.After-least Inv-loop μ-loop) → Room (length (start (head c) .args .used .now)) (c .least .last .1 .1 .1 .1 .1 .1 .0) (c .least .last .1 .1 .1 .1 .1 .1 .1 .0) (made c)
-made-room c =
-    let r = head c .loop .inv .1 in
-    record { dirty-long = c .least .kept .1 .1 .1 .1 .1 .1 .0 ∙ r .dirty-long; queue-long = c .least .kept .1 .1 .1 .1 .1 .1 .1 .0 ∙ r .queue-long; labels-long = c .least .kept .1 .1 .1 .1 .1 .1 .1 .1 .0 ∙ r .labels-long }
+made-long : (c : tie.After-least Inv-loop μ-loop) → length (made c) ≡ length (start (head c) .args .used .now)
+made-long c = c .least .kept .1 .1 .1 .1 .1 .1 .0 ∙ head c .loop .inv .1
 
 made-least : (c : tie.After-least Inv-loop μ-loop) → Least (net (head c)) (head c .loop .used) (start (head c) .args .goal) (made c)
 made-least c = let n = network (head c) in c .least .ensures (n .nodes) _ (n .arcs) (n .chains)
@@ -77,11 +74,11 @@ made-least c = let n = network (head c) in c .least .ensures (n .nodes) _ (n .ar
 made-exact : (c : tie.After-least Inv-loop μ-loop) → Exact (net (head c)) (start (head c) .args .goal) (made c) (take (head c .loop .len) (head c .loop .path))
 made-exact c =
     let S = head c .loop .inv .0 in
-    network-exact (network (head c)) (made-room c .labels-long) (made-least c) (S .longer .laid .flagged) (unflagged (S .longer .laid .flagged) _ (S .goal-ahead (turn (c .before) .loop-test .taken)))
+    network-exact (network (head c)) (made-long c) (made-least c) (S .longer .laid .flagged) (unflagged (S .longer .laid .flagged) _ (S .goal-ahead (turn (c .before) .loop-test .taken)))
 
 -- the next node can be used
 usable : (c : tie.After-known-told Inv-loop μ-loop) → let l = head (labelled (chosen c .before)) in Fresh (length (start l .args .used .now)) (l .loop .used) (next c)
-usable c = rw (made-room (labelled (chosen c .before)) .labels-long) at (usable-node (chosen c .least-exit .ensures .0) (c .before .y .given .1))
+usable c = rw (made-long (labelled (chosen c .before))) at (usable-node (chosen c .least-exit .ensures .0) (c .before .y .given .1))
 
 room : (c : tie.After-known-told Inv-loop μ-loop) → let l = head (labelled (chosen c .before)) in l .loop .len < length (l .loop .path)
 room c = laid-room (head (labelled (chosen c .before)) .loop .inv .0 .longer .laid) (usable c)
@@ -102,7 +99,7 @@ slice-read-x : tie.Need-slice-read-x Inv-loop μ-loop
 slice-read-x c = omega arith
 
 cast-x : tie.Need-cast-x Inv-loop μ-loop
-cast-x c = omega (arith, c .slice-known6 .given (entry c .args .at - 1))
+cast-x c = omega (arith, c .slice-known4 .given (entry c .args .at - 1))
 
 loop-holds : tie.Need-loop-holds Inv-loop μ-loop
 loop-holds c =
@@ -114,7 +111,7 @@ least-requires c κs =
     let l = turn c .before in
     let i = l .loop .inv in
     let p = start l .pre in
-    rw (i .1 .labels-long) (network-arrays (p .0) (i .0 .longer .laid .flags-long), (record { place = p .1 .1 .0 .0; free = i .0 .goal-ahead (turn c .loop-test .taken) }, record { dirty-long = i .1 .dirty-long; queue-long = i .1 .queue-long }))
+    rw (i .1) (network-arrays (p .0) (i .0 .longer .laid .flags-long), record { place = p .1 .1 .0 .0; free = i .0 .goal-ahead (turn c .loop-test .taken) })
 
 least-exit-requires : tie.Need-least-exit-requires Inv-loop μ-loop
 least-exit-requires c κs =
@@ -122,7 +119,7 @@ least-exit-requires c κs =
     let l = head a in
     let n = network l in
     let flags = l .loop .inv .0 .longer .laid .flags-long in
-    rw (made-room a .labels-long) (network-heads n, ((network-starts n, stepping-place (l .loop .inv .0)), (network-small n (made-room a .labels-long) (made-least a), (flags, flags))))
+    rw (made-long a) (network-heads n, ((network-starts n, stepping-place (l .loop .inv .0)), (network-small n (made-long a) (made-least a), (flags, flags))))
 
 enum-known-y : tie.Need-enum-known-y Inv-loop μ-loop
 enum-known-y c = search needs
@@ -139,17 +136,7 @@ same-length-2 c = omega arith
 same-length-3 : tie.Need-same-length-3 Inv-loop μ-loop
 same-length-3 c =
     let a = labelled (c .before .before .before) in
-    made-room a .dirty-long ∙ sym (start (head a) .pre .1 .1 .1 .dirty-long)
-
-same-length-4 : tie.Need-same-length-4 Inv-loop μ-loop
-same-length-4 c =
-    let a = labelled (c .before .before .before) in
-    made-room a .queue-long ∙ sym (start (head a) .pre .1 .1 .1 .queue-long)
-
-same-length-5 : tie.Need-same-length-5 Inv-loop μ-loop
-same-length-5 c =
-    let a = labelled (c .before .before .before) in
-    made-room a .labels-long ∙ sym (start (head a) .pre .1 .1 .1 .labels-long)
+    made-long a ∙ sym (start (head a) .pre .1 .1 .1)
 
 returns : tie.Need-returns Inv-loop μ-loop
 returns c =
@@ -185,24 +172,18 @@ loop-again c =
     let i = l .loop .inv in
     let n = turn (a .before) .loop-test .taken in (
       stepping-more n (usable c) (i .0),
-      made-room a,
+      made-long a,
       λ s p k. stepping-onward (i .0) (i .2 s p k) n (made-exact a) (usable c) (chosen-node (chosen c .least-exit .ensures .1 _ _ (network l .arcs) (network l .star)) (c .before .y .given .1)),
     )
 
+same-length-4 : tie.Need-same-length-4 Inv-loop μ-loop
+same-length-4 c = omega arith
+
+same-length-5 : tie.Need-same-length-5 Inv-loop μ-loop
+same-length-5 c = omega arith
+
 same-length-6 : tie.Need-same-length-6 Inv-loop μ-loop
 same-length-6 c = omega arith
-
-same-length-7 : tie.Need-same-length-7 Inv-loop μ-loop
-same-length-7 c = omega arith
-
-same-length-8 : tie.Need-same-length-8 Inv-loop μ-loop
-same-length-8 c = omega arith
-
-same-length-9 : tie.Need-same-length-9 Inv-loop μ-loop
-same-length-9 c = omega arith
-
-same-length-10 : tie.Need-same-length-10 Inv-loop μ-loop
-same-length-10 c = omega arith
 
 returns-2 : tie.Need-returns-2 Inv-loop μ-loop
 returns-2 c =
@@ -227,8 +208,6 @@ steps-spec =
     same-length
     same-length-2
     same-length-3
-    same-length-4
-    same-length-5
     returns
     mul-path
     slice-write-path
@@ -237,9 +216,7 @@ steps-spec =
     add-len
     loop-less
     loop-again
+    same-length-4
+    same-length-5
     same-length-6
-    same-length-7
-    same-length-8
-    same-length-9
-    same-length-10
     returns-2)

@@ -7,26 +7,26 @@ use borrow.Author.Needs.{needs}
 use Rattle.ranking.proofs.ranking.begin.Statement.{statement}
 use Rattle.ranking.proofs.ranking.begin.Tie as tie
 
-abbrev start : tie.After-slice-known7 → tie.Start
-start c = c .before .before .before .before .before .before .before .before .before .before .before .before .before .before .before
+abbrev start : tie.After-slice-known3 → tie.Start
+start c = c .before .before .before .before .before .before .before .before .before .before .before
 
 abbrev entry : tie.After-reset → tie.Start
 entry c = start (c .before .before)
 
 abbrev freed : tie.After-consider → tie.After-reset
-freed c = c .before .before .before .before .before .before .before .before .before .before
+freed c = c .before .before .before .before .before .before
 
-abbrev looked : tie.After-slice-known15 → tie.After-consider
-looked c = c .before .before .before .before .before .before .before .before .before .before .before .before .before .before
+abbrev looked : tie.After-slice-known7 → tie.After-consider
+looked c = c .before .before .before .before .before .before
 
 problem : (s : tie.Start) → Problem (s .args .n) (s .args .start) (s .args .goal) (s .args .tails .now) (s .args .heads .now) (s .args .weights .now) (s .args .first-out .now) (s .args .first-in .now) (s .args .next-in .now) (s .args .overall .now)
 problem s = s .pre .0
 
 space : (s : tie.Start) → Space (s .args .n) (s .args .slots) (s .args .work .now)
-space s = s .pre .1 .1 .0
+space s = s .pre .1 .0
 
 blank : (s : tie.Start) → Blank (s .args .n) (s .args .used .now) (s .args .barred .now) (s .args .path .now)
-blank s = s .pre .1 .1 .1
+blank s = s .pre .1 .1
 
 reset-requires : tie.Need-reset-requires
 reset-requires c κs = search needs
@@ -38,10 +38,10 @@ slice-write-used : tie.Need-slice-write-used
 slice-write-used c = search needs
 
 consider-requires : tie.Need-consider-requires
-consider-requires c κs = let x = c .before .before .before .before .before .before .before .before .before in
+consider-requires c κs = let x = c .before .before .before .before .before in
     let s = entry x in
     let P = problem s in
-    (P, (s .pre .1 .0, (filled-none P (space s) (x .reset .ensures .0), first-deviation P (blank s) (x .reset .last .0))))
+    (P, (filled-none P (space s) (x .reset .ensures .0), first-deviation P (blank s) (x .reset .last .0)))
 
 slice-write-used-2 : tie.Need-slice-write-used-2
 slice-write-used-2 c = let x = looked c in
@@ -60,18 +60,6 @@ same-length-2 c = let x = looked c in
 
 same-length-3 : tie.Need-same-length-3
 same-length-3 c = search needs
-
-same-length-4 : tie.Need-same-length-4
-same-length-4 c = search needs
-
-same-length-5 : tie.Need-same-length-5
-same-length-5 c = search needs
-
-same-length-6 : tie.Need-same-length-6
-same-length-6 c = search needs
-
-same-length-7 : tie.Need-same-length-7
-same-length-7 c = search needs
 
 returns : tie.Need-returns
 returns c = let x = looked c in
@@ -92,8 +80,4 @@ begin-spec =
     same-length
     same-length-2
     same-length-3
-    same-length-4
-    same-length-5
-    same-length-6
-    same-length-7
     returns)

@@ -7,29 +7,29 @@ use Rattle.terms.specs.Network.{Graph}
 use Rattle.labels.specs.Arcs.{graph}
 use Rattle.candidates.specs.Slots.{entries}
 use Rattle.candidates.proofs.EntryLaws.{length-entries}
-use Rattle.ranking.specs.Ranking.{Problem, Desk, Filled, Blank, Stage}
+use Rattle.ranking.specs.Ranking.{Problem, Filled, Blank, Stage}
 use Rattle.ranking.proofs.RankedLaws.{stage-going, all-ranked}
 use Rattle.ranking.proofs.ranking.rank_paths.Statement.{statement}
 use Rattle.ranking.proofs.ranking.rank_paths.Tie as tie
 
 abbrev Inv-loop : tie.InvT-loop
-Inv-loop tails heads weights first-out first-in next-in start goal overall used₀ barred₀ path₀ dirty₀ queue₀ labels₀ scratch₀ work₀ n slots count₀ j₀ used barred path dirty queue labels scratch work count j =
-    Desk n dirty queue labels scratch × Filled n slots (graph tails heads weights) start j work count × Stage n (graph tails heads weights) start goal slots (entries n work count) j × (drop (slots * (n + 16)) work ≡ drop (slots * (n + 16)) work₀)
-    × Blank n used barred path × (used ≡ used₀) × (barred ≡ barred₀) × (length path ≡ length path₀) × (length scratch ≡ length scratch₀) × (length work ≡ length work₀)
+Inv-loop tails heads weights first-out first-in next-in start goal overall used₀ barred₀ path₀ work₀ n slots count₀ j₀ used barred path work count j =
+    Filled n slots (graph tails heads weights) start j work count × Stage n (graph tails heads weights) start goal slots (entries n work count) j × (drop (slots * (n + 16)) work ≡ drop (slots * (n + 16)) work₀)
+    × Blank n used barred path × (used ≡ used₀) × (barred ≡ barred₀) × (length path ≡ length path₀) × (length work ≡ length work₀)
 
 abbrev μ-loop : tie.MeasureT-loop
-μ-loop tails heads weights first-out first-in next-in start goal overall used₀ barred₀ path₀ dirty₀ queue₀ labels₀ scratch₀ work₀ n slots count₀ j₀ used barred path dirty queue labels scratch work count j =
+μ-loop tails heads weights first-out first-in next-in start goal overall used₀ barred₀ path₀ work₀ n slots count₀ j₀ used barred path work count j =
     slots - j
 
 -- the start of the function
-abbrev start : tie.After-slice-known8 Inv-loop μ-loop → tie.Start Inv-loop μ-loop
-start c = c .before .before .before .before .before .before .before .before .before .before .before .before .before .before .before
+abbrev start : tie.After-shared-slice-known7 Inv-loop μ-loop → tie.Start Inv-loop μ-loop
+start c = c .before .before .before .before .before .before .before
 
 abbrev entry : tie.After-begin Inv-loop μ-loop → tie.Start Inv-loop μ-loop
 entry c = start (c .before .before .before .before .before .before .before .before .before)
 
-abbrev first : tie.After-slice-known15 Inv-loop μ-loop → tie.After-begin Inv-loop μ-loop
-first c = c .before .before .before .before .before .before .before .before .before .before .before .before .before .before
+abbrev first : tie.After-slice-known7 Inv-loop μ-loop → tie.After-begin Inv-loop μ-loop
+first c = c .before .before .before .before .before .before
 
 abbrev net : tie.Start Inv-loop μ-loop → Graph
 net s = graph (s .args .tails .now) (s .args .heads .now) (s .args .weights .now)
@@ -37,11 +37,8 @@ net s = graph (s .args .tails .now) (s .args .heads .now) (s .args .weights .now
 problem : (s : tie.Start Inv-loop μ-loop) → Problem (s .args .n) (s .args .start) (s .args .goal) (s .args .tails .now) (s .args .heads .now) (s .args .weights .now) (s .args .first-out .now) (s .args .first-in .now) (s .args .next-in .now) (s .args .overall .now)
 problem s = s .pre .0
 
-desk : (s : tie.Start Inv-loop μ-loop) → Desk (s .args .n) (s .args .dirty .now) (s .args .queue .now) (s .args .labels .now) (s .args .scratch .now)
-desk s = s .pre .1 .0
-
 blank : (s : tie.Start Inv-loop μ-loop) → Blank (s .args .n) (s .args .used .now) (s .args .barred .now) (s .args .path .now)
-blank s = s .pre .1 .1 .1
+blank s = s .pre .1 .1
 
 begin-requires : tie.Need-begin-requires Inv-loop μ-loop
 begin-requires c κs = let s = start (c .before .before .before .before .before .before .before .before) in s .pre
@@ -49,14 +46,9 @@ begin-requires c κs = let s = start (c .before .before .before .before .before 
 loop-holds : tie.Need-loop-holds Inv-loop μ-loop
 loop-holds c = let x = first c in
     let s = entry x in
-    let D = desk s in
     let B = blank s in
     let G = x .begin .ensures .1 in
     let k = x .begin .kept .1 .1 .1 .1 .1 .1 .1 .1 .1 .1 .1 in (
-      record {
-        room = record { dirty-long = k .1 .0 ∙ D .room .dirty-long; queue-long = k .1 .1 .0 ∙ D .room .queue-long; labels-long = k .1 .1 .1 .0 ∙ D .room .labels-long };
-        scratch-long = omega (arith, k .1 .1 .1 .1 .0, D .scratch-long);
-      },
       G .filled,
       Stage.going (G .search),
       refl,
@@ -65,79 +57,60 @@ loop-holds c = let x = first c in
       refl,
       refl,
       refl,
-      refl,
     )
 
 advance-requires : tie.Need-advance-requires Inv-loop μ-loop
-advance-requires c κs = let i = c .before .before .before .before .before .before .before .before in
+advance-requires c κs = let i = c .before .before .before .before in
     let l = i .before in
     let s = entry (first (l .before)) in
     let v = l .loop .inv in
-    (problem s, (v .0, (v .1, (v .4, (i .loop-test .taken, stage-going (problem s) (v .1) (i .loop-test .taken) (v .2))))))
+    (problem s, (v .0, (v .3, (i .loop-test .taken, stage-going (problem s) (v .0) (i .loop-test .taken) (v .1)))))
 
 add-j : tie.Need-add-j Inv-loop μ-loop
-add-j c = let i = c .before .before .before .before .before .before .before .before .before .before .before .before .before .before .before .before .before .before .before .before .before .before .before .before .before in omega (arith, i .loop-test .taken, i .before .loop .inv .1 .kept .upto, i .before .loop .inv .1 .few)
+add-j c = let i = c .before .before .before .before .before .before .before .before .before .before .before .before .before in omega (arith, i .loop-test .taken, i .before .loop .inv .0 .kept .upto, i .before .loop .inv .0 .few)
 
 loop-less : tie.Need-loop-less Inv-loop μ-loop
-loop-less c = let i = c .before .before .before .before .before .before .before .before .before .before .before .before .before .before .before .before .before .before .before .before .before .before .before .before .before in omega (arith, i .loop-test .taken, i .before .loop .inv .1 .kept .upto)
+loop-less c = let i = c .before .before .before .before .before .before .before .before .before .before .before .before .before in omega (arith, i .loop-test .taken, i .before .loop .inv .0 .kept .upto)
 
 loop-again : tie.Need-loop-again Inv-loop μ-loop
-loop-again c = let x = c .before .before .before .before .before .before .before .before .before .before .before .before .before .before .before .before in
-    let l = x .before .before .before .before .before .before .before .before .before .before in
+loop-again c = let x = c .before .before .before .before .before .before .before .before in
+    let l = x .before .before .before .before .before .before in
     let v = l .loop .inv in
-    let D = v .0 in
-    let F = v .1 in
-    let B = v .4 in
+    let F = v .0 in
+    let B = v .3 in
     let E = x .advance .ensures in
     let C = E .1 .1 .0 in
     let k = x .advance .kept .1 .1 .1 .1 .1 .1 .1 .1 .1 .1 .1 in (
-      record {
-        room = record { dirty-long = k .1 .0 ∙ D .room .dirty-long; queue-long = k .1 .1 .0 ∙ D .room .queue-long; labels-long = k .1 .1 .1 .0 ∙ D .room .labels-long };
-        scratch-long = omega (arith, k .1 .1 .1 .1 .0, D .scratch-long);
-      },
       record { some = F .some; few = F .few; kept = C .kept; entered = C .entered },
       E .1 .1 .1,
-      C .beyond ∙ v .3,
+      C .beyond ∙ v .2,
       rw (E .0, E .1 .0) (record { idle = B .idle; used-long = B .used-long; path-long = omega (arith, k .0, B .path-long) }),
-      E .0 ∙ v .5,
-      E .1 .0 ∙ v .6,
-      k .0 ∙ v .7,
-      k .1 .1 .1 .1 .0 ∙ v .8,
-      k .1 .1 .1 .1 .1 .0 ∙ v .9,
+      E .0 ∙ v .4,
+      E .1 .0 ∙ v .5,
+      k .0 ∙ v .6,
+      k .1 .0 ∙ v .7,
     )
 
 same-length : tie.Need-same-length Inv-loop μ-loop
-same-length c = let l = c .before in let x = first (l .before) in omega (arith, ap length (l .loop .inv .5), x .begin .kept .1 .1 .1 .1 .1 .1 .1 .1 .1 .0)
+same-length c = let l = c .before in let x = first (l .before) in omega (arith, ap length (l .loop .inv .4), x .begin .kept .1 .1 .1 .1 .1 .1 .1 .1 .1 .0)
 
 same-length-2 : tie.Need-same-length-2 Inv-loop μ-loop
-same-length-2 c = omega (arith, ap length (c .before .loop .inv .6))
+same-length-2 c = omega (arith, ap length (c .before .loop .inv .5))
 
 same-length-3 : tie.Need-same-length-3 Inv-loop μ-loop
 same-length-3 c = omega arith
 
 same-length-4 : tie.Need-same-length-4 Inv-loop μ-loop
-same-length-4 c = let l = c .before in omega (arith, l .loop .inv .0 .room .dirty-long, desk (entry (first (l .before))) .room .dirty-long)
-
-same-length-5 : tie.Need-same-length-5 Inv-loop μ-loop
-same-length-5 c = let l = c .before in omega (arith, l .loop .inv .0 .room .queue-long, desk (entry (first (l .before))) .room .queue-long)
-
-same-length-6 : tie.Need-same-length-6 Inv-loop μ-loop
-same-length-6 c = let l = c .before in omega (arith, l .loop .inv .0 .room .labels-long, desk (entry (first (l .before))) .room .labels-long)
-
-same-length-7 : tie.Need-same-length-7 Inv-loop μ-loop
-same-length-7 c = omega arith
-
-same-length-8 : tie.Need-same-length-8 Inv-loop μ-loop
-same-length-8 c = omega arith
+same-length-4 c = omega arith
 
 returns : tie.Need-returns Inv-loop μ-loop
 returns c = let l = c .before in
     let x = first (l .before) in
     let s = entry x in
     let v = l .loop .inv in
-    let F = v .1 in
+    let F = v .0 in
     let z : l .loop .j ≡ l .loop .count = omega (arith, c .loop-test .left, F .entered .border, length-entries (s .args .n) (l .loop .work) (l .loop .count)) in
-    (v .5 ∙ x .begin .ensures .0, (v .6, all-ranked (problem s) F z (v .2) (v .3 ∙ x .begin .ensures .1 .beyond)))
+    (v .4 ∙ x .begin .ensures .0, (v .5, all-ranked (problem s) F z (v .1) (v .2 ∙ x .begin .ensures .1 .beyond)))
 
 pub rank-paths-spec : {M : Type 1} → statement M
 rank-paths-spec =
@@ -155,8 +128,4 @@ rank-paths-spec =
     same-length-2
     same-length-3
     same-length-4
-    same-length-5
-    same-length-6
-    same-length-7
-    same-length-8
     returns)

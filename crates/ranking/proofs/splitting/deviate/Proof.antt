@@ -17,17 +17,17 @@ use borrow.Author.Needs.{needs}
 use Rattle.ranking.proofs.splitting.deviate.Statement.{statement}
 use Rattle.ranking.proofs.splitting.deviate.Tie as tie
 
-abbrev start : tie.After-slice-known8 → tie.Start
-start c = c .before .before .before .before .before .before .before .before .before .before .before .before .before .before .before
+abbrev start : tie.After-slice-known4 → tie.Start
+start c = c .before .before .before .before .before .before .before .before .before .before .before
 
 abbrev entry : tie.After-set-bars → tie.Start
 entry c = start (c .before .before .before)
 
 abbrev set : tie.After-consider → tie.After-set-bars
-set c = c .before .before .before .before .before .before .before .before .before .before .before
+set c = c .before .before .before .before .before .before .before
 
-abbrev looked : tie.After-slice-known16 → tie.After-consider
-looked c = c .before .before .before .before .before .before .before .before .before .before .before .before .before .before
+abbrev looked : tie.After-slice-known8 → tie.After-consider
+looked c = c .before .before .before .before .before .before
 
 -- what is known at the start
 abbrev net : tie.Start → Graph
@@ -37,13 +37,13 @@ abbrev kept-entries : tie.Start → List Entry
 kept-entries s = entries (s .args .n) (s .args .work .now) (s .args .count)
 
 filled : (s : tie.Start) → Filled (s .args .n) (s .args .slots) (net s) (s .args .start) (s .args .rank + 1) (s .args .work .now) (s .args .count)
-filled s = s .pre .1 .1 .0
+filled s = s .pre .1 .0
 
 along : (s : tie.Start) → Along (s .args .n) (net s) (s .args .start) (s .args .goal) (kept-entries s) (s .args .rank) (s .args .used .now) (s .args .barred .now) (s .args .path .now) (s .args .d) (s .args .before)
-along s = s .pre .1 .1 .1 .0
+along s = s .pre .1 .1 .0
 
 short : (s : tie.Start) → s .args .d < size (getD (kept-entries s) (s .args .rank) none)
-short s = s .pre .1 .1 .1 .1
+short s = s .pre .1 .1 .1
 
 -- the flags of the barred nodes
 abbrev flags : tie.After-set-bars → List ℕ
@@ -66,15 +66,15 @@ set-bars-requires c κs = let s = start (c .before .before) in
     ((part-rooted r F, omega (arith, along s .bars-long)), rw (entry-is r F) (along s .lower, short s))
 
 add-consider : tie.Need-add-consider
-add-consider c = let s = entry (c .before .before .before .before .before .before .before .before .before .before) in omega (arith, filled s .entered .border, length-entries (s .args .n) (s .args .work .now) (s .args .count), filled s .kept .upto, filled s .few)
+add-consider c = let s = entry (c .before .before .before .before .before .before) in omega (arith, filled s .entered .border, length-entries (s .args .n) (s .args .work .now) (s .args .count), filled s .kept .upto, filled s .few)
 
 add-consider-2 : tie.Need-add-consider-2
-add-consider-2 c = let s = entry (c .before .before .before .before .before .before .before .before .before .before) in omega (arith, filled s .entered .border, length-entries (s .args .n) (s .args .work .now) (s .args .count), filled s .kept .upto, filled s .few)
+add-consider-2 c = let s = entry (c .before .before .before .before .before .before) in omega (arith, filled s .entered .border, length-entries (s .args .n) (s .args .work .now) (s .args .count), filled s .kept .upto, filled s .few)
 
 consider-requires : tie.Need-consider-requires
-consider-requires c κs = let x = c .before .before .before .before .before .before .before .before .before .before in
+consider-requires c κs = let x = c .before .before .before .before .before .before in
     let s = entry x in
-    (s .pre .0, (s .pre .1 .0, (filled s, deviation x)))
+    (s .pre .0, (filled s, deviation x))
 
 set-bars-requires-2 : tie.Need-set-bars-requires-2
 set-bars-requires-2 c κs = let y = looked (c .before .before) in
@@ -98,18 +98,6 @@ same-length-3 c = search needs
 same-length-4 : tie.Need-same-length-4
 same-length-4 c = search needs
 
-same-length-5 : tie.Need-same-length-5
-same-length-5 c = search needs
-
-same-length-6 : tie.Need-same-length-6
-same-length-6 c = search needs
-
-same-length-7 : tie.Need-same-length-7
-same-length-7 c = search needs
-
-same-length-8 : tie.Need-same-length-8
-same-length-8 c = search needs
-
 returns : tie.Need-returns
 returns c = let z = c .before .before in
     let y = looked (z .before .before .before) in
@@ -132,8 +120,4 @@ deviate-spec =
     same-length-2
     same-length-3
     same-length-4
-    same-length-5
-    same-length-6
-    same-length-7
-    same-length-8
     returns)

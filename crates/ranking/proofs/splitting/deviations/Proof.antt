@@ -7,24 +7,24 @@ use lib.ListN.{length, getD}
 use Rattle.terms.specs.Network.{Graph, weight}
 use Rattle.labels.specs.Arcs.{graph}
 use Rattle.candidates.specs.Slots.{Entry, none, entries}
-use Rattle.ranking.specs.Ranking.{Desk, Filled, Along}
+use Rattle.ranking.specs.Ranking.{Filled, Along}
 use Rattle.ranking.proofs.BackLaws.{Going, back-some, back-linked, back-le, along-back, going-start, going-filled, going-shared, going-next, going-end}
 use Rattle.ranking.proofs.NetworkLaws.{network-heads, network-starts}
 use Rattle.ranking.proofs.splitting.deviations.Statement.{statement}
 use Rattle.ranking.proofs.splitting.deviations.Tie as tie
 
 abbrev Inv-loop : tie.InvT-loop
-Inv-loop tails heads weights first-out first-in next-in start goal overall used₀ barred₀ path₀ dirty₀ queue₀ labels₀ scratch₀ work₀ n slots count limit rank shared len cost now₀ d₀ before₀ used barred path dirty queue labels scratch work now d before =
-    Desk n dirty queue labels scratch × Going n slots (graph tails heads weights) start goal limit rank work₀ count barred₀ len work now used barred path d before
-    × (length path ≡ length path₀) × (length scratch ≡ length scratch₀) × (length work ≡ length work₀)
+Inv-loop tails heads weights first-out first-in next-in start goal overall used₀ barred₀ path₀ work₀ n slots count limit rank shared len cost now₀ d₀ before₀ used barred path work now d before =
+    Going n slots (graph tails heads weights) start goal limit rank work₀ count barred₀ len work now used barred path d before
+    × (length path ≡ length path₀) × (length work ≡ length work₀)
 
 abbrev μ-loop : tie.MeasureT-loop
-μ-loop tails heads weights first-out first-in next-in start goal overall used₀ barred₀ path₀ dirty₀ queue₀ labels₀ scratch₀ work₀ n slots count limit rank shared len cost now₀ d₀ before₀ used barred path dirty queue labels scratch work now d before =
+μ-loop tails heads weights first-out first-in next-in start goal overall used₀ barred₀ path₀ work₀ n slots count limit rank shared len cost now₀ d₀ before₀ used barred path work now d before =
     d
 
 -- the start of the function
-abbrev start : tie.After-slice-known8 Inv-loop μ-loop → tie.Start Inv-loop μ-loop
-start c = c .before .before .before .before .before .before .before .before .before .before .before .before .before .before .before
+abbrev start : tie.After-slice-known4 Inv-loop μ-loop → tie.Start Inv-loop μ-loop
+start c = c .before .before .before .before .before .before .before .before .before .before .before
 
 abbrev entry : tie.At-loop Inv-loop μ-loop → tie.Start Inv-loop μ-loop
 entry l = start (l .before)
@@ -33,27 +33,27 @@ abbrev net : tie.Start Inv-loop μ-loop → Graph
 net s = graph (s .args .tails .now) (s .args .heads .now) (s .args .weights .now)
 
 filled : (s : tie.Start Inv-loop μ-loop) → Filled (s .args .n) (s .args .slots) (net s) (s .args .start) (s .args .rank + 1) (s .args .work .now) (s .args .count)
-filled s = s .pre .1 .1 .0
+filled s = s .pre .1 .0
 
 -- at the loop's test
 abbrev kept-entries : tie.At-loop Inv-loop μ-loop → List Entry
 kept-entries l = entries (entry l .args .n) (l .loop .work) (l .loop .now)
 
 now-filled : (l : tie.At-loop Inv-loop μ-loop) → let s = entry l in Filled (s .args .n) (s .args .slots) (net s) (s .args .start) (s .args .rank + 1) (l .loop .work) (l .loop .now)
-now-filled l = going-filled (filled (entry l)) (l .loop .inv .1)
+now-filled l = going-filled (filled (entry l)) (l .loop .inv .0)
 
 place : (l : tie.At-loop Inv-loop μ-loop) → let s = entry l in Along (s .args .n) (net s) (s .args .start) (s .args .goal) (kept-entries l) (s .args .rank) (l .loop .used) (l .loop .barred) (l .loop .path) (l .loop .d) (l .loop .before)
-place l = l .loop .inv .1 .place
+place l = l .loop .inv .0 .place
 
 -- in the loop
 more : (c : tie.In-loop Inv-loop μ-loop) → let l = c .before in getD (kept-entries l) (entry l .args .rank) none .shared < l .loop .d
-more c = let l = c .before in omega (arith, going-shared (filled (entry l)) (l .loop .inv .1), entry l .pre .1 .1 .1 .1, c .loop-test .taken)
+more c = let l = c .before in omega (arith, going-shared (filled (entry l)) (l .loop .inv .0), entry l .pre .1 .1 .1, c .loop-test .taken)
 
 -- after the step back
 abbrev inner : tie.After-step-back Inv-loop μ-loop → tie.In-loop Inv-loop μ-loop
 inner b = b .before .before .before
 
-abbrev stepped : tie.After-slice-known9 Inv-loop μ-loop → tie.After-step-back Inv-loop μ-loop
+abbrev stepped : tie.After-slice-known5 Inv-loop μ-loop → tie.After-step-back Inv-loop μ-loop
 stepped c = c .before .before
 
 arc : (b : tie.After-step-back Inv-loop μ-loop) → let l = inner b .before in b .step-back .result ≡ weight (net (entry l)) (getD (l .loop .path) (l .loop .d - 1 - 1) 0) (getD (l .loop .path) (l .loop .d - 1) 0)
@@ -66,10 +66,10 @@ back-place : (b : tie.After-step-back Inv-loop μ-loop) → let l = inner b .bef
 back-place b = let l = inner b .before in along-back (now-filled l .entered) (place l) (more (inner b)) (arc b) (rw (place l .laid .flags-long) at (b .step-back .ensures .0))
 
 abbrev inside : tie.After-deviate Inv-loop μ-loop → tie.After-step-back Inv-loop μ-loop
-inside e = stepped (e .before .before .before .before .before .before .before .before .before)
+inside e = stepped (e .before .before .before .before .before)
 
 loop-holds : tie.Need-loop-holds Inv-loop μ-loop
-loop-holds c = let s = start c in (s .pre .1 .0, going-start (filled s) (s .pre .1 .1 .1 .0), refl, refl, refl)
+loop-holds c = let s = start c in (going-start (filled s) (s .pre .1 .1 .0), refl, refl)
 
 sub-d : tie.Need-sub-d Inv-loop μ-loop
 sub-d c = omega (arith, c .loop-test .taken)
@@ -85,30 +85,24 @@ sub-before : tie.Need-sub-before Inv-loop μ-loop
 sub-before c = let b = stepped c in let l = inner b .before in back-le (now-filled l .entered) (place l) (more (inner b)) (arc b)
 
 deviate-requires : tie.Need-deviate-requires Inv-loop μ-loop
-deviate-requires c κs = let b = stepped (c .before .before .before .before .before .before .before .before) in
+deviate-requires c κs = let b = stepped (c .before .before .before .before) in
     let l = inner b .before in
     let s = entry l in
-    (s .pre .0, (l .loop .inv .0, (now-filled l, (back-place b, omega (arith, more (inner b), place l .upper)))))
+    (s .pre .0, (now-filled l, (back-place b, omega (arith, more (inner b), place l .upper))))
 
 loop-less : tie.Need-loop-less Inv-loop μ-loop
-loop-less c = omega (arith, inner (inside (c .before .before .before .before .before .before .before .before .before .before .before .before .before .before .before .before)) .loop-test .taken)
+loop-less c = omega (arith, inner (inside (c .before .before .before .before .before .before .before .before)) .loop-test .taken)
 
 loop-again : tie.Need-loop-again Inv-loop μ-loop
-loop-again c = let e = c .before .before .before .before .before .before .before .before .before .before .before .before .before .before .before .before in
+loop-again c = let e = c .before .before .before .before .before .before .before .before in
     let b = inside e in
     let l = inner b .before in
     let s = entry l in
     let i = l .loop .inv in
-    let D = i .0 in
     let k = e .deviate .kept .1 .1 .1 .1 .1 .1 .1 .1 .1 .1 .1 in (
-      record {
-        room = record { dirty-long = k .1 .0 ∙ D .room .dirty-long; queue-long = k .1 .1 .0 ∙ D .room .queue-long; labels-long = k .1 .1 .1 .0 ∙ D .room .labels-long };
-        scratch-long = omega (arith, k .1 .1 .1 .1 .0, D .scratch-long);
-      },
-      going-next (filled s) (i .1) (more (inner b)) (back-place b) (e .deviate .ensures .0) (e .deviate .ensures .1 .0) (e .deviate .ensures .1 .1 .0) (e .deviate .ensures .1 .1 .1) (k .0),
-      k .0 ∙ i .2,
-      k .1 .1 .1 .1 .0 ∙ i .3,
-      k .1 .1 .1 .1 .1 .0 ∙ i .4,
+      going-next (filled s) (i .0) (more (inner b)) (back-place b) (e .deviate .ensures .0) (e .deviate .ensures .1 .0) (e .deviate .ensures .1 .1 .0) (e .deviate .ensures .1 .1 .1) (k .0),
+      k .0 ∙ i .1,
+      k .1 .0 ∙ i .2,
     )
 
 same-length : tie.Need-same-length Inv-loop μ-loop
@@ -123,24 +117,12 @@ same-length-3 c = omega arith
 same-length-4 : tie.Need-same-length-4 Inv-loop μ-loop
 same-length-4 c = omega arith
 
-same-length-5 : tie.Need-same-length-5 Inv-loop μ-loop
-same-length-5 c = omega arith
-
-same-length-6 : tie.Need-same-length-6 Inv-loop μ-loop
-same-length-6 c = omega arith
-
-same-length-7 : tie.Need-same-length-7 Inv-loop μ-loop
-same-length-7 c = omega arith
-
-same-length-8 : tie.Need-same-length-8 Inv-loop μ-loop
-same-length-8 c = omega arith
-
 returns : tie.Need-returns Inv-loop μ-loop
 returns c = let l = c .before in
     let s = entry l in
-    let G = l .loop .inv .1 in
-    let z : s .args .shared ≡ l .loop .d = omega (arith, going-shared (filled s) G, s .pre .1 .1 .1 .1, G .place .lower, c .loop-test .left) in
-    (rw z (place l .laid), (G .bars-same, (G .changed, going-end (filled s) G (sym z ∙ s .pre .1 .1 .1 .1))))
+    let G = l .loop .inv .0 in
+    let z : s .args .shared ≡ l .loop .d = omega (arith, going-shared (filled s) G, s .pre .1 .1 .1, G .place .lower, c .loop-test .left) in
+    (rw z (place l .laid), (G .bars-same, (G .changed, going-end (filled s) G (sym z ∙ s .pre .1 .1 .1))))
 
 pub deviations-spec : {M : Type 1} → statement M
 deviations-spec =
@@ -159,8 +141,4 @@ deviations-spec =
     same-length-2
     same-length-3
     same-length-4
-    same-length-5
-    same-length-6
-    same-length-7
-    same-length-8
     returns)

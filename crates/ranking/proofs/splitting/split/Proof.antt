@@ -16,8 +16,8 @@ use borrow.Author.Needs.{needs}
 use Rattle.ranking.proofs.splitting.split.Statement.{statement}
 use Rattle.ranking.proofs.splitting.split.Tie as tie
 
-abbrev start : tie.After-slice-known8 → tie.Start
-start c = c .before .before .before .before .before .before .before .before .before .before .before .before .before .before .before
+abbrev start : tie.After-slice-known4 → tie.Start
+start c = c .before .before .before .before .before .before .before .before .before .before .before
 
 abbrev entry : tie.After-shared-at → tie.Start
 entry c = start (c .before .before)
@@ -35,10 +35,10 @@ abbrev flagged : tie.After-cost-at → tie.After-mark
 flagged c = c .before .before .before .before
 
 abbrev counted : tie.After-deviations → tie.After-cost-at
-counted c = c .before .before .before .before .before .before .before .before .before
+counted c = c .before .before .before .before .before
 
 abbrev looked : tie.After-unmark-arg2 → tie.After-deviations
-looked c = c .before .before .before .before .before .before .before .before .before .before .before .before .before .before .before .before .before .before
+looked c = c .before .before .before .before .before .before .before .before .before .before
 
 -- what is known at the start
 abbrev net : tie.Start → Graph
@@ -54,16 +54,16 @@ problem : (s : tie.Start) → Problem (s .args .n) (s .args .start) (s .args .go
 problem s = s .pre .0
 
 filled : (s : tie.Start) → Filled (s .args .n) (s .args .slots) (net s) (s .args .start) (s .args .rank) (s .args .work .now) (s .args .count)
-filled s = s .pre .1 .1 .0
+filled s = s .pre .1 .0
 
 idle : (s : tie.Start) → Idle (s .args .n + 1) (s .args .used .now) (s .args .barred .now)
-idle s = s .pre .1 .1 .1 .0 .idle
+idle s = s .pre .1 .1 .0 .idle
 
 used-long : (s : tie.Start) → length (s .args .used .now) ≡ s .args .n + 1
-used-long s = s .pre .1 .1 .1 .0 .used-long
+used-long s = s .pre .1 .1 .0 .used-long
 
 due : (s : tie.Start) → Due (s .args .n) (net s) (s .args .start) (s .args .goal) (s .args .slots) (s .args .limit) (kept-entries s) (s .args .rank)
-due s = s .pre .1 .1 .1 .1
+due s = s .pre .1 .1 .1
 
 -- the path's length
 abbrev total : tie.After-tail-length-at → ℕ
@@ -112,21 +112,21 @@ lay-out-requires c κs = let x = c .before .before in
     let P = problem s in
     let F = filled s in
     let Q = due s in
-    (due-rooted P F Q, rw (due-entry P F Q) (omega (arith, total-is x, due-some P F Q), omega (arith, total-is x), omega (arith, total-is x, due-short P F Q, s .pre .1 .1 .1 .0 .path-long)))
+    (due-rooted P F Q, rw (due-entry P F Q) (omega (arith, total-is x, due-some P F Q), omega (arith, total-is x), omega (arith, total-is x, due-short P F Q, s .pre .1 .1 .0 .path-long)))
 
 mark-requires : tie.Need-mark-requires
 mark-requires c κs = let o = c .before .before .before .before in
     let x = measured o in
     let s = entry (first x) in
-    rw (used-long s) (due-markable (problem s) (filled s) (due s) (total x) (s .args .path .now) (route o) (total-is x) (o .lay-out .ensures) (idle s) (used-long s) (omega (arith, o .lay-out .kept .1 .1 .1 .1 .1 .0, s .pre .1 .1 .1 .0 .path-long)))
+    rw (used-long s) (due-markable (problem s) (filled s) (due s) (total x) (s .args .path .now) (route o) (total-is x) (o .lay-out .ensures) (idle s) (used-long s) (omega (arith, o .lay-out .kept .1 .1 .1 .1 .1 .0, s .pre .1 .1 .0 .path-long)))
 
 cost-at-requires : tie.Need-cost-at-requires
 cost-at-requires c κs = let s = entry (first (measured (laid (c .before .before .before)))) in due-readable (problem s) (filled s) (due s)
 
 deviations-requires : tie.Need-deviations-requires
-deviations-requires c κs = let x = c .before .before .before .before .before .before .before .before in
+deviations-requires c κs = let x = c .before .before .before .before in
     let s = entry (first (measured (laid (flagged x)))) in
-    (problem s, (s .pre .1 .0, (due-filled (problem s) (filled s) (due s), (along x, shared-is (first (measured (laid (flagged x))))))))
+    (problem s, (due-filled (problem s) (filled s) (due s), (along x, shared-is (first (measured (laid (flagged x)))))))
 
 unmark-requires : tie.Need-unmark-requires
 unmark-requires c κs = let l = looked c .deviations .ensures .0 in rw (l .flags-long) (l, omega arith)
@@ -146,18 +146,6 @@ same-length-3 c = let u = c .before .before in
 
 same-length-4 : tie.Need-same-length-4
 same-length-4 c = search needs
-
-same-length-5 : tie.Need-same-length-5
-same-length-5 c = search needs
-
-same-length-6 : tie.Need-same-length-6
-same-length-6 c = search needs
-
-same-length-7 : tie.Need-same-length-7
-same-length-7 c = search needs
-
-same-length-8 : tie.Need-same-length-8
-same-length-8 c = search needs
 
 returns : tie.Need-returns
 returns c = let u = c .before .before in
@@ -185,8 +173,4 @@ split-spec =
     same-length-2
     same-length-3
     same-length-4
-    same-length-5
-    same-length-6
-    same-length-7
-    same-length-8
     returns)

@@ -4,7 +4,7 @@ use native.Mathlib.Omega.{arith}
 use native.Mathlib.Nat.{mul-le-mul}
 use mathlib.Core.Path.{refl, sym, _∙_, ap}
 use Rattle.routes.proofs.DecodeLaws.{few-arcs, few-nodes}
-use Rattle.routes.proofs.RoomLaws.{part-long, part-zero}
+use Rattle.terms.proofs.RoomLaws.{part-long, part-zero}
 use Rattle.routes.proofs.RowLaws.{column-bounds}
 use borrow.Author.Needs.{needs}
 use Rattle.routes.proofs.choosing.choose.Statement.{statement}

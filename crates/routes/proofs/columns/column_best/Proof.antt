@@ -4,7 +4,7 @@ use native.Mathlib.Omega.{arith}
 use mathlib.Core.Path.{sym, _∙_, ap}
 use borrow.Author.Needs.{needs}
 use Rattle.routes.proofs.DecodeLaws.{few-nodes}
-use Rattle.routes.proofs.RoomLaws.{part-long}
+use Rattle.terms.proofs.RoomLaws.{part-long}
 use Rattle.routes.proofs.columns.column_best.Statement.{statement}
 use Rattle.routes.proofs.columns.column_best.Tie as tie
 

@@ -4,7 +4,7 @@ use Prim.Native.Nat.{_≤_}
 use mathlib.Core.Path.{sym}
 use borrow.Author.Needs.{needs}
 use Rattle.routes.proofs.DecodeLaws.{few-arcs}
-use Rattle.routes.proofs.RoomLaws.{part-long}
+use Rattle.terms.proofs.RoomLaws.{part-long}
 use Rattle.routes.proofs.columns.column_cost.Statement.{statement}
 use Rattle.routes.proofs.columns.column_cost.Tie as tie
 

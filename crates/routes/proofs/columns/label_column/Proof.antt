@@ -6,7 +6,7 @@ use mathlib.Core.Path.{sym}
 use lib.ListN.{length}
 use borrow.Author.Needs.{needs}
 use Rattle.routes.proofs.DecodeLaws.{few-arcs, few-nodes}
-use Rattle.routes.proofs.RoomLaws.{part-long, part-zero}
+use Rattle.terms.proofs.RoomLaws.{part-long, part-zero}
 use Rattle.routes.proofs.columns.label_column.Statement.{statement}
 use Rattle.routes.proofs.columns.label_column.Tie as tie
 

@@ -4,7 +4,7 @@ use native.Mathlib.Omega.{arith}
 use mathlib.Core.Path.{sym, _∙_, ap}
 use lib.ListN.{length}
 use Rattle.routes.proofs.DecodeLaws.{few-arcs, few-nodes}
-use Rattle.routes.proofs.RoomLaws.{part-long, part-zero}
+use Rattle.terms.proofs.RoomLaws.{part-long, part-zero}
 use borrow.Author.Needs.{needs}
 use Rattle.routes.proofs.finding.find.Statement.{statement}
 use Rattle.routes.proofs.finding.find.Tie as tie

@@ -3,7 +3,7 @@ use Prim.Native.Nat.{_≤_}
 use native.Mathlib.Omega.{arith}
 use mathlib.Core.Path.{sym, _∙_}
 use Rattle.routes.proofs.DecodeLaws.{few-nodes}
-use Rattle.routes.proofs.RoomLaws.{part-long}
+use Rattle.terms.proofs.RoomLaws.{part-long}
 use borrow.Author.Needs.{needs}
 use Rattle.routes.proofs.finding.write_shortest.Statement.{statement}
 use Rattle.routes.proofs.finding.write_shortest.Tie as tie

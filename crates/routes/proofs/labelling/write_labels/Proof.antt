@@ -7,7 +7,7 @@ use lib.ListN.{drop}
 use borrow.Author.Needs.{needs}
 use Rattle.routes.specs.Calls.{labels-of}
 use Rattle.routes.proofs.DecodeLaws.{few-nodes}
-use Rattle.routes.proofs.RoomLaws.{part-long}
+use Rattle.terms.proofs.RoomLaws.{part-long}
 use Rattle.routes.proofs.labelling.write_labels.Statement.{statement}
 use Rattle.routes.proofs.labelling.write_labels.Tie as tie
 

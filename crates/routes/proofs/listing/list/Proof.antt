@@ -3,7 +3,7 @@ use Prim.Native.Nat.{_+_, _≤_}
 use native.Mathlib.Omega.{arith}
 use mathlib.Core.Path.{sym, _∙_, ap}
 use Rattle.routes.proofs.DecodeLaws.{few-arcs, few-nodes}
-use Rattle.routes.proofs.RoomLaws.{part-long, part-zero}
+use Rattle.terms.proofs.RoomLaws.{part-long, part-zero}
 use borrow.Author.Needs.{needs}
 use Rattle.routes.proofs.listing.list.Statement.{statement}
 use Rattle.routes.proofs.listing.list.Tie as tie
