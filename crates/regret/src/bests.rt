@@ -7,7 +7,6 @@ ghost use lib.ListN.{length, set};
 ghost use Rattle.terms.specs.Lists.{numbers};
 ghost use Rattle.terms.specs.Network.{column};
 ghost use Rattle.terms.specs.Regret.{best};
-ghost use Rattle.labels.specs.Arrays.{Room};
 ghost use Rattle.regret.specs.Columns.{network};
 ghost use Rattle.regret.specs.Bests.{Joined};
 
@@ -22,13 +21,10 @@ fn set_best(
     start: usize,
     goal: usize,
     u: usize,
-    dirty: &mut [u8],
-    queue: &mut [u16],
     labels: &mut [u64],
     bests: &mut [u64],
 )
     requires { ⌜ Joined (length (now labels)) (length (now bests)) (now tails) (now heads) (now «first_in») (now «next_in») (now costs) (now barred) start goal ⌝ }
-    requires { ⌜ Room (length (now labels)) (now dirty) (now queue) ⌝ }
     requires { ⌜ (1 ≤ u) × (u ≤ length (now bests)) ⌝ }
     ensures { λ _. ⌜ ((n : ℕ) → length (now (labels .entry)) ≡ n + 1 → now (bests .exit) ≡ set (now (bests .entry)) (u - 1) (best n (column (network n (length (now (bests .entry))) (now (tails .entry)) (now (heads .entry)) (now (costs .entry))) u) start goal)) ⌝ }
 {
@@ -42,15 +38,13 @@ fn set_best(
         next_in,
         barred,
         goal,
-        dirty,
-        queue,
         labels,
     );
     bests[u - 1] = labels[start];
 }
 
-// Fills bests with the least cost of a path from start to goal in each column. dirty, queue and labels
-// are room to work in, with a place for each node and one more.
+// Fills bests with the least cost of a path from start to goal in each column. labels have a place for
+// each node and one more.
 pub fn column_bests(
     tails: &[u16],
     heads: &[u16],
@@ -60,13 +54,10 @@ pub fn column_bests(
     barred: &[u8],
     start: usize,
     goal: usize,
-    dirty: &mut [u8],
-    queue: &mut [u16],
     labels: &mut [u64],
     bests: &mut [u64],
 )
     requires { ⌜ Joined (length (now labels)) (length (now bests)) (now tails) (now heads) (now «first_in») (now «next_in») (now costs) (now barred) start goal ⌝ }
-    requires { ⌜ Room (length (now labels)) (now dirty) (now queue) ⌝ }
     ensures { λ _. ⌜ ((n : ℕ) → length (now (labels .entry)) ≡ n + 1 → now (bests .exit) ≡ map (λ u. best n (column (network n (length (now (bests .entry))) (now (tails .entry)) (now (heads .entry)) (now (costs .entry))) u) start goal) (numbers 1 (length (now (bests .entry))))) ⌝ }
 {
     let mut u = 1;
@@ -81,8 +72,6 @@ pub fn column_bests(
             start,
             goal,
             u,
-            dirty,
-            queue,
             labels,
             bests,
         );

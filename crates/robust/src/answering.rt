@@ -7,7 +7,7 @@ ghost use Rattle.terms.specs.Paths.{Route};
 ghost use Rattle.terms.specs.Ranking.{ranked};
 ghost use Rattle.terms.specs.Robust.{robust};
 ghost use Rattle.labels.specs.Arcs.{graph};
-ghost use Rattle.ranking.specs.Ranking.{Problem, Desk, Space, Blank};
+ghost use Rattle.ranking.specs.Ranking.{Problem, Space, Blank};
 ghost use Rattle.regret.specs.Columns.{network};
 ghost use Rattle.robust.specs.Answers.{chosen-length, answered};
 ghost use Rattle.robust.specs.Counting.{Priced, InColumn};
@@ -62,10 +62,6 @@ pub fn least_regret(
     used: &mut [u8],
     barred: &mut [u8],
     path: &mut [u16],
-    dirty: &mut [u8],
-    queue: &mut [u16],
-    labels: &mut [u64],
-    scratch: &mut [u16],
     arcs: &mut [u16],
     costs: &[u32],
     bests: &[u64],
@@ -76,7 +72,6 @@ pub fn least_regret(
     route: &mut [u16],
 ) -> Answer
     requires { ⌜ Problem n start goal (now tails) (now heads) (now weights) (now «first_out») (now «first_in») (now «next_in») (now overall) ⌝ }
-    requires { ⌜ Desk n (now dirty) (now queue) (now labels) (now scratch) ⌝ }
     requires { ⌜ Space n (wanted + 1) (now work) ⌝ }
     requires { ⌜ Blank n (now used) (now barred) (now path) ⌝ }
     requires { ⌜ Priced n start goal (now tails) (now heads) (now «first_out») (now costs) (now bests) ⌝ }
@@ -101,10 +96,6 @@ pub fn least_regret(
         used,
         barred,
         path,
-        dirty,
-        queue,
-        labels,
-        scratch,
         arcs,
         costs,
         bests,

@@ -7,7 +7,7 @@ ghost use Rattle.terms.specs.Robust.{robust};
 ghost use Rattle.labels.specs.Arcs.{graph};
 ghost use Rattle.candidates.specs.Slots.{entry-at};
 ghost use Rattle.candidates.specs.Keeping.{Readable};
-ghost use Rattle.ranking.specs.Ranking.{Problem, Desk, Space, Blank};
+ghost use Rattle.ranking.specs.Ranking.{Problem, Space, Blank};
 ghost use Rattle.regret.specs.Columns.{network};
 ghost use Rattle.robust.specs.Counting.{Priced, InColumn};
 ghost use Rattle.robust.specs.Verdict.{Judged, Decided};
@@ -90,10 +90,6 @@ pub fn search(
     used: &mut [u8],
     barred: &mut [u8],
     path: &mut [u16],
-    dirty: &mut [u8],
-    queue: &mut [u16],
-    labels: &mut [u64],
-    scratch: &mut [u16],
     arcs: &mut [u16],
     costs: &[u32],
     bests: &[u64],
@@ -103,7 +99,6 @@ pub fn search(
     wanted: usize,
 ) -> Verdict
     requires { ⌜ Problem n start goal (now tails) (now heads) (now weights) (now «first_out») (now «first_in») (now «next_in») (now overall) ⌝ }
-    requires { ⌜ Desk n (now dirty) (now queue) (now labels) (now scratch) ⌝ }
     requires { ⌜ Space n (wanted + 1) (now work) ⌝ }
     requires { ⌜ Blank n (now used) (now barred) (now path) ⌝ }
     requires { ⌜ Priced n start goal (now tails) (now heads) (now «first_out») (now costs) (now bests) ⌝ }
@@ -128,10 +123,6 @@ pub fn search(
         used,
         barred,
         path,
-        dirty,
-        queue,
-        labels,
-        scratch,
         work,
         n,
         slots,
@@ -174,10 +165,6 @@ pub fn search(
             used,
             barred,
             path,
-            dirty,
-            queue,
-            labels,
-            scratch,
             work,
             n,
             slots,

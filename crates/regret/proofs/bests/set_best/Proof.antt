@@ -9,14 +9,14 @@ use Rattle.regret.proofs.BestLaws.{nodes-few, part-inside, part-arrays,
 use Rattle.regret.proofs.bests.set_best.Statement.{statement}
 use Rattle.regret.proofs.bests.set_best.Tie as tie
 
-abbrev start : tie.After-slice-known4 → tie.Start
-start c = c .before .before .before .before .before .before .before .before .before .before
+abbrev start : tie.After-slice-known2 → tie.Start
+start c = c .before .before .before .before .before .before .before .before
 
-abbrev called : tie.After-least → tie.After-slice-known4
-called c = c .before .before .before .before .before
+abbrev called : tie.After-least → tie.After-slice-known2
+called c = c .before .before .before
 
-inside : (c : tie.After-slice-known4) → ((start c .args .u - 1) * length (start c .args .tails .now) + length (start c .args .tails .now) ≤ length (start c .args .costs .now)) × (length (start c .args .costs .now) ≤ 8000)
-inside c = let p = start c .pre in part-inside (p .0) (p .1 .1 .0) (p .1 .1 .1)
+inside : (c : tie.After-slice-known2) → ((start c .args .u - 1) * length (start c .args .tails .now) + length (start c .args .tails .now) ≤ length (start c .args .costs .now)) × (length (start c .args .costs .now) ≤ 8000)
+inside c = let p = start c .pre in part-inside (p .0) (p .1 .0) (p .1 .1)
 
 sub-from : tie.Need-sub-from
 sub-from c = search needs
@@ -40,12 +40,12 @@ part-least-end : tie.Need-part-least-end
 part-least-end c = inside c .0
 
 least-requires : tie.Need-least-requires
-least-requires c κs = let p = start (c .before .before .before .before) .pre in
-    (part-arrays (p .0) (p .1 .1 .0) (p .1 .1 .1), (record { place = omega (arith, p .0 .goal-to, p .0 .places-are); free = p .0 .no-bars _ }, p .1 .0))
+least-requires c κs = let p = start (c .before .before) .pre in
+    (part-arrays (p .0) (p .1 .0) (p .1 .1), record { place = omega (arith, p .0 .goal-to, p .0 .places-are); free = p .0 .no-bars _ })
 
 mul-bests : tie.Need-mul-bests
-mul-bests c = let p = start (called (c .before .before .before .before .before .before)) .pre in
-    omega (arith, p .0 .start-to, nodes-few (p .0) (p .1 .1 .0) (p .1 .1 .1))
+mul-bests c = let p = start (called (c .before .before)) .pre in
+    omega (arith, p .0 .start-to, nodes-few (p .0) (p .1 .0) (p .1 .1))
 
 slice-read-bests : tie.Need-slice-read-bests
 slice-read-bests c = search needs
@@ -65,17 +65,11 @@ same-length c = search needs
 same-length-2 : tie.Need-same-length-2
 same-length-2 c = search needs
 
-same-length-3 : tie.Need-same-length-3
-same-length-3 c = search needs
-
-same-length-4 : tie.Need-same-length-4
-same-length-4 c = search needs
-
 returns : tie.Need-returns
-returns c = let l = c .before .before .before .before .before .before .before in
+returns c = let l = c .before .before .before in
     let s = start (called l) in
     let p = s .pre in
-    λ n e. ap (λ (x : ℕ). set (s .args .bests .now) (s .args .u - 1) x) (best-found (p .0) (p .1 .1 .0) (p .1 .1 .1) (l .least .kept .1 .1 .1 .1 .1 .1 .1 .1 .0) (l .least .ensures) n e)
+    λ n e. ap (λ (x : ℕ). set (s .args .bests .now) (s .args .u - 1) x) (best-found (p .0) (p .1 .0) (p .1 .1) (l .least .kept .1 .1 .1 .1 .1 .1 .0) (l .least .ensures) n e)
 
 pub set-best-spec : {M : Type 1} → statement M
 set-best-spec =
@@ -96,6 +90,4 @@ set-best-spec =
     slice-write-bests
     same-length
     same-length-2
-    same-length-3
-    same-length-4
     returns)
