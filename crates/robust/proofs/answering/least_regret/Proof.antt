@@ -18,21 +18,21 @@ use Rattle.robust.proofs.answering.least_regret.Statement.{statement}
 use Rattle.robust.proofs.answering.least_regret.Tie as tie
 
 -- the places
-abbrev start : tie.After-slice-known10 → tie.Start
-start c = c .before .before .before .before .before .before .before .before .before .before .before .before .before .before .before .before .before .before .before
+abbrev start : tie.After-slice-known4 → tie.Start
+start c = c .before .before .before .before .before .before .before .before .before .before .before
 
 abbrev entry : tie.After-search → tie.Start
 entry x = start (x .before .before .before .before .before .before .before .before .before .before)
 
 abbrev found : tie.After-length-at → tie.After-search
-found k = k .before .before .before .before .before .before .before .before .before .before .before .before .before .before .before .before .before .before .before .before
+found k = k .before .before .before .before .before .before .before .before .before .before .before .before
 
 abbrev sized : tie.After-lay-out → tie.After-length-at
 sized o = o .before .before .before
 
 -- the workspace after the search, the route that is laid out, and the places in which it is
 abbrev work : tie.After-search → List ℕ
-work x = x .search .last .1 .1 .1 .1 .1 .1 .1 .1 .1 .1 .1 .1 .1 .1 .1 .1 .1 .1 .1 .0
+work x = x .search .last .1 .1 .1 .1 .1 .1 .1 .1 .1 .1 .1 .1 .1 .1 .1 .0
 
 abbrev route : tie.After-search → Route
 route x = route-at (entry x .args .start) (entry x .args .n) (work x) (x .search .result .place)
@@ -59,9 +59,12 @@ laid o = let k = sized o in all-laid (k .length-at .result) (route (found k)) (e
 behind : (o : tie.After-lay-out) → places o ≡ take (sized o .length-at .result) (places o) ++ drop (sized o .length-at .result) (entry (found (sized o)) .args .route .now)
 behind o = let k = sized o in behind-laid (k .length-at .result) (route (found k)) (entry (found k) .args .route .now) (places o) (long k) (o .lay-out .ensures)
 
+abbrev ends : tie.After-state → tie.After-search
+ends c = found (sized (c .before .before .before))
+
 search-requires : tie.Need-search-requires
 search-requires c κs = let p = start (c .before .before .before .before .before .before .before .before .before) .pre in
-    (p .0, (p .1 .0, (p .1 .1 .0, (p .1 .1 .1 .0, (p .1 .1 .1 .1 .0, (p .1 .1 .1 .1 .1 .0, p .1 .1 .1 .1 .1 .1 .0))))))
+    (p .0, (p .1 .0, (p .1 .1 .0, (p .1 .1 .1 .0, (p .1 .1 .1 .1 .0, p .1 .1 .1 .1 .1 .0)))))
 
 length-at-requires : tie.Need-length-at-requires
 length-at-requires c κs = search needs
@@ -69,15 +72,12 @@ length-at-requires c κs = search needs
 lay-out-requires : tie.Need-lay-out-requires
 lay-out-requires c κs = let k = c .before .before in
     let x = found k in
-    (decided x .rooted, (omega (arith, k .length-at .ensures, fits x .some), omega (arith, k .length-at .ensures), omega (arith, short k, entry x .pre .1 .1 .1 .1 .1 .1 .1)))
+    (decided x .rooted, (omega (arith, k .length-at .ensures, fits x .some), omega (arith, k .length-at .ensures), omega (arith, short k, entry x .pre .1 .1 .1 .1 .1 .1)))
 
 state-requires : tie.Need-state-requires
 state-requires c κs = let k = sized (c .before .before) in
     let D = decided (found k) in
     (D .figure-small, D .floor-small, D .count-small, omega (arith, short k, D .rooted .readable .few))
-
-abbrev ends : tie.After-state → tie.After-search
-ends c = found (sized (c .before .before .before))
 
 same-length : tie.Need-same-length
 same-length c = ends c .search .kept .1 .1 .1 .1 .1 .1 .1 .1 .1 .0
@@ -92,22 +92,10 @@ same-length-4 : tie.Need-same-length-4
 same-length-4 c = ends c .search .kept .1 .1 .1 .1 .1 .1 .1 .1 .1 .1 .1 .1 .0
 
 same-length-5 : tie.Need-same-length-5
-same-length-5 c = ends c .search .kept .1 .1 .1 .1 .1 .1 .1 .1 .1 .1 .1 .1 .1 .0
+same-length-5 c = ends c .search .kept .1 .1 .1 .1 .1 .1 .1 .1 .1 .1 .1 .1 .1 .1 .1 .0
 
 same-length-6 : tie.Need-same-length-6
-same-length-6 c = ends c .search .kept .1 .1 .1 .1 .1 .1 .1 .1 .1 .1 .1 .1 .1 .1 .0
-
-same-length-7 : tie.Need-same-length-7
-same-length-7 c = ends c .search .kept .1 .1 .1 .1 .1 .1 .1 .1 .1 .1 .1 .1 .1 .1 .1 .0
-
-same-length-8 : tie.Need-same-length-8
-same-length-8 c = ends c .search .kept .1 .1 .1 .1 .1 .1 .1 .1 .1 .1 .1 .1 .1 .1 .1 .1 .0
-
-same-length-9 : tie.Need-same-length-9
-same-length-9 c = ends c .search .kept .1 .1 .1 .1 .1 .1 .1 .1 .1 .1 .1 .1 .1 .1 .1 .1 .1 .1 .1 .0
-
-same-length-10 : tie.Need-same-length-10
-same-length-10 c = c .before .before .before .lay-out .kept .1 .1 .1 .1 .1 .0
+same-length-6 c = c .before .before .before .lay-out .kept .1 .1 .1 .1 .1 .0
 
 returns : tie.Need-returns
 returns c = let o = c .before .before .before in
@@ -139,8 +127,4 @@ least-regret-spec =
     same-length-4
     same-length-5
     same-length-6
-    same-length-7
-    same-length-8
-    same-length-9
-    same-length-10
     returns)
