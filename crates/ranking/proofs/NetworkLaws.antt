@@ -15,6 +15,7 @@ use Rattle.labels.proofs.ArcLaws.{arrays-of, graph-within}
 use Rattle.labels.proofs.LabelLaws.{label-le}
 use Rattle.ranking.specs.Exits.{Unmarked}
 use Rattle.ranking.specs.Flags.{Flagged, Fresh}
+use Rattle.ranking.specs.Ranking.{Problem}
 use Rattle.ranking.specs.Star.{Star, Network, Heads, Starts, Small}
 use Rattle.ranking.specs.Walks.{Consistent, Choice}
 use Rattle.ranking.proofs.FlagLaws.{flags-none, least-exact}
@@ -71,3 +72,7 @@ module _ {k : ℕ} {ts hs ws outs ins nexts : List ℕ} (net : Network k ts hs w
   choice-fresh {v} {y} c =
       let w = graph-within (net .arcs) v y (c .exit .arc) in
       record { from = w .0; upto = omega (arith, w .1, net .places); unflagged = c .exit .is-open .unused }
+
+-- ---- of a problem
+pub problem-few : {n s t : ℕ} {ts hs ws outs ins nexts overall : List ℕ} → Problem n s t ts hs ws outs ins nexts overall → n ≤ 200
+problem-few P = omega (arith, network-few (P .network))

@@ -126,7 +126,7 @@ fn advance(
 
 // Ranks the first paths from start to goal, as many as there are slots or all, and returns their
 // number. No node is flagged, before and after; overall are the labels to the goal.
-pub fn rank_paths(
+fn rank_in(
     tails: &[u16],
     heads: &[u16],
     weights: &[u32],
@@ -191,4 +191,46 @@ pub fn rank_paths(
         j += 1;
     }
     count
+}
+
+// The same, with room made for the flags and for a path.
+pub fn rank_paths(
+    tails: &[u16],
+    heads: &[u16],
+    weights: &[u32],
+    first_out: &[u16],
+    first_in: &[u16],
+    next_in: &[u16],
+    start: u16,
+    goal: usize,
+    overall: &[u64],
+    work: &mut [u32],
+    n: usize,
+    slots: usize,
+) -> usize
+    requires { ⌜ Problem n start goal (now tails) (now heads) (now weights) (now «first_out») (now «first_in») (now «next_in») (now overall) ⌝ }
+    requires { ⌜ Space n slots (now work) ⌝ }
+    ensures { λ r. ⌜ Ranked n slots (graph (now (tails .entry)) (now (heads .entry)) (now (weights .entry))) start goal (now (work .entry)) (now (work .exit)) r ⌝ }
+{
+    let mut used = [0u8; 201];
+    let mut barred = [0u8; 201];
+    let mut path = [0u16; 200];
+    let places = n + 1;
+    rank_in(
+        tails,
+        heads,
+        weights,
+        first_out,
+        first_in,
+        next_in,
+        start,
+        goal,
+        overall,
+        &mut used[..places],
+        &mut barred[..places],
+        &mut path[..n],
+        work,
+        n,
+        slots,
+    )
 }

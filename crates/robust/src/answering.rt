@@ -7,7 +7,7 @@ ghost use Rattle.terms.specs.Paths.{Route};
 ghost use Rattle.terms.specs.Ranking.{ranked};
 ghost use Rattle.terms.specs.Robust.{robust};
 ghost use Rattle.labels.specs.Arcs.{graph};
-ghost use Rattle.ranking.specs.Ranking.{Problem, Space, Blank};
+ghost use Rattle.ranking.specs.Ranking.{Problem, Space};
 ghost use Rattle.regret.specs.Columns.{network};
 ghost use Rattle.robust.specs.Answers.{chosen-length, answered};
 ghost use Rattle.robust.specs.Counting.{Priced, InColumn};
@@ -47,8 +47,7 @@ fn state(found: Verdict, length: usize) -> Answer
 }
 
 // Document 01, call 6, on arrays: writes the chosen path over the beginning of route. In the column there
-// is a path; overall are labels to the goal, and bests the least cost in each column. No node is flagged,
-// before and after.
+// is a path; overall are labels to the goal, and bests the least cost in each column.
 pub fn least_regret(
     tails: &[u16],
     heads: &[u16],
@@ -59,10 +58,6 @@ pub fn least_regret(
     start: u16,
     goal: usize,
     overall: &[u64],
-    used: &mut [u8],
-    barred: &mut [u8],
-    path: &mut [u16],
-    arcs: &mut [u16],
     costs: &[u32],
     bests: &[u64],
     work: &mut [u32],
@@ -73,12 +68,10 @@ pub fn least_regret(
 ) -> Answer
     requires { ⌜ Problem n start goal (now tails) (now heads) (now weights) (now «first_out») (now «first_in») (now «next_in») (now overall) ⌝ }
     requires { ⌜ Space n (wanted + 1) (now work) ⌝ }
-    requires { ⌜ Blank n (now used) (now barred) (now path) ⌝ }
     requires { ⌜ Priced n start goal (now tails) (now heads) (now «first_out») (now costs) (now bests) ⌝ }
     requires { ⌜ InColumn column (length (now bests)) (now tails) (now weights) (now costs) ⌝ }
-    requires { ⌜ (1 ≤ wanted) × (n ≤ length (now arcs) + 1) × (1 ≤ length (ranked n (graph (now tails) (now heads) (now weights)) start goal)) ⌝ }
+    requires { ⌜ (1 ≤ wanted) × (1 ≤ length (ranked n (graph (now tails) (now heads) (now weights)) start goal)) ⌝ }
     requires { ⌜ n ≤ length (now route) ⌝ }
-    ensures { λ _. ⌜ (now (used .exit) ≡ now (used .entry)) × (now (barred .exit) ≡ now (barred .entry)) ⌝ }
     ensures { λ _. ⌜ drop ((wanted + 1) * (n + 16)) (now (work .exit)) ≡ drop ((wanted + 1) * (n + 16)) (now (work .entry)) ⌝ }
     ensures { λ r. ⌜ answered (take (chosen-length r) (now (route .exit))) r ≡ robust (network n (length (now (bests .entry))) (now (tails .entry)) (now (heads .entry)) (now (costs .entry))) column start goal wanted ⌝ }
     ensures { λ r. ⌜ (now (route .exit) ≡ take (chosen-length r) (now (route .exit)) ++ drop (chosen-length r) (now (route .entry))) × (chosen-length r ≤ n) ⌝ }
@@ -93,10 +86,6 @@ pub fn least_regret(
         start,
         goal,
         overall,
-        used,
-        barred,
-        path,
-        arcs,
         costs,
         bests,
         work,

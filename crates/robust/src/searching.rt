@@ -77,7 +77,7 @@ fn judge(work: &[u32], n: usize, count: usize, counted: usize, best: u64, leader
 // Ranks and counts paths in the ranking order of the column until the rule holds, or as many as wanted
 // are counted. What is left out on the way costs too much to count or to be the floor: at least the
 // column's best and the least figure so far. No node is flagged, before and after.
-pub fn search(
+fn search_in(
     tails: &[u16],
     heads: &[u16],
     weights: &[u32],
@@ -175,4 +175,58 @@ pub fn search(
         j += 1;
     }
     judge(work, n, count, j, best, leader)
+}
+
+// The same, with room made for the flags, a path and its arcs.
+pub fn search(
+    tails: &[u16],
+    heads: &[u16],
+    weights: &[u32],
+    first_out: &[u16],
+    first_in: &[u16],
+    next_in: &[u16],
+    start: u16,
+    goal: usize,
+    overall: &[u64],
+    costs: &[u32],
+    bests: &[u64],
+    work: &mut [u32],
+    n: usize,
+    column: usize,
+    wanted: usize,
+) -> Verdict
+    requires { ⌜ Problem n start goal (now tails) (now heads) (now weights) (now «first_out») (now «first_in») (now «next_in») (now overall) ⌝ }
+    requires { ⌜ Space n (wanted + 1) (now work) ⌝ }
+    requires { ⌜ Priced n start goal (now tails) (now heads) (now «first_out») (now costs) (now bests) ⌝ }
+    requires { ⌜ InColumn column (length (now bests)) (now tails) (now weights) (now costs) ⌝ }
+    requires { ⌜ (1 ≤ wanted) × (1 ≤ length (ranked n (graph (now tails) (now heads) (now weights)) start goal)) ⌝ }
+    ensures { λ _. ⌜ drop ((wanted + 1) * (n + 16)) (now (work .exit)) ≡ drop ((wanted + 1) * (n + 16)) (now (work .entry)) ⌝ }
+    ensures { λ r. ⌜ Decided n start (now (work .exit)) (robust (network n (length (now (bests .entry))) (now (tails .entry)) (now (heads .entry)) (now (costs .entry))) column start goal wanted) r ⌝ }
+{
+    let mut used = [0u8; 201];
+    let mut barred = [0u8; 201];
+    let mut path = [0u16; 200];
+    let mut arcs = [0u16; 200];
+    let places = n + 1;
+    search_in(
+        tails,
+        heads,
+        weights,
+        first_out,
+        first_in,
+        next_in,
+        start,
+        goal,
+        overall,
+        &mut used[..places],
+        &mut barred[..places],
+        &mut path[..n],
+        &mut arcs[..n],
+        costs,
+        bests,
+        work,
+        n,
+        column,
+        wanted,
+    )
 }

@@ -18,21 +18,21 @@ use Rattle.robust.proofs.answering.least_regret.Statement.{statement}
 use Rattle.robust.proofs.answering.least_regret.Tie as tie
 
 -- the places
-abbrev start : tie.After-slice-known4 → tie.Start
-start c = c .before .before .before .before .before .before .before .before .before .before .before
+abbrev start : tie.After-shared-slice-known3 → tie.Start
+start c = c .before .before .before
 
 abbrev entry : tie.After-search → tie.Start
 entry x = start (x .before .before .before .before .before .before .before .before .before .before)
 
 abbrev found : tie.After-length-at → tie.After-search
-found k = k .before .before .before .before .before .before .before .before .before .before .before .before
+found k = k .before .before .before .before
 
 abbrev sized : tie.After-lay-out → tie.After-length-at
 sized o = o .before .before .before
 
 -- the workspace after the search, the route that is laid out, and the places in which it is
 abbrev work : tie.After-search → List ℕ
-work x = x .search .last .1 .1 .1 .1 .1 .1 .1 .1 .1 .1 .1 .1 .1 .1 .1 .0
+work x = x .search .last .1 .1 .1 .1 .1 .1 .1 .1 .1 .1 .1 .0
 
 abbrev route : tie.After-search → Route
 route x = route-at (entry x .args .start) (entry x .args .n) (work x) (x .search .result .place)
@@ -42,7 +42,7 @@ places o = o .lay-out .last .1 .1 .1 .1 .1 .0
 
 decided : (x : tie.After-search) → let s = entry x in
     Decided (s .args .n) (s .args .start) (work x) (robust (network (s .args .n) (length (s .args .bests .now)) (s .args .tails .now) (s .args .heads .now) (s .args .costs .now)) (s .args .column) (s .args .start) (s .args .goal) (s .args .wanted)) (x .search .result)
-decided x = x .search .ensures .1 .1
+decided x = x .search .ensures .1
 
 fits : (x : tie.After-search) → let s = entry x in Fits (s .args .n) (entries (s .args .n) (work x) (x .search .result .place + 1)) (x .search .result .place) (entry-at (s .args .n) (work x) (x .search .result .place))
 fits x = rooted-fits (entry x .args .n) (work x) (x .search .result .place) (decided x .rooted)
@@ -64,7 +64,7 @@ ends c = found (sized (c .before .before .before))
 
 search-requires : tie.Need-search-requires
 search-requires c κs = let p = start (c .before .before .before .before .before .before .before .before .before) .pre in
-    (p .0, (p .1 .0, (p .1 .1 .0, (p .1 .1 .1 .0, (p .1 .1 .1 .1 .0, p .1 .1 .1 .1 .1 .0)))))
+    (p .0, (p .1 .0, (p .1 .1 .0, (p .1 .1 .1 .0, p .1 .1 .1 .1 .0))))
 
 length-at-requires : tie.Need-length-at-requires
 length-at-requires c κs = search needs
@@ -72,7 +72,7 @@ length-at-requires c κs = search needs
 lay-out-requires : tie.Need-lay-out-requires
 lay-out-requires c κs = let k = c .before .before in
     let x = found k in
-    (decided x .rooted, (omega (arith, k .length-at .ensures, fits x .some), omega (arith, k .length-at .ensures), omega (arith, short k, entry x .pre .1 .1 .1 .1 .1 .1)))
+    (decided x .rooted, (omega (arith, k .length-at .ensures, fits x .some), omega (arith, k .length-at .ensures), omega (arith, short k, entry x .pre .1 .1 .1 .1 .1)))
 
 state-requires : tie.Need-state-requires
 state-requires c κs = let k = sized (c .before .before) in
@@ -80,22 +80,10 @@ state-requires c κs = let k = sized (c .before .before) in
     (D .figure-small, D .floor-small, D .count-small, omega (arith, short k, D .rooted .readable .few))
 
 same-length : tie.Need-same-length
-same-length c = ends c .search .kept .1 .1 .1 .1 .1 .1 .1 .1 .1 .0
+same-length c = ends c .search .kept .1 .1 .1 .1 .1 .1 .1 .1 .1 .1 .1 .0
 
 same-length-2 : tie.Need-same-length-2
-same-length-2 c = ends c .search .kept .1 .1 .1 .1 .1 .1 .1 .1 .1 .1 .0
-
-same-length-3 : tie.Need-same-length-3
-same-length-3 c = ends c .search .kept .1 .1 .1 .1 .1 .1 .1 .1 .1 .1 .1 .0
-
-same-length-4 : tie.Need-same-length-4
-same-length-4 c = ends c .search .kept .1 .1 .1 .1 .1 .1 .1 .1 .1 .1 .1 .1 .0
-
-same-length-5 : tie.Need-same-length-5
-same-length-5 c = ends c .search .kept .1 .1 .1 .1 .1 .1 .1 .1 .1 .1 .1 .1 .1 .1 .1 .0
-
-same-length-6 : tie.Need-same-length-6
-same-length-6 c = c .before .before .before .lay-out .kept .1 .1 .1 .1 .1 .0
+same-length-2 c = c .before .before .before .lay-out .kept .1 .1 .1 .1 .1 .0
 
 returns : tie.Need-returns
 returns c = let o = c .before .before .before in
@@ -105,11 +93,8 @@ returns c = let o = c .before .before .before in
     let S = c .state .ensures in (
       E .0,
       (
-        E .1 .0,
-        (
-          S .1 _ ∙ ap (λ (p : Route). told p (x .search .result)) (ap (λ (i : ℕ). take i (places o)) (S .0) ∙ laid o) ∙ decided x .answers,
-          (subst (λ (i : ℕ). places o ≡ take i (places o) ++ drop i (entry x .args .route .now)) (sym (S .0)) (behind o), omega (arith, S .0, short k)),
-        ),
+        S .1 _ ∙ ap (λ (p : Route). told p (x .search .result)) (ap (λ (i : ℕ). take i (places o)) (S .0) ∙ laid o) ∙ decided x .answers,
+        (subst (λ (i : ℕ). places o ≡ take i (places o) ++ drop i (entry x .args .route .now)) (sym (S .0)) (behind o), omega (arith, S .0, short k)),
       ),
     )
 
@@ -123,8 +108,4 @@ least-regret-spec =
     state-requires
     same-length
     same-length-2
-    same-length-3
-    same-length-4
-    same-length-5
-    same-length-6
     returns)
