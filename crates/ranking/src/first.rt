@@ -50,15 +50,7 @@ fn steps(
     let mut len = at;
     let mut x = path[at - 1] as usize;
     while x != goal {
-        least(
-            tails,
-            weights,
-            first_in,
-            next_in,
-            used,
-            goal,
-            labels,
-        );
+        least(tails, weights, first_in, next_in, used, goal, labels);
         let Next::Node(y, _) = least_exit(heads, weights, first_out, x, labels, used, used) else {
             return len;
         };
@@ -134,15 +126,7 @@ fn by_labels(
     ensures { λ r. ⌜ Kept (now (used .entry)) (now (path .entry)) d (now (used .exit)) (now (path .exit)) r ⌝ }
     ensures { λ r. ⌜ ((s : ℕ) (F : List ℕ) → Beginning (graph (now (tails .entry)) (now (heads .entry)) (now (weights .entry))) s goal (take d (now (path .entry))) → Flagged (now (barred .entry)) F → FirstFound (graph (now (tails .entry)) (now (heads .entry)) (now (weights .entry))) s goal (branch (take d (now (path .entry))) F) (now (path .exit)) r) ⌝ }
 {
-    least(
-        tails,
-        weights,
-        first_in,
-        next_in,
-        used,
-        goal,
-        labels,
-    );
+    least(tails, weights, first_in, next_in, used, goal, labels);
     let v = path[d - 1] as usize;
     let Next::Node(y, l) = least_exit(heads, weights, first_out, v, labels, used, barred) else {
         return Found::Empty;

@@ -59,22 +59,11 @@ pub record ArcRoom (m : ℕ) (ts hs ws nexts : List ℕ) : Type 0 where
   pub weights-long : length ws ≡ m
   pub nexts-long : length nexts ≡ m
 
--- a place for each node and one more; no node is barred
-pub record NodeRoom (n : ℕ) (outs ins bars dirty queue ls : List ℕ) : Type 0 where
+-- a place for each node and one more, and one more again for the starts of the arcs out of each
+pub record NodeRoom (n : ℕ) (outs ins ls : List ℕ) : Type 0 where
   pub outs-long : length outs ≡ n + 2
   pub ins-long : length ins ≡ n + 1
-  pub bars-long : length bars ≡ n + 1
-  pub no-bars : (x : ℕ) → getD bars x 0 ≡ 0
-  pub dirty-long : length dirty ≡ n + 1
-  pub queue-long : length queue ≡ n + 1
   pub labels-long : length ls ≡ n + 1
-
--- and for a walk: no node is used
-pub record WalkRoom (n : ℕ) (used ls route : List ℕ) : Type 0 where
-  pub used-long : length used ≡ n + 1
-  pub unused : (x : ℕ) → getD used x 0 ≡ 0
-  pub labels-long : length ls ≡ n + 1
-  pub route-long : length route ≡ n
 
 -- slices long enough for K paths: K rows, K costs and the workspace's slots
 pub record ListSlices (n K : ℕ) (rows costs work : List ℕ) : Type 0 where
@@ -116,10 +105,8 @@ pub record Held (net : Net) (s t : ℕ) (ts hs outs costs bests : List ℕ) : Ty
   pub costs-of : (u : ℕ) → 1 ≤ u → u ≤ length bests → column-costs (length ts) costs u ≡ getD (net .columns) (u - 1) []
   pub priced : Priced (net .nodes) s t ts hs outs costs bests
 
--- room for k columns of m arcs, and to measure a path
-pub record ChoiceRoom (n m k : ℕ) (scratch arcs costs bests : List ℕ) : Type 0 where
-  pub scratch-long : length scratch ≡ n
-  pub arcs-long : length arcs ≡ n
+-- room for k columns of m arcs
+pub record ChoiceRoom (m k : ℕ) (costs bests : List ℕ) : Type 0 where
   pub costs-long : length costs ≡ m * k
   pub bests-long : length bests ≡ k
 

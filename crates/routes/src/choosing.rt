@@ -19,8 +19,7 @@ ghost use Rattle.terms.specs.Paths.{Route};
 ghost use Rattle.terms.specs.Ranking.{ranked};
 ghost use Rattle.terms.specs.Robust.{robust};
 ghost use Rattle.labels.specs.Arcs.{graph};
-ghost use Rattle.labels.specs.Arrays.{Room};
-ghost use Rattle.ranking.specs.Ranking.{Problem, Desk, Space, Blank};
+ghost use Rattle.ranking.specs.Ranking.{Problem, Space};
 ghost use Rattle.ranking.specs.Star.{Star};
 ghost use Rattle.regret.specs.Columns.{network};
 ghost use Rattle.robust.specs.Answers.{chosen-length, answered};
@@ -32,7 +31,7 @@ ghost use Rattle.image.specs.Calls.{sizes};
 ghost use Rattle.image.specs.Answers.{checked};
 ghost use Rattle.routes.specs.Answers.{decided};
 ghost use Rattle.routes.specs.Calls.{no-path-row, choice-rows, robust-rows, robust-fault, robust-of, chosen, robust-values, robust-outcome, cleared};
-ghost use Rattle.routes.specs.Decoded.{Accepted, InColumn, ArcRoom, NodeRoom, WalkRoom, Ends, Reached, Held, ChoiceRoom, ChoiceSlices};
+ghost use Rattle.routes.specs.Decoded.{Accepted, InColumn, ArcRoom, NodeRoom, Ends, Reached, Held, ChoiceRoom, ChoiceSlices};
 ghost use Rattle.routes.specs.Demands.{Kept3};
 
 // A path with the least figure among those counted.
@@ -109,14 +108,6 @@ fn choose_priced(
     start: u16,
     goal: usize,
     overall: &[u64],
-    used: &mut [u8],
-    barred: &mut [u8],
-    laid: &mut [u16],
-    dirty: &mut [u8],
-    queue: &mut [u16],
-    labels: &mut [u64],
-    scratch: &mut [u16],
-    arcs: &mut [u16],
     costs: &[u32],
     bests: &[u64],
     work: &mut [u32],
@@ -126,9 +117,9 @@ fn choose_priced(
     path: &mut [u16],
 ) -> Decided
     requires { ⌜ Problem n start goal (now tails) (now heads) (now weights) (now «first_out») (now «first_in») (now «next_in») (now overall) ⌝ }
-    requires { ⌜ Desk n (now dirty) (now queue) (now labels) (now scratch) × Space n (wanted + 1) (now work) × Blank n (now used) (now barred) (now laid) ⌝ }
+    requires { ⌜ Space n (wanted + 1) (now work) ⌝ }
     requires { ⌜ Priced n start goal (now tails) (now heads) (now «first_out») (now costs) (now bests) × robust.InColumn column (length (now bests)) (now tails) (now weights) (now costs) ⌝ }
-    requires { ⌜ (1 ≤ wanted) × (n ≤ length (now arcs) + 1) × (1 ≤ length (ranked n (graph (now tails) (now heads) (now weights)) start goal)) × (n ≤ length (now path)) ⌝ }
+    requires { ⌜ (1 ≤ wanted) × (1 ≤ length (ranked n (graph (now tails) (now heads) (now weights)) start goal)) × (n ≤ length (now path)) ⌝ }
     ensures { λ r. ⌜ decided r ≡ gives (robust-values (robust (network n (length (now (bests .entry))) (now (tails .entry)) (now (heads .entry)) (now (costs .entry))) column start goal wanted)) ⌝ }
     ensures { λ _. ⌜ now (path .exit) ≡ after sound (chosen (robust (network n (length (now (bests .entry))) (now (tails .entry)) (now (heads .entry)) (now (costs .entry))) column start goal wanted)) (now (path .entry)) ⌝ }
     ensures { λ _. ⌜ now (work .exit) ≡ replicate (length (now (work .entry))) 0 ⌝ }
@@ -143,14 +134,6 @@ fn choose_priced(
         start,
         goal,
         overall,
-        used,
-        barred,
-        laid,
-        dirty,
-        queue,
-        labels,
-        scratch,
-        arcs,
         costs,
         bests,
         work,
@@ -173,35 +156,30 @@ fn price(
     first_out: &[u16],
     first_in: &[u16],
     next_in: &[u16],
-    barred: &[u8],
     start: usize,
     goal: usize,
-    dirty: &mut [u8],
-    queue: &mut [u16],
-    labels: &mut [u64],
     costs: &mut [u32],
     bests: &mut [u64],
 )
     requires { ⌜ Accepted (now image) (netOf (now image) .nodes) m k ⌝ }
     requires { ⌜ Reached (netOf (now image)) start goal (now tails) (now heads) (now «first_in») (now «next_in») × Star (netOf (now image) .nodes) (now tails) (now heads) (now «first_out») ⌝ }
-    requires { ⌜ (length (now labels) ≡ netOf (now image) .nodes + 1) × Room (length (now labels)) (now dirty) (now queue) × (length (now barred) ≡ length (now labels)) ⌝ }
-    requires { ⌜ ((x : ℕ) → getD (now barred) x 0 ≡ 0) ⌝ }
     requires { ⌜ (length (now costs) ≡ m * k) × (length (now bests) ≡ k) ⌝ }
     ensures { λ _. ⌜ Held (netOf (now (image .entry))) start goal (now (tails .entry)) (now (heads .entry)) (now («first_out» .entry)) (now (costs .exit)) (now (bests .exit)) ⌝ }
 {
     read_columns(image, m, k, costs);
+    let barred = [0u8; 201];
+    let mut labels = [0u64; 201];
+    let places = first_in.len();
     column_bests(
         tails,
         heads,
         first_in,
         next_in,
         costs,
-        barred,
+        &barred[..places],
         start,
         goal,
-        dirty,
-        queue,
-        labels,
+        &mut labels[..places],
         bests,
     );
 }
@@ -222,15 +200,7 @@ fn choose_in(
     first_out: &mut [u16],
     first_in: &mut [u16],
     next_in: &mut [u16],
-    used: &mut [u8],
-    barred: &mut [u8],
-    dirty: &mut [u8],
-    queue: &mut [u16],
     overall: &mut [u64],
-    labels: &mut [u64],
-    laid: &mut [u16],
-    scratch: &mut [u16],
-    arcs: &mut [u16],
     costs: &mut [u32],
     bests: &mut [u64],
     work: &mut [u32],
@@ -238,9 +208,8 @@ fn choose_in(
 ) -> Decided
     requires { ⌜ Accepted (now image) (netOf (now image) .nodes) m k × InColumn (now image) m r × Ends (netOf (now image) .nodes) start goal ⌝ }
     requires { ⌜ ArcRoom m (now tails) (now heads) (now weights) (now «next_in») ⌝ }
-    requires { ⌜ NodeRoom (netOf (now image) .nodes) (now «first_out») (now «first_in») (now barred) (now dirty) (now queue) (now overall) ⌝ }
-    requires { ⌜ WalkRoom (netOf (now image) .nodes) (now used) (now labels) (now laid) ⌝ }
-    requires { ⌜ ChoiceRoom (netOf (now image) .nodes) m k (now scratch) (now arcs) (now costs) (now bests) ⌝ }
+    requires { ⌜ NodeRoom (netOf (now image) .nodes) (now «first_out») (now «first_in») (now overall) ⌝ }
+    requires { ⌜ ChoiceRoom m k (now costs) (now bests) ⌝ }
     requires { ⌜ ChoiceSlices (netOf (now image) .nodes) wanted (now path) (now work) ⌝ }
     ensures { λ d. ⌜ decided d ≡ outcome (no-path-row (netOf (now (image .entry)) .nodes) (column (netOf (now (image .entry))) r) start goal) (robust-values (robust-of (now (image .entry)) r start goal wanted)) ⌝ }
     ensures { λ _. ⌜ now (path .exit) ≡ after (no-path-row (netOf (now (image .entry)) .nodes) (column (netOf (now (image .entry))) r) start goal) (chosen (robust-of (now (image .entry)) r start goal wanted)) (now (path .entry)) ⌝ }
@@ -257,9 +226,6 @@ fn choose_in(
         first_out,
         first_in,
         next_in,
-        barred,
-        dirty,
-        queue,
         overall,
     );
     if overall[start as usize] == FAR {
@@ -274,16 +240,12 @@ fn choose_in(
         first_out,
         first_in,
         next_in,
-        barred,
         start as usize,
         goal,
-        dirty,
-        queue,
-        labels,
         costs,
         bests,
     );
-    let n = laid.len();
+    let n = overall.len() - 1;
     choose_priced(
         tails,
         heads,
@@ -294,14 +256,6 @@ fn choose_in(
         start,
         goal,
         overall,
-        used,
-        barred,
-        laid,
-        dirty,
-        queue,
-        labels,
-        scratch,
-        arcs,
         costs,
         bests,
         work,
@@ -335,15 +289,7 @@ fn choose(
     let mut next_in = [0u16; 1000];
     let mut first_out = [0u16; 202];
     let mut first_in = [0u16; 201];
-    let mut used = [0u8; 201];
-    let mut barred = [0u8; 201];
-    let mut dirty = [0u8; 201];
-    let mut queue = [0u16; 201];
     let mut overall = [0u64; 201];
-    let mut labels = [0u64; 201];
-    let mut laid = [0u16; 200];
-    let mut scratch = [0u16; 200];
-    let mut arcs = [0u16; 200];
     let mut costs = [0u32; 8000];
     let mut bests = [0u64; 8];
     let m = sizes.m as usize;
@@ -366,15 +312,7 @@ fn choose(
         &mut first_out[..starts],
         &mut first_in[..places],
         &mut next_in[..m],
-        &mut used[..places],
-        &mut barred[..places],
-        &mut dirty[..places],
-        &mut queue[..places],
         &mut overall[..places],
-        &mut labels[..places],
-        &mut laid[..nodes],
-        &mut scratch[..nodes],
-        &mut arcs[..nodes],
         &mut costs[..all],
         &mut bests[..k],
         work,

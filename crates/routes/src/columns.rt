@@ -26,30 +26,18 @@ fn label_column_in(
     next_in: &mut [u16],
     first_in: &mut [u16],
     barred: &[u8],
-    dirty: &mut [u8],
-    queue: &mut [u16],
     labels: &mut [u64],
 )
     requires { ⌜ InColumn (now image) m u ⌝ }
     requires { ⌜ Node (netOf (now image) .nodes) goal ⌝ }
     requires { ⌜ (length (now tails) ≡ m) × (length (now heads) ≡ m) × (length (now weights) ≡ m) × (length (now «next_in») ≡ m) ⌝ }
-    requires { ⌜ (length (now labels) ≡ netOf (now image) .nodes + 1) × (length (now «first_in») ≡ length (now labels)) × (length (now barred) ≡ length (now labels)) × (length (now dirty) ≡ length (now labels)) × (length (now queue) ≡ length (now labels)) ⌝ }
+    requires { ⌜ (length (now labels) ≡ netOf (now image) .nodes + 1) × (length (now «first_in») ≡ length (now labels)) × (length (now barred) ≡ length (now labels)) ⌝ }
     requires { ⌜ ((x : ℕ) → getD (now barred) x 0 ≡ 0) ⌝ }
     ensures { λ _. ⌜ Least (column (netOf (now (image .entry))) u) [] goal (now (labels .exit)) ⌝ }
 {
     decode(image, m, u, tails, heads, weights);
     chain(heads, first_in, next_in);
-    least(
-        tails,
-        weights,
-        first_in,
-        next_in,
-        barred,
-        goal,
-        dirty,
-        queue,
-        labels,
-    );
+    least(tails, weights, first_in, next_in, barred, goal, labels);
 }
 
 // The labels of column u: for each node the least cost to the goal, with no node barred.
@@ -65,8 +53,6 @@ pub fn label_column(image: &[u8], m: u32, u: u32, goal: u32, labels: &mut [u64])
     let mut next_in = [0u16; 1000];
     let mut first_in = [0u16; 201];
     let barred = [0u8; 201];
-    let mut dirty = [0u8; 201];
-    let mut queue = [0u16; 201];
     let arcs = m as usize;
     let places = labels.len();
     label_column_in(
@@ -80,8 +66,6 @@ pub fn label_column(image: &[u8], m: u32, u: u32, goal: u32, labels: &mut [u64])
         &mut next_in[..arcs],
         &mut first_in[..places],
         &barred[..places],
-        &mut dirty[..places],
-        &mut queue[..places],
         labels,
     );
 }

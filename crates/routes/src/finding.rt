@@ -20,7 +20,7 @@ ghost use Rattle.image.specs.Calls.{sizes};
 ghost use Rattle.image.specs.Answers.{checked};
 ghost use Rattle.routes.specs.Answers.{routed};
 ghost use Rattle.routes.specs.Calls.{shortest-rows, path-rows, shortest-fault, shortest-of, shortest-values, shortest-outcome};
-ghost use Rattle.routes.specs.Decoded.{Node, InColumn, ArcRoom, NodeRoom, WalkRoom, Ends};
+ghost use Rattle.routes.specs.Decoded.{Node, InColumn, ArcRoom, NodeRoom, Ends};
 
 // Shortest's answer.
 pub enum Routed {
@@ -57,18 +57,13 @@ fn find_in(
     first_out: &mut [u16],
     first_in: &mut [u16],
     next_in: &mut [u16],
-    used: &mut [u8],
-    barred: &[u8],
-    dirty: &mut [u8],
-    queue: &mut [u16],
     overall: &mut [u64],
-    labels: &mut [u64],
     route: &mut [u16],
 ) -> Found
     requires { ⌜ InColumn (now image) m u × Ends (netOf (now image) .nodes) start goal ⌝ }
     requires { ⌜ ArcRoom m (now tails) (now heads) (now weights) (now «next_in») ⌝ }
-    requires { ⌜ NodeRoom (netOf (now image) .nodes) (now «first_out») (now «first_in») (now barred) (now dirty) (now queue) (now overall) ⌝ }
-    requires { ⌜ WalkRoom (netOf (now image) .nodes) (now used) (now labels) (now route) ⌝ }
+    requires { ⌜ NodeRoom (netOf (now image) .nodes) (now «first_out») (now «first_in») (now overall) ⌝ }
+    requires { ⌜ length (now route) ≡ netOf (now image) .nodes ⌝ }
     ensures { λ r. ⌜ Extent 1 (now (route .exit)) r ⌝ }
     ensures { λ r. ⌜ FirstFound (column (netOf (now (image .entry))) u) start goal (everything start) (now (route .exit)) r ⌝ }
 {
@@ -83,11 +78,11 @@ fn find_in(
         first_out,
         first_in,
         next_in,
-        barred,
-        dirty,
-        queue,
         overall,
     );
+    let mut used = [0u8; 201];
+    let barred = [0u8; 201];
+    let places = overall.len();
     first_path(
         tails,
         heads,
@@ -98,12 +93,9 @@ fn find_in(
         start,
         goal,
         overall,
-        used,
-        barred,
+        &mut used[..places],
+        &barred[..places],
         route,
-        dirty,
-        queue,
-        labels,
     )
 }
 
@@ -120,12 +112,7 @@ fn find(image: &[u8], m: u32, u: u32, start: u32, goal: u32, route: &mut [u16]) 
     let mut next_in = [0u16; 1000];
     let mut first_out = [0u16; 202];
     let mut first_in = [0u16; 201];
-    let mut used = [0u8; 201];
-    let barred = [0u8; 201];
-    let mut dirty = [0u8; 201];
-    let mut queue = [0u16; 201];
     let mut overall = [0u64; 201];
-    let mut labels = [0u64; 201];
     let arcs = m as usize;
     let places = route.len() + 1;
     let starts = route.len() + 2;
@@ -141,12 +128,7 @@ fn find(image: &[u8], m: u32, u: u32, start: u32, goal: u32, route: &mut [u16]) 
         &mut first_out[..starts],
         &mut first_in[..places],
         &mut next_in[..arcs],
-        &mut used[..places],
-        &barred[..places],
-        &mut dirty[..places],
-        &mut queue[..places],
         &mut overall[..places],
-        &mut labels[..places],
         route,
     )
 }

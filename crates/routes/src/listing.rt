@@ -17,14 +17,14 @@ ghost use Rattle.terms.specs.Paths.{Route, Path, cost};
 ghost use Rattle.terms.specs.Ranking.{ranked};
 ghost use Rattle.labels.specs.Arcs.{graph};
 ghost use Rattle.candidates.specs.Rows.{rows-of};
-ghost use Rattle.ranking.specs.Ranking.{Problem, Desk, Blank};
+ghost use Rattle.ranking.specs.Ranking.{Problem};
 ghost use Rattle.image.specs.Outcome.{sound, outcome, after};
 ghost use Rattle.image.specs.Layout.{netOf};
 ghost use Rattle.image.specs.Calls.{sizes};
 ghost use Rattle.image.specs.Answers.{checked};
 ghost use Rattle.routes.specs.Answers.{listed};
 ghost use Rattle.routes.specs.Calls.{path-rows, rank-rows, rank-fault, rank-of, rank-rows-of, rank-costs-of, rank-outcome, cleared};
-ghost use Rattle.routes.specs.Decoded.{InColumn, ArcRoom, NodeRoom, WalkRoom, Ends, ListSlices, ListedWork};
+ghost use Rattle.routes.specs.Decoded.{InColumn, ArcRoom, NodeRoom, Ends, ListSlices, ListedWork};
 
 // Rank's answer.
 pub enum Listed {
@@ -73,13 +73,6 @@ fn list_loaded(
     start: u16,
     goal: usize,
     overall: &[u64],
-    used: &mut [u8],
-    barred: &mut [u8],
-    route: &mut [u16],
-    dirty: &mut [u8],
-    queue: &mut [u16],
-    labels: &mut [u64],
-    scratch: &mut [u16],
     work: &mut [u32],
     n: usize,
     wanted: usize,
@@ -87,7 +80,6 @@ fn list_loaded(
     costs: &mut [u32],
 ) -> usize
     requires { ⌜ Problem n start goal (now tails) (now heads) (now weights) (now «first_out») (now «first_in») (now «next_in») (now overall) ⌝ }
-    requires { ⌜ Desk n (now dirty) (now queue) (now labels) (now scratch) × Blank n (now used) (now barred) (now route) ⌝ }
     requires { ⌜ ListSlices n wanted (now rows) (now costs) (now work) ⌝ }
     requires { ⌜ ((p : Route) → Path (graph (now tails) (now heads) (now weights)) start goal p → cost (graph (now tails) (now heads) (now weights)) p < 4294967296) ⌝ }
     ensures { λ r. ⌜ r ≡ length (take wanted (ranked n (graph (now (tails .entry)) (now (heads .entry)) (now (weights .entry))) start goal)) ⌝ }
@@ -105,13 +97,6 @@ fn list_loaded(
         start,
         goal,
         overall,
-        used,
-        barred,
-        route,
-        dirty,
-        queue,
-        labels,
-        scratch,
         work,
         n,
         wanted,
@@ -136,23 +121,15 @@ fn list_in(
     first_out: &mut [u16],
     first_in: &mut [u16],
     next_in: &mut [u16],
-    used: &mut [u8],
-    barred: &mut [u8],
-    dirty: &mut [u8],
-    queue: &mut [u16],
     overall: &mut [u64],
-    labels: &mut [u64],
-    route: &mut [u16],
-    scratch: &mut [u16],
     work: &mut [u32],
     rows: &mut [u16],
     costs: &mut [u32],
 ) -> usize
     requires { ⌜ InColumn (now image) m u × Ends (netOf (now image) .nodes) start goal ⌝ }
     requires { ⌜ ArcRoom m (now tails) (now heads) (now weights) (now «next_in») ⌝ }
-    requires { ⌜ NodeRoom (netOf (now image) .nodes) (now «first_out») (now «first_in») (now barred) (now dirty) (now queue) (now overall) ⌝ }
-    requires { ⌜ WalkRoom (netOf (now image) .nodes) (now used) (now labels) (now route) ⌝ }
-    requires { ⌜ (length (now scratch) ≡ netOf (now image) .nodes) × ListSlices (netOf (now image) .nodes) wanted (now rows) (now costs) (now work) ⌝ }
+    requires { ⌜ NodeRoom (netOf (now image) .nodes) (now «first_out») (now «first_in») (now overall) ⌝ }
+    requires { ⌜ ListSlices (netOf (now image) .nodes) wanted (now rows) (now costs) (now work) ⌝ }
     ensures { λ r. ⌜ r ≡ length (rank-of (now (image .entry)) u start goal wanted) ⌝ }
     ensures { λ _. ⌜ now (rows .exit) ≡ after sound (rank-rows-of (now (image .entry)) u start goal wanted) (now (rows .entry)) ⌝ }
     ensures { λ _. ⌜ now (costs .exit) ≡ after sound (rank-costs-of (now (image .entry)) u start goal wanted) (now (costs .entry)) ⌝ }
@@ -169,15 +146,12 @@ fn list_in(
         first_out,
         first_in,
         next_in,
-        barred,
-        dirty,
-        queue,
         overall,
     );
     if overall[start as usize] == FAR {
         return 0;
     }
-    let n = route.len();
+    let n = overall.len() - 1;
     list_loaded(
         tails,
         heads,
@@ -188,13 +162,6 @@ fn list_in(
         start,
         goal,
         overall,
-        used,
-        barred,
-        route,
-        dirty,
-        queue,
-        labels,
-        scratch,
         work,
         n,
         wanted,
@@ -228,14 +195,7 @@ fn list(
     let mut next_in = [0u16; 1000];
     let mut first_out = [0u16; 202];
     let mut first_in = [0u16; 201];
-    let mut used = [0u8; 201];
-    let mut barred = [0u8; 201];
-    let mut dirty = [0u8; 201];
-    let mut queue = [0u16; 201];
     let mut overall = [0u64; 201];
-    let mut labels = [0u64; 201];
-    let mut route = [0u16; 200];
-    let mut scratch = [0u16; 200];
     let arcs = sizes.m as usize;
     let nodes = sizes.n as usize;
     let places = nodes + 1;
@@ -253,14 +213,7 @@ fn list(
         &mut first_out[..starts],
         &mut first_in[..places],
         &mut next_in[..arcs],
-        &mut used[..places],
-        &mut barred[..places],
-        &mut dirty[..places],
-        &mut queue[..places],
         &mut overall[..places],
-        &mut labels[..places],
-        &mut route[..nodes],
-        &mut scratch[..nodes],
         work,
         rows,
         costs,

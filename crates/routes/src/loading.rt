@@ -22,28 +22,25 @@ pub fn load(
     first_out: &mut [u16],
     first_in: &mut [u16],
     next_in: &mut [u16],
-    barred: &[u8],
-    dirty: &mut [u8],
-    queue: &mut [u16],
     overall: &mut [u64],
 )
     requires { ⌜ InColumn (now image) m u × Node (netOf (now image) .nodes) goal ⌝ }
     requires { ⌜ ArcRoom m (now tails) (now heads) (now weights) (now «next_in») ⌝ }
-    requires { ⌜ NodeRoom (netOf (now image) .nodes) (now «first_out») (now «first_in») (now barred) (now dirty) (now queue) (now overall) ⌝ }
+    requires { ⌜ NodeRoom (netOf (now image) .nodes) (now «first_out») (now «first_in») (now overall) ⌝ }
     ensures { λ _. ⌜ Loaded (netOf (now (image .entry))) u goal (now (tails .exit)) (now (heads .exit)) (now (weights .exit)) (now («first_out» .exit)) (now («first_in» .exit)) (now («next_in» .exit)) (now (overall .exit)) ⌝ }
 {
     decode(image, m, u, tails, heads, weights);
     star(tails, first_out);
     chain(heads, first_in, next_in);
+    let barred = [0u8; 201];
+    let places = overall.len();
     least(
         tails,
         weights,
         first_in,
         next_in,
-        barred,
+        &barred[..places],
         goal,
-        dirty,
-        queue,
         overall,
     );
 }

@@ -4,26 +4,11 @@ use native.Mathlib.Omega.{arith}
 use native.Mathlib.Nat.{mul-le-mul}
 use mathlib.Core.Path.{refl, sym, _∙_, ap}
 use Rattle.routes.proofs.DecodeLaws.{few-arcs, few-nodes}
-use Rattle.terms.proofs.RoomLaws.{part-long, part-zero}
+use Rattle.terms.proofs.RoomLaws.{part-long}
 use Rattle.routes.proofs.RowLaws.{column-bounds}
 use borrow.Author.Needs.{needs}
 use Rattle.routes.proofs.choosing.choose.Statement.{statement}
 use Rattle.routes.proofs.choosing.choose.Tie as tie
-
-cast-m : tie.Need-cast-m
-cast-m c = search needs
-
-cast-k : tie.Need-cast-k
-cast-k c = search needs
-
-cast-nodes : tie.Need-cast-nodes
-cast-nodes c = search needs
-
-add-places : tie.Need-add-places
-add-places c = search needs
-
-add-starts : tie.Need-add-starts
-add-starts c = search needs
 
 -- the arrays have room for the arcs, the nodes and the columns
 abbrev entry : tie.After-struct-known3 → tie.Start
@@ -46,6 +31,21 @@ columns-fit c = column-bounds (entry c .pre .0 .0) .1
 
 all-fit : (c : tie.After-struct-known3) → entry c .args .sizes .m * entry c .args .sizes .k ≤ 8000
 all-fit c = omega (arith, mul-le-mul (arcs-fit c) (columns-fit c))
+
+cast-m : tie.Need-cast-m
+cast-m c = search needs
+
+cast-k : tie.Need-cast-k
+cast-k c = search needs
+
+cast-nodes : tie.Need-cast-nodes
+cast-nodes c = search needs
+
+add-places : tie.Need-add-places
+add-places c = search needs
+
+add-starts : tie.Need-add-starts
+add-starts c = search needs
 
 mul-all : tie.Need-mul-all
 mul-all c = omega (arith, all-fit c)
@@ -89,90 +89,38 @@ array-borrow-prefix-next-in c = arcs-fit (c .before .before .before .before .bef
 slice-aggregate-choose-in-6 : tie.Need-slice-aggregate-choose-in-6
 slice-aggregate-choose-in-6 c = sym (part-long 1000 _ (arcs-fit (c .before .before .before .before .before .before)))
 
-array-borrow-prefix-used : tie.Need-array-borrow-prefix-used
-array-borrow-prefix-used c = places-fit (c .before .before .before .before .before .before)
+array-borrow-prefix-overall : tie.Need-array-borrow-prefix-overall
+array-borrow-prefix-overall c = places-fit (c .before .before .before .before .before .before)
 
 slice-aggregate-choose-in-7 : tie.Need-slice-aggregate-choose-in-7
 slice-aggregate-choose-in-7 c = sym (part-long 201 _ (places-fit (c .before .before .before .before .before .before .before)))
 
-array-borrow-prefix-barred : tie.Need-array-borrow-prefix-barred
-array-borrow-prefix-barred c = places-fit (c .before .before .before .before .before .before .before)
+array-borrow-prefix-costs : tie.Need-array-borrow-prefix-costs
+array-borrow-prefix-costs c = all-fit (c .before .before .before .before .before .before .before)
 
 slice-aggregate-choose-in-8 : tie.Need-slice-aggregate-choose-in-8
-slice-aggregate-choose-in-8 c = sym (part-long 201 _ (places-fit (c .before .before .before .before .before .before .before .before)))
-
-array-borrow-prefix-dirty : tie.Need-array-borrow-prefix-dirty
-array-borrow-prefix-dirty c = places-fit (c .before .before .before .before .before .before .before .before)
-
-slice-aggregate-choose-in-9 : tie.Need-slice-aggregate-choose-in-9
-slice-aggregate-choose-in-9 c = sym (part-long 201 _ (places-fit (c .before .before .before .before .before .before .before .before .before)))
-
-array-borrow-prefix-queue : tie.Need-array-borrow-prefix-queue
-array-borrow-prefix-queue c = places-fit (c .before .before .before .before .before .before .before .before .before)
-
-slice-aggregate-choose-in-10 : tie.Need-slice-aggregate-choose-in-10
-slice-aggregate-choose-in-10 c = sym (part-long 201 _ (places-fit (c .before .before .before .before .before .before .before .before .before .before)))
-
-array-borrow-prefix-overall : tie.Need-array-borrow-prefix-overall
-array-borrow-prefix-overall c = places-fit (c .before .before .before .before .before .before .before .before .before .before)
-
-slice-aggregate-choose-in-11 : tie.Need-slice-aggregate-choose-in-11
-slice-aggregate-choose-in-11 c = sym (part-long 201 _ (places-fit (c .before .before .before .before .before .before .before .before .before .before .before)))
-
-array-borrow-prefix-labels : tie.Need-array-borrow-prefix-labels
-array-borrow-prefix-labels c = places-fit (c .before .before .before .before .before .before .before .before .before .before .before)
-
-slice-aggregate-choose-in-12 : tie.Need-slice-aggregate-choose-in-12
-slice-aggregate-choose-in-12 c = sym (part-long 201 _ (places-fit (c .before .before .before .before .before .before .before .before .before .before .before .before)))
-
-array-borrow-prefix-laid : tie.Need-array-borrow-prefix-laid
-array-borrow-prefix-laid c = nodes-fit (c .before .before .before .before .before .before .before .before .before .before .before .before)
-
-slice-aggregate-choose-in-13 : tie.Need-slice-aggregate-choose-in-13
-slice-aggregate-choose-in-13 c = sym (part-long 200 _ (nodes-fit (c .before .before .before .before .before .before .before .before .before .before .before .before .before)))
-
-array-borrow-prefix-scratch : tie.Need-array-borrow-prefix-scratch
-array-borrow-prefix-scratch c = nodes-fit (c .before .before .before .before .before .before .before .before .before .before .before .before .before)
-
-slice-aggregate-choose-in-14 : tie.Need-slice-aggregate-choose-in-14
-slice-aggregate-choose-in-14 c = sym (part-long 200 _ (nodes-fit (c .before .before .before .before .before .before .before .before .before .before .before .before .before .before)))
-
-array-borrow-prefix-arcs : tie.Need-array-borrow-prefix-arcs
-array-borrow-prefix-arcs c = nodes-fit (c .before .before .before .before .before .before .before .before .before .before .before .before .before .before)
-
-slice-aggregate-choose-in-15 : tie.Need-slice-aggregate-choose-in-15
-slice-aggregate-choose-in-15 c = sym (part-long 200 _ (nodes-fit (c .before .before .before .before .before .before .before .before .before .before .before .before .before .before .before)))
-
-array-borrow-prefix-costs : tie.Need-array-borrow-prefix-costs
-array-borrow-prefix-costs c = all-fit (c .before .before .before .before .before .before .before .before .before .before .before .before .before .before .before)
-
-slice-aggregate-choose-in-16 : tie.Need-slice-aggregate-choose-in-16
-slice-aggregate-choose-in-16 c = sym (part-long 8000 _ (all-fit (c .before .before .before .before .before .before .before .before .before .before .before .before .before .before .before .before)))
+slice-aggregate-choose-in-8 c = sym (part-long 8000 _ (all-fit (c .before .before .before .before .before .before .before .before)))
 
 array-borrow-prefix-bests : tie.Need-array-borrow-prefix-bests
-array-borrow-prefix-bests c = columns-fit (c .before .before .before .before .before .before .before .before .before .before .before .before .before .before .before .before)
+array-borrow-prefix-bests c = columns-fit (c .before .before .before .before .before .before .before .before)
 
-slice-aggregate-choose-in-17 : tie.Need-slice-aggregate-choose-in-17
-slice-aggregate-choose-in-17 c = sym (part-long 8 _ (columns-fit (c .before .before .before .before .before .before .before .before .before .before .before .before .before .before .before .before .before)))
+slice-aggregate-choose-in-9 : tie.Need-slice-aggregate-choose-in-9
+slice-aggregate-choose-in-9 c = sym (part-long 8 _ (columns-fit (c .before .before .before .before .before .before .before .before .before)))
 
 choose-in-requires : tie.Need-choose-in-requires
 choose-in-requires c κs =
-    let e = c .before .before .before .before .before .before .before .before .before .before .before .before .before .before .before .before .before .before .before in
+    let e = c .before .before .before .before .before .before .before .before .before .before .before in
     let p = entry e .pre in
     let a = p .0 .0 in
     let m = part-long 1000 _ (arcs-fit e) in
     let long = part-long 201 _ (places-fit e) ∙ ap (λ n. n + 1) (a .nodes-are) in
-    let none = part-zero 201 (entry e .args .sizes .n + 1) in
-    let nodes = part-long 200 _ (nodes-fit e) ∙ a .nodes-are in (
+    (
       (record { passes = a .passes; nodes-are = refl; arcs-are = a .arcs-are; columns-are = a .columns-are }, p .0 .1, p .0 .2),
       (
         record { tails-long = m; heads-long = m; weights-long = m; nexts-long = m },
         (
-          record { outs-long = part-long 202 _ (starts-fit e) ∙ ap (λ n. n + 2) (a .nodes-are); ins-long = long; bars-long = long; no-bars = none; dirty-long = long; queue-long = long; labels-long = long },
-          (
-            record { used-long = long; unused = none; labels-long = long; route-long = nodes },
-            (record { scratch-long = nodes; arcs-long = nodes; costs-long = part-long 8000 _ (all-fit e); bests-long = part-long 8 _ (columns-fit e) }, p .1),
-          ),
+          record { outs-long = part-long 202 _ (starts-fit e) ∙ ap (λ n. n + 2) (a .nodes-are); ins-long = long; labels-long = long },
+          (record { costs-long = part-long 8000 _ (all-fit e); bests-long = part-long 8 _ (columns-fit e) }, p .1),
         ),
       ),
     )
@@ -209,28 +157,12 @@ choose-spec =
     slice-aggregate-choose-in-5
     array-borrow-prefix-next-in
     slice-aggregate-choose-in-6
-    array-borrow-prefix-used
-    slice-aggregate-choose-in-7
-    array-borrow-prefix-barred
-    slice-aggregate-choose-in-8
-    array-borrow-prefix-dirty
-    slice-aggregate-choose-in-9
-    array-borrow-prefix-queue
-    slice-aggregate-choose-in-10
     array-borrow-prefix-overall
-    slice-aggregate-choose-in-11
-    array-borrow-prefix-labels
-    slice-aggregate-choose-in-12
-    array-borrow-prefix-laid
-    slice-aggregate-choose-in-13
-    array-borrow-prefix-scratch
-    slice-aggregate-choose-in-14
-    array-borrow-prefix-arcs
-    slice-aggregate-choose-in-15
+    slice-aggregate-choose-in-7
     array-borrow-prefix-costs
-    slice-aggregate-choose-in-16
+    slice-aggregate-choose-in-8
     array-borrow-prefix-bests
-    slice-aggregate-choose-in-17
+    slice-aggregate-choose-in-9
     choose-in-requires
     same-length
     same-length-2

@@ -1,4 +1,5 @@
 -- `routes::choosing::choose_in` meets its contract. Assumes nothing.
+use Prim.Native.Nat.{_-_}
 use native.Mathlib.Omega.{arith}
 use mathlib.Core.Path.{_≡_, sym, _∙_, ap}
 use lib.ListN.{length}
@@ -17,18 +18,44 @@ use Rattle.routes.proofs.choosing.choose_in.Statement.{statement}
 use Rattle.routes.proofs.choosing.choose_in.Tie as tie
 
 abbrev start : tie.After-load → tie.Start
-start c = c .before .before .before .before .before .before .before .before .before .before .before .before .before .before .before .before .before .before .before .before .before .before .before .before .before .before .before .before .before .before .before
+start c = c .before .before .before .before .before .before .before .before .before .before .before .before .before .before .before .before .before .before .before .before
+
+abbrev loaded : tie.After-slice-known23 → tie.After-load
+loaded c = c .before .before .before .before .before .before .before .before .before .before .before .before .before .before .before .before .before .before .before .before .before .before .before .before .before .before .before .before .before .before .before .before .before .before .before .before .before .before .before .before .before .before .before .before
+
+-- there is a label for each node, and one more
+nodes-are : (l : tie.After-load) → length (l .load .last .1 .1 .1 .1 .1 .1 .1 .1 .1 .1 .0) - 1 ≡ netOf (start l .args .image .now) .nodes
+nodes-are l = omega (arith, l .load .ensures .labels-long)
+
+-- the network of the arrays is the image's
+net-is : (c : tie.After-slice-known23) → let s = start (loaded c) .args in network (length (loaded c .load .last .1 .1 .1 .1 .1 .1 .1 .1 .1 .1 .0) - 1) (length (c .before .before .before .before .before .before .before .before .before .before .before .before .before .before .before .before .before .before .before .before .price .last .1 .1 .1 .1 .1 .1 .1 .1 .1 .1 .1 .0)) (loaded c .load .last .1 .1 .1 .1 .0) (loaded c .load .last .1 .1 .1 .1 .1 .0) (c .before .before .before .before .before .before .before .before .before .before .before .before .before .before .before .before .before .before .before .before .price .last .1 .1 .1 .1 .1 .1 .1 .1 .1 .1 .0) ≡ netOf (s .image .now)
+net-is c = network-for (nodes-are (loaded c)) (c .before .before .before .before .before .before .before .before .before .before .before .before .before .before .before .before .before .before .before .before .price .ensures)
+
+some : (c : tie.After-slice-known23) → let s = start (loaded c) .args in no-path-row (netOf (s .image .now) .nodes) (column (netOf (s .image .now)) (s .r)) (s .start) (s .goal) ≡ sound
+some c = let p = start (loaded c) .pre in reached-row (p .0 .1) (p .0 .2) (loaded c .load .ensures) (c .before .before .before .before .before .before .before .before .before .before .before .before .before .before .before .before .before .before .before .before .before .before .before .before .before .before .before .before .if1 .left)
+
+values-are : (c : tie.After-slice-known23) → let s = start (loaded c) .args in decided (c .before .before .before .before .choose-priced .result) ≡ outcome (no-path-row (netOf (s .image .now) .nodes) (column (netOf (s .image .now)) (s .r)) (s .start) (s .goal)) (robust-values (robust-of (s .image .now) (s .r) (s .start) (s .goal) (s .wanted)))
+values-are c = let s = start (loaded c) .args in
+    values-in (s .image .now) (s .r) (s .start) (s .goal) (s .wanted) (net-is c) (some c) (c .before .before .before .before .choose-priced .ensures .0)
+
+path-is : (c : tie.After-slice-known23) → let s = start (loaded c) .args in c .before .before .before .before .choose-priced .last .1 .1 .1 .1 .1 .1 .1 .1 .1 .1 .1 .1 .1 .1 .1 .0 ≡ after (no-path-row (netOf (s .image .now) .nodes) (column (netOf (s .image .now)) (s .r)) (s .start) (s .goal)) (chosen (robust-of (s .image .now) (s .r) (s .start) (s .goal) (s .wanted))) (s .path .now)
+path-is c = let s = start (loaded c) .args in
+    path-in (s .image .now) (s .r) (s .start) (s .goal) (s .wanted) (net-is c) (some c) (s .path .now) (c .before .before .before .before .choose-priced .ensures .1 .0)
+
+work-is : (c : tie.After-slice-known23) → let s = start (loaded c) .args in c .before .before .before .before .choose-priced .last .1 .1 .1 .1 .1 .1 .1 .1 .1 .1 .1 .0 ≡ cleared (no-path-row (netOf (s .image .now) .nodes) (column (netOf (s .image .now)) (s .r)) (s .start) (s .goal)) (s .work .now)
+work-is c = let s = start (loaded c) .args in
+    c .before .before .before .before .choose-priced .ensures .1 .1 ∙ cleared-is (s .work .now) ∙ ap (λ f. cleared f (s .work .now)) (sym (some c))
 
 load-requires : tie.Need-load-requires
-load-requires c κs = let p = c .before .before .before .before .before .before .before .before .before .before .before .before .before .before .before .before .before .before .before .before .before .before .before .before .before .before .before .before .before .before .pre in
+load-requires c κs = let p = c .before .before .before .before .before .before .before .before .before .before .before .before .before .before .before .before .before .before .before .pre in
     ((p .0 .1, p .0 .2 .goal-in), (p .1 .0, p .1 .1 .0))
 
 mul-if1 : tie.Need-mul-if1
-mul-if1 c = let p = start (c .before .before .before .before .before .before .before .before .before .before .before .before .before .before .before .before .before .before) .pre in
+mul-if1 c = let p = start (c .before .before .before .before .before .before .before .before .before .before .before .before .before .before) .pre in
     omega (arith, p .0 .2 .start-in, few-nodes (p .0 .1))
 
 slice-read-if1 : tie.Need-slice-read-if1
-slice-read-if1 c = let l = c .before .before .before .before .before .before .before .before .before .before .before .before .before .before .before .before .before .before .before in
+slice-read-if1 c = let l = c .before .before .before .before .before .before .before .before .before .before .before .before .before .before .before in
     omega (arith, start l .pre .0 .2 .start-in, l .load .ensures .labels-long)
 
 same-length : tie.Need-same-length
@@ -52,144 +79,73 @@ same-length-6 c = search needs
 same-length-7 : tie.Need-same-length-7
 same-length-7 c = search needs
 
-same-length-8 : tie.Need-same-length-8
-same-length-8 c = search needs
-
-same-length-9 : tie.Need-same-length-9
-same-length-9 c = search needs
-
-same-length-10 : tie.Need-same-length-10
-same-length-10 c = search needs
-
 returns : tie.Need-returns
-returns c = let l = c .before .before .before .before .before .before .before .before .before .before .before .before .before .before .before .before .before .before .before .before in
+returns c = let l = c .before .before .before .before .before .before .before .before .before .before .before .before .before .before .before .before in
     let p = start l .pre in
     let e = unreached-row (p .0 .1) (p .0 .2) (l .load .ensures) (c .if1 .taken) in
     (sym (outcome-fault _ e), (sym (after-fault _ _ e), sym (cleared-not _ e)))
 
 price-requires : tie.Need-price-requires
-price-requires c κs = let l = c .before .before .before .before .before .before .before .before .before .before .before .before .before .before .before .before .before .before .before .before .before .before .before .before .before .before .before .before .before .before .before in
+price-requires c κs = let l = c .before .before .before .before .before .before .before .before .before .before .before .before .before .before .before .before .before .before .before .before .before .before .before in
     let p = start l .pre in
-    let r = p .1 .1 .0 in
-    let long = p .1 .1 .1 .0 .labels-long in
-    let C = p .1 .1 .1 .1 .0 in
-    let L = l .load .ensures in (
-      p .0 .0,
-      (
-        (reached (p .0 .1) (p .0 .2) L (c .before .before .before .before .before .before .before .before .before .before .before .if1 .left), loaded-star L),
-        (
-          (long, record { dirty-long = omega (arith, l .load .kept, r .dirty-long, long); queue-long = omega (arith, l .load .kept, r .queue-long, long) }, r .bars-long ∙ sym long),
-          (r .no-bars, (C .costs-long, C .bests-long)),
-        ),
-      ),
-    )
+    let C = p .1 .1 .1 .0 in
+    let L = l .load .ensures in
+    (p .0 .0, ((reached (p .0 .1) (p .0 .2) L (c .before .before .before .before .before .before .before .if1 .left), loaded-star L), (C .costs-long, C .bests-long)))
+
+sub-n : tie.Need-sub-n
+sub-n c = omega (arith, c .before .before .before .before .before .before .before .before .before .before .before .before .before .before .before .before .before .before .before .before .before .before .before .before .before .before .before .before .load .ensures .labels-long)
 
 choose-priced-requires : tie.Need-choose-priced-requires
-choose-priced-requires c κs = let q = c .before .before .before .before .before .before .before .before .before .before .before .before .before .before .before .before .before .before .before .before .before .before .before .before .before .before .before .before .before .price in
-    let l = c .before .before .before .before .before .before .before .before .before .before .before .before .before .before .before .before .before .before .before .before .before .before .before .before .before .before .before .before .before .before .before .before .before .before .before .before .before .before .before .before .before .before .before .before .before .before .before .before .before .before .before .before .before .before .before .before .before .before .before .before .before in
+choose-priced-requires c κs = let q = c .before .before .before .before .before .before .before .before .before .before .before .before .before .before .before .price in
+    let l = c .before .before .before .before .before .before .before .before .before .before .before .before .before .before .before .before .before .before .before .before .before .before .before .before .before .before .before .before .before .before .before .before .before .before .before .before .before .before .before in
     let p = start l .pre in
-    let r = p .1 .1 .0 in
-    let w = p .1 .1 .1 .0 in
-    let C = p .1 .1 .1 .1 .0 in
-    let S = p .1 .1 .1 .1 .1 in
+    let C = p .1 .1 .1 .0 in
+    let S = p .1 .1 .1 .1 in
     let L = l .load .ensures in
-    let n = w .route-long in
-    let left = c .before .before .before .before .before .before .before .before .before .before .before .before .before .before .before .before .before .before .before .before .before .before .before .before .before .before .before .before .before .before .before .before .before .before .before .before .before .before .before .before .before .if1 .left in (
+    let n = nodes-are l in
+    let left = c .before .before .before .before .before .before .before .before .before .before .before .before .before .before .before .before .before .before .before .before .before .before .before .if1 .left in (
       rank-problem (p .0 .1) (p .0 .2) L n,
       (
+        space-for n S,
         (
-          record {
-            room = record { dirty-long = omega (arith, q .kept, l .load .kept, r .dirty-long, n); queue-long = omega (arith, q .kept, l .load .kept, r .queue-long, n); labels-long = omega (arith, q .kept, w .labels-long, n) };
-            scratch-long = omega (arith, C .scratch-long, n);
-          },
-          space-for n S,
-          record { idle = record { barred-long = omega (arith, r .bars-long, n); none-used = w .unused; none-barred = r .no-bars }; used-long = omega (arith, w .used-long, n); path-long = omega arith },
-        ),
-        (
-          (priced-for n (q .ensures), column-for n (q .ensures) (p .0 .1 .from) (omega (arith, p .0 .1 .upto, p .0 .0 .columns-are, q .kept, C .bests-long)) (L .column-is .weights-are)),
-          (S .wanted-from, omega (arith, C .arcs-long, n), some-ranked (p .0 .1) (p .0 .2) L left n, omega (arith, S .path-long, n)),
+          (priced-for n (q .ensures), column-for n (q .ensures) (p .0 .1 .from) (omega (arith, p .0 .1 .upto, p .0 .0 .columns-are, q .kept .1 .1 .1 .1 .1 .1 .1 .1 .1 .1 .1 .0, C .bests-long)) (L .column-is .weights-are)),
+          (S .wanted-from, some-ranked (p .0 .1) (p .0 .2) L left n, omega (arith, S .path-long, n)),
         ),
       ),
     )
 
+same-length-8 : tie.Need-same-length-8
+same-length-8 c = c .before .before .before .before .before .before .before .before .before .before .before .before .before .before .before .before .before .before .before .before .before .before .before .before .before .before .before .before .before .before .before .before .before .before .before .before .before .before .before .before .before .before .before .before .load .kept .1 .1 .1 .1 .0
+
+same-length-9 : tie.Need-same-length-9
+same-length-9 c = c .before .before .before .before .before .before .before .before .before .before .before .before .before .before .before .before .before .before .before .before .before .before .before .before .before .before .before .before .before .before .before .before .before .before .before .before .before .before .before .before .before .before .before .before .load .kept .1 .1 .1 .1 .1 .0
+
+same-length-10 : tie.Need-same-length-10
+same-length-10 c = c .before .before .before .before .before .before .before .before .before .before .before .before .before .before .before .before .before .before .before .before .before .before .before .before .before .before .before .before .before .before .before .before .before .before .before .before .before .before .before .before .before .before .before .before .load .kept .1 .1 .1 .1 .1 .1 .0
+
 same-length-11 : tie.Need-same-length-11
-same-length-11 c = c .before .before .before .before .before .before .before .before .before .before .before .before .before .before .before .before .before .before .before .before .before .before .before .before .before .before .before .before .before .before .before .before .before .before .before .before .before .before .before .before .before .before .before .before .before .before .before .before .before .before .before .before .before .before .before .before .before .before .before .before .before .before .before .before .before .before .before .before .before .before .before .before .before .before .before .before .before .before .before .before .before .before .load .kept .1 .1 .1 .1 .0
+same-length-11 c = c .before .before .before .before .before .before .before .before .before .before .before .before .before .before .before .before .before .before .before .before .before .before .before .before .before .before .before .before .before .before .before .before .before .before .before .before .before .before .before .before .before .before .before .before .load .kept .1 .1 .1 .1 .1 .1 .1 .0
 
 same-length-12 : tie.Need-same-length-12
-same-length-12 c = c .before .before .before .before .before .before .before .before .before .before .before .before .before .before .before .before .before .before .before .before .before .before .before .before .before .before .before .before .before .before .before .before .before .before .before .before .before .before .before .before .before .before .before .before .before .before .before .before .before .before .before .before .before .before .before .before .before .before .before .before .before .before .before .before .before .before .before .before .before .before .before .before .before .before .before .before .before .before .before .before .before .before .load .kept .1 .1 .1 .1 .1 .0
+same-length-12 c = c .before .before .before .before .before .before .before .before .before .before .before .before .before .before .before .before .before .before .before .before .before .before .before .before .before .before .before .before .before .before .before .before .before .before .before .before .before .before .before .before .before .before .before .before .load .kept .1 .1 .1 .1 .1 .1 .1 .1 .0
 
 same-length-13 : tie.Need-same-length-13
-same-length-13 c = c .before .before .before .before .before .before .before .before .before .before .before .before .before .before .before .before .before .before .before .before .before .before .before .before .before .before .before .before .before .before .before .before .before .before .before .before .before .before .before .before .before .before .before .before .before .before .before .before .before .before .before .before .before .before .before .before .before .before .before .before .before .before .before .before .before .before .before .before .before .before .before .before .before .before .before .before .before .before .before .before .before .before .load .kept .1 .1 .1 .1 .1 .1 .0
+same-length-13 c = c .before .before .before .before .before .before .before .before .before .before .before .before .before .before .before .before .before .before .before .before .before .before .before .before .before .before .before .before .before .before .before .before .before .before .before .before .before .before .before .before .before .before .before .before .load .kept .1 .1 .1 .1 .1 .1 .1 .1 .1 .0
 
 same-length-14 : tie.Need-same-length-14
-same-length-14 c = c .before .before .before .before .before .before .before .before .before .before .before .before .before .before .before .before .before .before .before .before .before .before .before .before .before .before .before .before .before .before .before .before .before .before .before .before .before .before .before .before .before .before .before .before .before .before .before .before .before .before .before .before .before .before .before .before .before .before .before .before .before .before .before .before .before .before .before .before .before .before .before .before .before .before .before .before .before .before .before .before .before .before .load .kept .1 .1 .1 .1 .1 .1 .1 .0
+same-length-14 c = c .before .before .before .before .before .before .before .before .before .before .before .before .before .before .before .before .before .before .before .before .before .before .before .before .before .before .before .before .before .before .before .before .before .before .before .before .before .before .before .before .before .before .before .before .load .kept .1 .1 .1 .1 .1 .1 .1 .1 .1 .1 .0
 
 same-length-15 : tie.Need-same-length-15
-same-length-15 c = c .before .before .before .before .before .before .before .before .before .before .before .before .before .before .before .before .before .before .before .before .before .before .before .before .before .before .before .before .before .before .before .before .before .before .before .before .before .before .before .before .before .before .before .before .before .before .before .before .before .before .before .before .before .before .before .before .before .before .before .before .before .before .before .before .before .before .before .before .before .before .before .before .before .before .before .before .before .before .before .before .before .before .load .kept .1 .1 .1 .1 .1 .1 .1 .1 .0
+same-length-15 c = c .before .before .before .before .before .before .before .before .before .before .before .before .before .before .before .before .before .before .before .before .price .kept .1 .1 .1 .1 .1 .1 .1 .1 .1 .1 .0
 
 same-length-16 : tie.Need-same-length-16
-same-length-16 c = c .before .before .before .before .before .before .before .before .before .before .before .before .before .before .before .before .before .before .before .before .before .before .before .before .before .before .before .before .before .before .before .before .before .before .before .before .before .before .before .before .before .before .before .before .before .before .before .before .before .before .before .before .before .before .before .before .before .before .before .before .before .before .before .before .before .before .before .before .before .before .before .before .before .before .before .before .before .before .before .before .before .before .load .kept .1 .1 .1 .1 .1 .1 .1 .1 .1 .0
+same-length-16 c = c .before .before .before .before .before .before .before .before .before .before .before .before .before .before .before .before .before .before .before .before .price .kept .1 .1 .1 .1 .1 .1 .1 .1 .1 .1 .1 .0
 
 same-length-17 : tie.Need-same-length-17
-same-length-17 c = c .before .before .before .before .before .before .before .before .before .before .before .before .before .before .before .before .before .before .before .before .choose-priced .kept .1 .1 .1 .1 .1 .1 .1 .1 .1 .0
+same-length-17 c = c .before .before .before .before .choose-priced .kept .1 .1 .1 .1 .1 .1 .1 .1 .1 .1 .1 .0
 
 same-length-18 : tie.Need-same-length-18
-same-length-18 c = c .before .before .before .before .before .before .before .before .before .before .before .before .before .before .before .before .before .before .before .before .choose-priced .kept .1 .1 .1 .1 .1 .1 .1 .1 .1 .1 .0
-
-same-length-19 : tie.Need-same-length-19
-same-length-19 c = c .before .before .before .before .before .before .before .before .before .before .before .before .before .before .before .before .before .before .before .before .choose-priced .kept .1 .1 .1 .1 .1 .1 .1 .1 .1 .1 .1 .1 .0 ∙ c .before .before .before .before .before .before .before .before .before .before .before .before .before .before .before .before .before .before .before .before .before .before .before .before .before .before .before .before .before .before .before .before .before .before .before .before .before .before .before .before .before .before .before .before .before .before .before .before .before .before .price .kept .1 .1 .1 .1 .1 .1 .1 .1 .1 .1 .1 .0 ∙ c .before .before .before .before .before .before .before .before .before .before .before .before .before .before .before .before .before .before .before .before .before .before .before .before .before .before .before .before .before .before .before .before .before .before .before .before .before .before .before .before .before .before .before .before .before .before .before .before .before .before .before .before .before .before .before .before .before .before .before .before .before .before .before .before .before .before .before .before .before .before .before .before .before .before .before .before .before .before .before .before .before .before .load .kept .1 .1 .1 .1 .1 .1 .1 .1 .1 .1 .1 .0
-
-same-length-20 : tie.Need-same-length-20
-same-length-20 c = c .before .before .before .before .before .before .before .before .before .before .before .before .before .before .before .before .before .before .before .before .choose-priced .kept .1 .1 .1 .1 .1 .1 .1 .1 .1 .1 .1 .1 .1 .0 ∙ c .before .before .before .before .before .before .before .before .before .before .before .before .before .before .before .before .before .before .before .before .before .before .before .before .before .before .before .before .before .before .before .before .before .before .before .before .before .before .before .before .before .before .before .before .before .before .before .before .before .before .price .kept .1 .1 .1 .1 .1 .1 .1 .1 .1 .1 .1 .1 .0 ∙ c .before .before .before .before .before .before .before .before .before .before .before .before .before .before .before .before .before .before .before .before .before .before .before .before .before .before .before .before .before .before .before .before .before .before .before .before .before .before .before .before .before .before .before .before .before .before .before .before .before .before .before .before .before .before .before .before .before .before .before .before .before .before .before .before .before .before .before .before .before .before .before .before .before .before .before .before .before .before .before .before .before .before .load .kept .1 .1 .1 .1 .1 .1 .1 .1 .1 .1 .1 .1 .0
-
-same-length-21 : tie.Need-same-length-21
-same-length-21 c = c .before .before .before .before .before .before .before .before .before .before .before .before .before .before .before .before .before .before .before .before .before .before .before .before .before .before .before .before .before .before .before .before .before .before .before .before .before .before .before .before .before .before .before .before .before .before .before .before .before .before .before .before .before .before .before .before .before .before .before .before .before .before .before .before .before .before .before .before .before .before .before .before .before .before .before .before .before .before .before .before .before .before .load .kept .1 .1 .1 .1 .1 .1 .1 .1 .1 .1 .1 .1 .1 .0
-
-same-length-22 : tie.Need-same-length-22
-same-length-22 c = c .before .before .before .before .before .before .before .before .before .before .before .before .before .before .before .before .before .before .before .before .choose-priced .kept .1 .1 .1 .1 .1 .1 .1 .1 .1 .1 .1 .1 .1 .1 .0 ∙ c .before .before .before .before .before .before .before .before .before .before .before .before .before .before .before .before .before .before .before .before .before .before .before .before .before .before .before .before .before .before .before .before .before .before .before .before .before .before .before .before .before .before .before .before .before .before .before .before .before .before .price .kept .1 .1 .1 .1 .1 .1 .1 .1 .1 .1 .1 .1 .1 .0
-
-same-length-23 : tie.Need-same-length-23
-same-length-23 c = c .before .before .before .before .before .before .before .before .before .before .before .before .before .before .before .before .before .before .before .before .choose-priced .kept .1 .1 .1 .1 .1 .1 .1 .1 .1 .1 .1 .0
-
-same-length-24 : tie.Need-same-length-24
-same-length-24 c = c .before .before .before .before .before .before .before .before .before .before .before .before .before .before .before .before .before .before .before .before .choose-priced .kept .1 .1 .1 .1 .1 .1 .1 .1 .1 .1 .1 .1 .1 .1 .1 .0
-
-same-length-25 : tie.Need-same-length-25
-same-length-25 c = c .before .before .before .before .before .before .before .before .before .before .before .before .before .before .before .before .before .before .before .before .choose-priced .kept .1 .1 .1 .1 .1 .1 .1 .1 .1 .1 .1 .1 .1 .1 .1 .1 .0
-
-same-length-26 : tie.Need-same-length-26
-same-length-26 c = c .before .before .before .before .before .before .before .before .before .before .before .before .before .before .before .before .before .before .before .before .before .before .before .before .before .before .before .before .before .before .before .before .before .before .before .before .before .before .before .before .before .before .before .before .before .before .before .before .before .before .price .kept .1 .1 .1 .1 .1 .1 .1 .1 .1 .1 .1 .1 .1 .1 .0
-
-same-length-27 : tie.Need-same-length-27
-same-length-27 c = c .before .before .before .before .before .before .before .before .before .before .before .before .before .before .before .before .before .before .before .before .before .before .before .before .before .before .before .before .before .before .before .before .before .before .before .before .before .before .before .before .before .before .before .before .before .before .before .before .before .before .price .kept .1 .1 .1 .1 .1 .1 .1 .1 .1 .1 .1 .1 .1 .1 .1 .0
-
-same-length-28 : tie.Need-same-length-28
-same-length-28 c = c .before .before .before .before .before .before .before .before .before .before .before .before .before .before .before .before .before .before .before .before .choose-priced .kept .1 .1 .1 .1 .1 .1 .1 .1 .1 .1 .1 .1 .1 .1 .1 .1 .1 .1 .1 .0
-
-same-length-29 : tie.Need-same-length-29
-same-length-29 c = c .before .before .before .before .before .before .before .before .before .before .before .before .before .before .before .before .before .before .before .before .choose-priced .kept .1 .1 .1 .1 .1 .1 .1 .1 .1 .1 .1 .1 .1 .1 .1 .1 .1 .1 .1 .1 .1 .1 .1 .0
-
-abbrev loaded : tie.After-slice-known44 → tie.After-load
-loaded c = c .before .before .before .before .before .before .before .before .before .before .before .before .before .before .before .before .before .before .before .before .before .before .before .before .before .before .before .before .before .before .before .before .before .before .before .before .before .before .before .before .before .before .before .before .before .before .before .before .before .before .before .before .before .before .before .before .before .before .before .before .before .before .before .before .before .before .before .before .before .before .before .before .before .before .before .before .before .before .before .before .before .before
-
--- the network of the arrays is the image's
-net-is : (c : tie.After-slice-known44) → let s = start (loaded c) .args in network (length (s .laid .now)) (length (c .before .before .before .before .before .before .before .before .before .before .before .before .before .before .before .before .before .before .before .before .before .before .before .before .before .before .before .before .before .before .before .before .before .before .before .before .before .before .before .before .before .before .before .before .before .before .before .before .before .before .price .last .1 .1 .1 .1 .1 .1 .1 .1 .1 .1 .1 .1 .1 .1 .1 .0)) (loaded c .load .last .1 .1 .1 .1 .0) (loaded c .load .last .1 .1 .1 .1 .1 .0) (c .before .before .before .before .before .before .before .before .before .before .before .before .before .before .before .before .before .before .before .before .before .before .before .before .before .before .before .before .before .before .before .before .before .before .before .before .before .before .before .before .before .before .before .before .before .before .before .before .before .before .price .last .1 .1 .1 .1 .1 .1 .1 .1 .1 .1 .1 .1 .1 .1 .0) ≡ netOf (s .image .now)
-net-is c = network-for (start (loaded c) .pre .1 .1 .1 .0 .route-long) (c .before .before .before .before .before .before .before .before .before .before .before .before .before .before .before .before .before .before .before .before .before .before .before .before .before .before .before .before .before .before .before .before .before .before .before .before .before .before .before .before .before .before .before .before .before .before .before .before .before .before .price .ensures)
-
-some : (c : tie.After-slice-known44) → let s = start (loaded c) .args in no-path-row (netOf (s .image .now) .nodes) (column (netOf (s .image .now)) (s .r)) (s .start) (s .goal) ≡ sound
-some c = let p = start (loaded c) .pre in reached-row (p .0 .1) (p .0 .2) (loaded c .load .ensures) (c .before .before .before .before .before .before .before .before .before .before .before .before .before .before .before .before .before .before .before .before .before .before .before .before .before .before .before .before .before .before .before .before .before .before .before .before .before .before .before .before .before .before .before .before .before .before .before .before .before .before .before .before .before .before .before .before .before .before .before .before .before .before .if1 .left)
-
-values-are : (c : tie.After-slice-known44) → let s = start (loaded c) .args in decided (c .before .before .before .before .before .before .before .before .before .before .before .before .before .before .before .before .before .before .before .before .choose-priced .result) ≡ outcome (no-path-row (netOf (s .image .now) .nodes) (column (netOf (s .image .now)) (s .r)) (s .start) (s .goal)) (robust-values (robust-of (s .image .now) (s .r) (s .start) (s .goal) (s .wanted)))
-values-are c = let s = start (loaded c) .args in
-    values-in (s .image .now) (s .r) (s .start) (s .goal) (s .wanted) (net-is c) (some c) (c .before .before .before .before .before .before .before .before .before .before .before .before .before .before .before .before .before .before .before .before .choose-priced .ensures .0)
-
-path-is : (c : tie.After-slice-known44) → let s = start (loaded c) .args in c .before .before .before .before .before .before .before .before .before .before .before .before .before .before .before .before .before .before .before .before .choose-priced .last .1 .1 .1 .1 .1 .1 .1 .1 .1 .1 .1 .1 .1 .1 .1 .1 .1 .1 .1 .1 .1 .1 .1 .0 ≡ after (no-path-row (netOf (s .image .now) .nodes) (column (netOf (s .image .now)) (s .r)) (s .start) (s .goal)) (chosen (robust-of (s .image .now) (s .r) (s .start) (s .goal) (s .wanted))) (s .path .now)
-path-is c = let s = start (loaded c) .args in
-    path-in (s .image .now) (s .r) (s .start) (s .goal) (s .wanted) (net-is c) (some c) (s .path .now) (c .before .before .before .before .before .before .before .before .before .before .before .before .before .before .before .before .before .before .before .before .choose-priced .ensures .1 .0)
-
-work-is : (c : tie.After-slice-known44) → let s = start (loaded c) .args in c .before .before .before .before .before .before .before .before .before .before .before .before .before .before .before .before .before .before .before .before .choose-priced .last .1 .1 .1 .1 .1 .1 .1 .1 .1 .1 .1 .1 .1 .1 .1 .1 .1 .1 .1 .0 ≡ cleared (no-path-row (netOf (s .image .now) .nodes) (column (netOf (s .image .now)) (s .r)) (s .start) (s .goal)) (s .work .now)
-work-is c = let s = start (loaded c) .args in
-    c .before .before .before .before .before .before .before .before .before .before .before .before .before .before .before .before .before .before .before .before .choose-priced .ensures .1 .1 ∙ cleared-is (s .work .now) ∙ ap (λ f. cleared f (s .work .now)) (sym (some c))
+same-length-18 c = c .before .before .before .before .choose-priced .kept .1 .1 .1 .1 .1 .1 .1 .1 .1 .1 .1 .1 .1 .1 .1 .0
 
 returns-2 : tie.Need-returns-2
 returns-2 c = (values-are c, (path-is c, work-is c))
@@ -208,12 +164,13 @@ choose-in-spec =
     same-length-5
     same-length-6
     same-length-7
+    returns
+    price-requires
+    sub-n
+    choose-priced-requires
     same-length-8
     same-length-9
     same-length-10
-    returns
-    price-requires
-    choose-priced-requires
     same-length-11
     same-length-12
     same-length-13
@@ -222,15 +179,4 @@ choose-in-spec =
     same-length-16
     same-length-17
     same-length-18
-    same-length-19
-    same-length-20
-    same-length-21
-    same-length-22
-    same-length-23
-    same-length-24
-    same-length-25
-    same-length-26
-    same-length-27
-    same-length-28
-    same-length-29
     returns-2)

@@ -12,8 +12,8 @@ use Rattle.routes.proofs.choosing.choose_priced.Statement.{statement}
 use Rattle.routes.proofs.choosing.choose_priced.Tie as tie
 
 least-regret-requires : tie.Need-least-regret-requires
-least-regret-requires c κs = let p = c .before .before .before .before .before .before .before .before .before .before .before .before .before .before .before .before .before .before .before .before .before .before .before .before .before .before .before .before .before .pre in
-    (p .0, (p .1 .0 .0, (p .1 .0 .1, (p .1 .0 .2, (p .1 .1 .0 .0, (p .1 .1 .0 .1, ((p .1 .1 .1 .0, p .1 .1 .1 .1, p .1 .1 .1 .2), p .1 .1 .1 .3)))))))
+least-regret-requires c κs = let p = c .before .before .before .before .before .before .before .before .before .before .before .before .before .pre in
+    (p .0, (p .1 .0, (p .1 .1 .0 .0, (p .1 .1 .0 .1, ((p .1 .1 .1 .0, p .1 .1 .1 .1), p .1 .1 .1 .2)))))
 
 clear-requires : tie.Need-clear-requires
 clear-requires c κs = search needs
@@ -27,37 +27,13 @@ same-length c = search needs
 same-length-2 : tie.Need-same-length-2
 same-length-2 c = search needs
 
-same-length-3 : tie.Need-same-length-3
-same-length-3 c = search needs
-
-same-length-4 : tie.Need-same-length-4
-same-length-4 c = search needs
-
-same-length-5 : tie.Need-same-length-5
-same-length-5 c = search needs
-
-same-length-6 : tie.Need-same-length-6
-same-length-6 c = search needs
-
-same-length-7 : tie.Need-same-length-7
-same-length-7 c = search needs
-
-same-length-8 : tie.Need-same-length-8
-same-length-8 c = search needs
-
-same-length-9 : tie.Need-same-length-9
-same-length-9 c = search needs
-
-same-length-10 : tie.Need-same-length-10
-same-length-10 c = search needs
-
 returns : tie.Need-returns
-returns c = let l = c .before .before .before .before .before .before .before .before .before .before .before .before .before .before .before .before .before .before .before .before .before .before .before .before .before .least-regret in
-    let s = c .before .before .before .before .before .before .before .before .before .before .before .before .before .before .before .before .before .before .before .before .before .before .before .before .before .before .before .before .before .before .before .before .before .before .before .before .before .before .before .before .before .before .before .before .before .before .before .before .before .before .before .before .before .before .before in
-    let e = l .ensures .1 .1 in
-    let fits : chosen-length (l .result) ≤ length (l .last .1 .1 .1 .1 .1 .1 .1 .1 .1 .1 .1 .1 .1 .1 .1 .1 .1 .1 .1 .1 .1 .1 .1 .0) = omega (arith, e .1 .1, l .kept .1 .1 .1 .1 .1 .1 .1 .1 .1 .1 .1 .1 .1 .1 .1 .1 .1 .1 .1 .1 .1 .1 .1 .0, s .pre .1 .1 .1 .3) in (
+returns c = let l = c .before .before .before .before .before .before .before .before .before .least-regret in
+    let s = c .before .before .before .before .before .before .before .before .before .before .before .before .before .before .before .before .before .before .before .before .before .before .before in
+    let e = l .ensures .1 in
+    let fits : chosen-length (l .result) ≤ length (l .last .1 .1 .1 .1 .1 .1 .1 .1 .1 .1 .1 .1 .1 .1 .1 .0) = omega (arith, e .1 .1, l .kept .1 .1 .1 .1 .1 .1 .1 .1 .1 .1 .1 .1 .1 .1 .1 .0, s .pre .1 .1 .1 .2) in (
       c .state .ensures _ (chosen-long (l .result) (s .args .path .now) (e .0) (e .1 .0) fits) ∙ ap (λ a. gives (robust-values a)) (e .0),
-      (chosen-written (l .result) (s .args .path .now) (e .0) (e .1 .0) fits, c .before .before .before .clear .ensures ∙ ap (λ (k : ℕ). replicate k 0) (l .kept .1 .1 .1 .1 .1 .1 .1 .1 .1 .1 .1 .1 .1 .1 .1 .1 .1 .1 .1 .0)),
+      (chosen-written (l .result) (s .args .path .now) (e .0) (e .1 .0) fits, c .before .before .before .clear .ensures ∙ ap (λ (k : ℕ). replicate k 0) (l .kept .1 .1 .1 .1 .1 .1 .1 .1 .1 .1 .1 .0)),
     )
 
 pub choose-priced-spec : {M : Type 1} → statement M
@@ -69,12 +45,4 @@ choose-priced-spec =
     state-requires
     same-length
     same-length-2
-    same-length-3
-    same-length-4
-    same-length-5
-    same-length-6
-    same-length-7
-    same-length-8
-    same-length-9
-    same-length-10
     returns)

@@ -55,24 +55,12 @@ array-share-prefix-barred c = nodes-fit (c .before .before .before .before .befo
 slice-aggregate-label-column-in-6 : tie.Need-slice-aggregate-label-column-in-6
 slice-aggregate-label-column-in-6 c = sym (part-long 201 _ (nodes-fit (c .before .before .before .before .before .before)))
 
-array-borrow-prefix-dirty : tie.Need-array-borrow-prefix-dirty
-array-borrow-prefix-dirty c = nodes-fit (c .before .before .before .before .before .before)
-
-slice-aggregate-label-column-in-7 : tie.Need-slice-aggregate-label-column-in-7
-slice-aggregate-label-column-in-7 c = sym (part-long 201 _ (nodes-fit (c .before .before .before .before .before .before .before)))
-
-array-borrow-prefix-queue : tie.Need-array-borrow-prefix-queue
-array-borrow-prefix-queue c = nodes-fit (c .before .before .before .before .before .before .before)
-
-slice-aggregate-label-column-in-8 : tie.Need-slice-aggregate-label-column-in-8
-slice-aggregate-label-column-in-8 c = sym (part-long 201 _ (nodes-fit (c .before .before .before .before .before .before .before .before)))
-
 label-column-in-requires : tie.Need-label-column-in-requires
-label-column-in-requires c κs = let e = c .before .before .before .before .before .before .before .before .before in
+label-column-in-requires c κs = let e = c .before .before .before .before .before .before .before in
     let p = e .before .before .pre in
     let m = part-long 1000 _ (arcs-fit e) in
     let n = part-long 201 _ (nodes-fit e) in
-    (p .0, (p .1 .0, ((m, m, m, m), ((p .1 .1, n, n, n, n), part-zero 201 (length (entry e .args .labels .now))))))
+    (p .0, (p .1 .0, ((m, m, m, m), ((p .1 .1, n, n), part-zero 201 (length (entry e .args .labels .now))))))
 
 same-length : tie.Need-same-length
 same-length c = search needs
@@ -96,10 +84,6 @@ label-column-spec =
     slice-aggregate-label-column-in-5
     array-share-prefix-barred
     slice-aggregate-label-column-in-6
-    array-borrow-prefix-dirty
-    slice-aggregate-label-column-in-7
-    array-borrow-prefix-queue
-    slice-aggregate-label-column-in-8
     label-column-in-requires
     same-length
     returns)

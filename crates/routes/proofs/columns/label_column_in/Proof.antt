@@ -8,28 +8,29 @@ use Rattle.routes.proofs.columns.label_column_in.Statement.{statement}
 use Rattle.routes.proofs.columns.label_column_in.Tie as tie
 
 abbrev start : tie.After-decode → tie.Start
-start c = c .before .before .before .before .before .before .before .before .before .before .before .before .before .before
+start c = c .before .before .before .before .before .before .before .before .before .before .before .before
 
 abbrev decoded : tie.After-chain → tie.After-decode
 decoded c = c .before .before .before .before .before .before .before .before .before .before
 
-abbrev chained : tie.After-least-arg7 → tie.After-chain
-chained c = c .before .before .before .before .before .before .before .before .before .before .before
+abbrev chained : tie.After-least-arg5 → tie.After-chain
+chained c = c .before .before .before .before .before .before .before .before .before
 
 decode-requires : tie.Need-decode-requires
-decode-requires c κs = let p = c .before .before .before .before .before .before .before .before .before .before .before .before .before .pre in
+decode-requires c κs = let p = c .before .before .before .before .before .before .before .before .before .before .before .pre in
     (p .0, (p .1 .1 .0 .0, p .1 .1 .0 .1, p .1 .1 .0 .2))
 
 chain-requires : tie.Need-chain-requires
 chain-requires c κs = let d = c .before .before .before .before .before .before .before .before .before in
     let p = start d .pre in
-    chainable-of (d .decode .ensures .arcs) (omega (arith, p .1 .1 .1 .0)) (omega (arith, p .1 .1 .0, d .decode .kept))
+    chainable-of (d .decode .ensures .arcs) (omega (arith, p .1 .1 .1)) (omega (arith, p .1 .1 .0, d .decode .kept))
 
 least-requires : tie.Need-least-requires
 least-requires c κs = let h = chained c in
     let d = decoded h in
     let p = start d .pre in
-    (arrays-for (d .decode .ensures .arcs) (h .chain .ensures) (p .1 .1 .1 .0 .0) (omega (arith, p .1 .1 .1 .0, h .chain .kept)) (p .1 .1 .1 .0 .2), (record { place = omega (arith, p .1 .0, p .1 .1 .1 .0); free = p .1 .1 .1 .1 _ }, record { dirty-long = p .1 .1 .1 .0 .3; queue-long = p .1 .1 .1 .0 .4 }))
+    let r = p .1 .1 .1 .0 in
+    (arrays-for (d .decode .ensures .arcs) (h .chain .ensures) (r .0) (omega (arith, r, h .chain .kept)) (r .2), record { place = omega (arith, p .1 .0, r); free = p .1 .1 .1 .1 _ })
 
 same-length : tie.Need-same-length
 same-length c = search needs
@@ -49,14 +50,8 @@ same-length-5 c = search needs
 same-length-6 : tie.Need-same-length-6
 same-length-6 c = search needs
 
-same-length-7 : tie.Need-same-length-7
-same-length-7 c = search needs
-
-same-length-8 : tie.Need-same-length-8
-same-length-8 c = search needs
-
 returns : tie.Need-returns
-returns c = let l = c .before .before .before .before .before .before in
+returns c = let l = c .before .before in
     let h = chained (l .before) in
     let d = decoded h in
     least-in-column (d .decode .ensures) (start d .pre .1 .1 .1 .1) (l .least .ensures _ _ (d .decode .ensures .arcs) (h .chain .ensures))
@@ -74,6 +69,4 @@ label-column-in-spec =
     same-length-4
     same-length-5
     same-length-6
-    same-length-7
-    same-length-8
     returns)

@@ -4,16 +4,10 @@ use native.Mathlib.Omega.{arith}
 use mathlib.Core.Path.{sym, _∙_, ap}
 use lib.ListN.{length}
 use Rattle.routes.proofs.DecodeLaws.{few-arcs, few-nodes}
-use Rattle.terms.proofs.RoomLaws.{part-long, part-zero}
+use Rattle.terms.proofs.RoomLaws.{part-long}
 use borrow.Author.Needs.{needs}
 use Rattle.routes.proofs.finding.find.Statement.{statement}
 use Rattle.routes.proofs.finding.find.Tie as tie
-
-add-places : tie.Need-add-places
-add-places c = search needs
-
-add-starts : tie.Need-add-starts
-add-starts c = search needs
 
 -- the arrays have room for the arcs and the nodes
 abbrev entry : tie.After-slice-known → tie.Start
@@ -27,6 +21,12 @@ nodes-fit c = omega (arith, entry c .pre .1, few-nodes (entry c .pre .0 .0))
 
 outs-fit : (c : tie.After-slice-known) → length (entry c .args .route .now) + 2 ≤ 202
 outs-fit c = omega (arith, nodes-fit c)
+
+add-places : tie.Need-add-places
+add-places c = search needs
+
+add-starts : tie.Need-add-starts
+add-starts c = search needs
 
 cast-find-in : tie.Need-cast-find-in
 cast-find-in c = omega (arith, entry c .pre .0 .1 .start-in, few-nodes (entry c .pre .0 .0))
@@ -67,50 +67,19 @@ array-borrow-prefix-next-in c = arcs-fit (c .before .before .before .before .bef
 slice-aggregate-find-in-6 : tie.Need-slice-aggregate-find-in-6
 slice-aggregate-find-in-6 c = sym (part-long 1000 _ (arcs-fit (c .before .before .before .before .before .before)))
 
-array-borrow-prefix-used : tie.Need-array-borrow-prefix-used
-array-borrow-prefix-used c = nodes-fit (c .before .before .before .before .before .before)
+array-borrow-prefix-overall : tie.Need-array-borrow-prefix-overall
+array-borrow-prefix-overall c = nodes-fit (c .before .before .before .before .before .before)
 
 slice-aggregate-find-in-7 : tie.Need-slice-aggregate-find-in-7
 slice-aggregate-find-in-7 c = sym (part-long 201 _ (nodes-fit (c .before .before .before .before .before .before .before)))
 
-array-share-prefix-barred : tie.Need-array-share-prefix-barred
-array-share-prefix-barred c = nodes-fit (c .before .before .before .before .before .before .before)
-
-slice-aggregate-find-in-8 : tie.Need-slice-aggregate-find-in-8
-slice-aggregate-find-in-8 c = sym (part-long 201 _ (nodes-fit (c .before .before .before .before .before .before .before .before)))
-
-array-borrow-prefix-dirty : tie.Need-array-borrow-prefix-dirty
-array-borrow-prefix-dirty c = nodes-fit (c .before .before .before .before .before .before .before .before)
-
-slice-aggregate-find-in-9 : tie.Need-slice-aggregate-find-in-9
-slice-aggregate-find-in-9 c = sym (part-long 201 _ (nodes-fit (c .before .before .before .before .before .before .before .before .before)))
-
-array-borrow-prefix-queue : tie.Need-array-borrow-prefix-queue
-array-borrow-prefix-queue c = nodes-fit (c .before .before .before .before .before .before .before .before .before)
-
-slice-aggregate-find-in-10 : tie.Need-slice-aggregate-find-in-10
-slice-aggregate-find-in-10 c = sym (part-long 201 _ (nodes-fit (c .before .before .before .before .before .before .before .before .before .before)))
-
-array-borrow-prefix-overall : tie.Need-array-borrow-prefix-overall
-array-borrow-prefix-overall c = nodes-fit (c .before .before .before .before .before .before .before .before .before .before)
-
-slice-aggregate-find-in-11 : tie.Need-slice-aggregate-find-in-11
-slice-aggregate-find-in-11 c = sym (part-long 201 _ (nodes-fit (c .before .before .before .before .before .before .before .before .before .before .before)))
-
-array-borrow-prefix-labels : tie.Need-array-borrow-prefix-labels
-array-borrow-prefix-labels c = nodes-fit (c .before .before .before .before .before .before .before .before .before .before .before)
-
-slice-aggregate-find-in-12 : tie.Need-slice-aggregate-find-in-12
-slice-aggregate-find-in-12 c = sym (part-long 201 _ (nodes-fit (c .before .before .before .before .before .before .before .before .before .before .before .before)))
-
 find-in-requires : tie.Need-find-in-requires
 find-in-requires c κs =
-    let e = c .before .before .before .before .before .before .before .before .before .before .before .before .before in
+    let e = c .before .before .before .before .before .before .before .before in
     let p = entry e .pre in
     let m = part-long 1000 _ (arcs-fit e) in
     let long = part-long 201 _ (nodes-fit e) ∙ ap (λ n. n + 1) (p .1) in
-    let none = part-zero 201 (length (entry e .args .route .now) + 1) in
-    (p .0, (record { tails-long = m; heads-long = m; weights-long = m; nexts-long = m }, (record { outs-long = part-long 202 _ (outs-fit e) ∙ ap (λ n. n + 2) (p .1); ins-long = long; bars-long = long; no-bars = none; dirty-long = long; queue-long = long; labels-long = long }, record { used-long = long; unused = none; labels-long = long; route-long = p .1 })))
+    (p .0, (record { tails-long = m; heads-long = m; weights-long = m; nexts-long = m }, (record { outs-long = part-long 202 _ (outs-fit e) ∙ ap (λ n. n + 2) (p .1); ins-long = long; labels-long = long }, p .1)))
 
 same-length : tie.Need-same-length
 same-length c = search needs
@@ -137,18 +106,8 @@ find-spec =
     slice-aggregate-find-in-5
     array-borrow-prefix-next-in
     slice-aggregate-find-in-6
-    array-borrow-prefix-used
-    slice-aggregate-find-in-7
-    array-share-prefix-barred
-    slice-aggregate-find-in-8
-    array-borrow-prefix-dirty
-    slice-aggregate-find-in-9
-    array-borrow-prefix-queue
-    slice-aggregate-find-in-10
     array-borrow-prefix-overall
-    slice-aggregate-find-in-11
-    array-borrow-prefix-labels
-    slice-aggregate-find-in-12
+    slice-aggregate-find-in-7
     find-in-requires
     same-length
     returns)

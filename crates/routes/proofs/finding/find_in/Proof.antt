@@ -1,27 +1,53 @@
 -- `routes::finding::find_in` meets its contract. Assumes nothing.
+use Prim.Native.Nat.{ℕ, _≤_}
 use native.Mathlib.Omega.{arith}
-use mathlib.Core.Path.{_∙_, sym}
+use mathlib.Core.Path.{refl, _∙_, sym}
+use mathlib.Core.List.{List}
+use lib.ListN.{length}
+use Rattle.terms.proofs.RoomLaws.{part-long, part-zero}
+use Rattle.routes.proofs.DecodeLaws.{few-nodes}
 use Rattle.routes.proofs.LoadLaws.{least-unflagged, found-in-column}
 use borrow.Author.Needs.{needs}
 use Rattle.routes.proofs.finding.find_in.Statement.{statement}
 use Rattle.routes.proofs.finding.find_in.Tie as tie
 
-load-requires : tie.Need-load-requires
-load-requires c κs = let p = c .before .before .before .before .before .before .before .before .before .before .before .before .before .before .before .before .before .before .before .before .before .before .before .pre in ((p .0 .0, p .0 .1 .goal-in), (p .1 .0, p .1 .1 .0))
-
 abbrev start : tie.After-load → tie.Start
-start c = c .before .before .before .before .before .before .before .before .before .before .before .before .before .before .before .before .before .before .before .before .before .before .before .before
+start c = c .before .before .before .before .before .before .before .before .before .before .before .before .before .before .before .before .before
+
+-- the labels have a place for each node, and one more
+abbrev labels : tie.After-load → List ℕ
+labels l = l .load .last .1 .1 .1 .1 .1 .1 .1 .1 .1 .1 .0
+
+places-fit : (l : tie.After-load) → length (labels l) ≤ 201
+places-fit l = omega (arith, l .load .ensures .labels-long, few-nodes (start l .pre .0 .0))
+
+load-requires : tie.Need-load-requires
+load-requires c κs = let p = c .before .before .before .before .before .before .before .before .before .before .before .before .before .before .before .before .pre in ((p .0 .0, p .0 .1 .goal-in), (p .1 .0, p .1 .1 .0))
+
+array-borrow-prefix-used : tie.Need-array-borrow-prefix-used
+array-borrow-prefix-used c = places-fit (c .before .before .before .before .before .before .before .before .before .before .before .before .before .before .before .before .before .before .before .before .before)
+
+slice-aggregate-shortest : tie.Need-slice-aggregate-shortest
+slice-aggregate-shortest c = sym (part-long 201 _ (places-fit (c .before .before .before .before .before .before .before .before .before .before .before .before .before .before .before .before .before .before .before .before .before .before)))
+
+array-share-prefix-barred : tie.Need-array-share-prefix-barred
+array-share-prefix-barred c = places-fit (c .before .before .before .before .before .before .before .before .before .before .before .before .before .before .before .before .before .before .before .before .before .before)
+
+slice-aggregate-shortest-2 : tie.Need-slice-aggregate-shortest-2
+slice-aggregate-shortest-2 c = sym (part-long 201 _ (places-fit (c .before .before .before .before .before .before .before .before .before .before .before .before .before .before .before .before .before .before .before .before .before .before .before)))
 
 shortest-requires : tie.Need-shortest-requires
-shortest-requires c κs = let l = c .before .before .before .before .before .before .before .before .before .before .before .before .before .before .before .before .before .before .before .before .before .before .before .before .before .before .before .before .before .before in
+shortest-requires c κs = let l = c .before .before .before .before .before .before .before .before .before .before .before .before .before .before .before .before .before .before .before .before .before .before .before .before in
     let p = start l .pre in
-    let w = p .1 .1 .1 in
-    let r = p .1 .1 .0 in
     let e = p .0 .1 in
-    (l .load .ensures .network _ (w .used-long), ((record { barred-long = r .bars-long ∙ sym (w .used-long); none-used = w .unused; none-barred = r .no-bars }, omega (arith, w .used-long, w .route-long)), (record { start-from = e .start-in .from; start-place = omega (arith, e .start-in, w .used-long); goal-place = omega (arith, e .goal-in, w .used-long); apart = e .apart }, (record { dirty-long = omega (arith, l .load .kept, r .dirty-long, w .used-long); queue-long = omega (arith, l .load .kept, r .queue-long, w .used-long); labels-long = w .labels-long ∙ sym (w .used-long) }, (least-unflagged (l .load .ensures) (w .unused), l .load .ensures .labels-long ∙ sym (w .used-long))))))
+    let L = l .load .ensures in
+    let k = part-long 201 _ (places-fit l) in
+    let long = k ∙ L .labels-long in
+    let none = part-zero 201 (length (labels l)) in
+    (L .network _ long, ((record { barred-long = refl; none-used = none; none-barred = none }, omega (arith, long, p .1 .1 .1)), (record { start-from = e .start-in .from; start-place = omega (arith, e .start-in, long); goal-place = omega (arith, e .goal-in, long); apart = e .apart }, (least-unflagged L none, sym k))))
 
 same-length : tie.Need-same-length
-same-length c = c .before .before .before .before .before .before .before .before .before .before .before .before .before .before .before .before .before .before .before .before .before .before .before .before .before .before .before .before .before .before .before .before .before .before .before .before .before .before .before .before .before .load .kept .1 .1 .1 .1 .0
+same-length c = search needs
 
 same-length-2 : tie.Need-same-length-2
 same-length-2 c = search needs
@@ -44,27 +70,19 @@ same-length-7 c = search needs
 same-length-8 : tie.Need-same-length-8
 same-length-8 c = search needs
 
-same-length-9 : tie.Need-same-length-9
-same-length-9 c = search needs
-
-same-length-10 : tie.Need-same-length-10
-same-length-10 c = search needs
-
-same-length-11 : tie.Need-same-length-11
-same-length-11 c = search needs
-
-same-length-12 : tie.Need-same-length-12
-same-length-12 c = search needs
-
 returns : tie.Need-returns
-returns c = let f = c .before .before .before .before .before .before .before .before .before .before in
-    (f .shortest .ensures .1 .0, found-in-column (f .before .before .before .before .before .before .before .before .before .before .before .before .before .before .before .before .before .before .before .before .before .before .before .before .before .before .before .before .before .before .before .load .ensures) (f .shortest .ensures .1 .1))
+returns c = let f = c .before .before .before in
+    (f .shortest .ensures .1 .0, found-in-column (f .before .before .before .before .before .before .before .before .before .before .before .before .before .before .before .before .before .before .before .before .before .before .before .before .before .load .ensures) (f .shortest .ensures .1 .1))
 
 pub find-in-spec : {M : Type 1} → statement M
 find-in-spec =
     tie.close
     (tie.spec
     load-requires
+    array-borrow-prefix-used
+    slice-aggregate-shortest
+    array-share-prefix-barred
+    slice-aggregate-shortest-2
     shortest-requires
     same-length
     same-length-2
@@ -74,8 +92,4 @@ find-in-spec =
     same-length-6
     same-length-7
     same-length-8
-    same-length-9
-    same-length-10
-    same-length-11
-    same-length-12
     returns)

@@ -3,22 +3,10 @@ use Prim.Native.Nat.{_+_, _≤_}
 use native.Mathlib.Omega.{arith}
 use mathlib.Core.Path.{sym, _∙_, ap}
 use Rattle.routes.proofs.DecodeLaws.{few-arcs, few-nodes}
-use Rattle.terms.proofs.RoomLaws.{part-long, part-zero}
+use Rattle.terms.proofs.RoomLaws.{part-long}
 use borrow.Author.Needs.{needs}
 use Rattle.routes.proofs.listing.list.Statement.{statement}
 use Rattle.routes.proofs.listing.list.Tie as tie
-
-cast-arcs : tie.Need-cast-arcs
-cast-arcs c = search needs
-
-cast-nodes : tie.Need-cast-nodes
-cast-nodes c = search needs
-
-add-places : tie.Need-add-places
-add-places c = search needs
-
-add-starts : tie.Need-add-starts
-add-starts c = search needs
 
 -- the arrays have room for the arcs and the nodes
 abbrev entry : tie.After-struct-known2 → tie.Start
@@ -35,6 +23,18 @@ places-fit c = omega (arith, nodes-fit c)
 
 starts-fit : (c : tie.After-struct-known2) → entry c .args .sizes .n + 2 ≤ 202
 starts-fit c = omega (arith, nodes-fit c)
+
+cast-arcs : tie.Need-cast-arcs
+cast-arcs c = search needs
+
+cast-nodes : tie.Need-cast-nodes
+cast-nodes c = search needs
+
+add-places : tie.Need-add-places
+add-places c = search needs
+
+add-starts : tie.Need-add-starts
+add-starts c = search needs
 
 cast-list-in : tie.Need-cast-list-in
 cast-list-in c = omega (arith, entry c .pre .0 .1 .start-in, few-nodes (entry c .pre .0 .0))
@@ -75,68 +75,25 @@ array-borrow-prefix-next-in c = arcs-fit (c .before .before .before .before .bef
 slice-aggregate-list-in-6 : tie.Need-slice-aggregate-list-in-6
 slice-aggregate-list-in-6 c = sym (part-long 1000 _ (arcs-fit (c .before .before .before .before .before .before)))
 
-array-borrow-prefix-used : tie.Need-array-borrow-prefix-used
-array-borrow-prefix-used c = places-fit (c .before .before .before .before .before .before)
+array-borrow-prefix-overall : tie.Need-array-borrow-prefix-overall
+array-borrow-prefix-overall c = places-fit (c .before .before .before .before .before .before)
 
 slice-aggregate-list-in-7 : tie.Need-slice-aggregate-list-in-7
 slice-aggregate-list-in-7 c = sym (part-long 201 _ (places-fit (c .before .before .before .before .before .before .before)))
 
-array-borrow-prefix-barred : tie.Need-array-borrow-prefix-barred
-array-borrow-prefix-barred c = places-fit (c .before .before .before .before .before .before .before)
-
-slice-aggregate-list-in-8 : tie.Need-slice-aggregate-list-in-8
-slice-aggregate-list-in-8 c = sym (part-long 201 _ (places-fit (c .before .before .before .before .before .before .before .before)))
-
-array-borrow-prefix-dirty : tie.Need-array-borrow-prefix-dirty
-array-borrow-prefix-dirty c = places-fit (c .before .before .before .before .before .before .before .before)
-
-slice-aggregate-list-in-9 : tie.Need-slice-aggregate-list-in-9
-slice-aggregate-list-in-9 c = sym (part-long 201 _ (places-fit (c .before .before .before .before .before .before .before .before .before)))
-
-array-borrow-prefix-queue : tie.Need-array-borrow-prefix-queue
-array-borrow-prefix-queue c = places-fit (c .before .before .before .before .before .before .before .before .before)
-
-slice-aggregate-list-in-10 : tie.Need-slice-aggregate-list-in-10
-slice-aggregate-list-in-10 c = sym (part-long 201 _ (places-fit (c .before .before .before .before .before .before .before .before .before .before)))
-
-array-borrow-prefix-overall : tie.Need-array-borrow-prefix-overall
-array-borrow-prefix-overall c = places-fit (c .before .before .before .before .before .before .before .before .before .before)
-
-slice-aggregate-list-in-11 : tie.Need-slice-aggregate-list-in-11
-slice-aggregate-list-in-11 c = sym (part-long 201 _ (places-fit (c .before .before .before .before .before .before .before .before .before .before .before)))
-
-array-borrow-prefix-labels : tie.Need-array-borrow-prefix-labels
-array-borrow-prefix-labels c = places-fit (c .before .before .before .before .before .before .before .before .before .before .before)
-
-slice-aggregate-list-in-12 : tie.Need-slice-aggregate-list-in-12
-slice-aggregate-list-in-12 c = sym (part-long 201 _ (places-fit (c .before .before .before .before .before .before .before .before .before .before .before .before)))
-
-array-borrow-prefix-route : tie.Need-array-borrow-prefix-route
-array-borrow-prefix-route c = nodes-fit (c .before .before .before .before .before .before .before .before .before .before .before .before)
-
-slice-aggregate-list-in-13 : tie.Need-slice-aggregate-list-in-13
-slice-aggregate-list-in-13 c = sym (part-long 200 _ (nodes-fit (c .before .before .before .before .before .before .before .before .before .before .before .before .before)))
-
-array-borrow-prefix-scratch : tie.Need-array-borrow-prefix-scratch
-array-borrow-prefix-scratch c = nodes-fit (c .before .before .before .before .before .before .before .before .before .before .before .before .before)
-
-slice-aggregate-list-in-14 : tie.Need-slice-aggregate-list-in-14
-slice-aggregate-list-in-14 c = sym (part-long 200 _ (nodes-fit (c .before .before .before .before .before .before .before .before .before .before .before .before .before .before)))
-
 list-in-requires : tie.Need-list-in-requires
 list-in-requires c κs =
-    let e = c .before .before .before .before .before .before .before .before .before .before .before .before .before .before .before .before .before in
+    let e = c .before .before .before .before .before .before .before .before .before .before in
     let p = entry e .pre in
     let m = part-long 1000 _ (arcs-fit e) in
     let long = part-long 201 _ (places-fit e) ∙ ap (λ n. n + 1) (p .1 .0) in
-    let none = part-zero 201 (entry e .args .sizes .n + 1) in
-    let route = part-long 200 _ (nodes-fit e) ∙ p .1 .0 in (
+    (
       p .0,
       (
         record { tails-long = m; heads-long = m; weights-long = m; nexts-long = m },
         (
-          record { outs-long = part-long 202 _ (starts-fit e) ∙ ap (λ n. n + 2) (p .1 .0); ins-long = long; bars-long = long; no-bars = none; dirty-long = long; queue-long = long; labels-long = long },
-          (record { used-long = long; unused = none; labels-long = long; route-long = route }, (route, p .1 .1)),
+          record { outs-long = part-long 202 _ (starts-fit e) ∙ ap (λ n. n + 2) (p .1 .0); ins-long = long; labels-long = long },
+          p .1 .1,
         ),
       ),
     )
@@ -174,22 +131,8 @@ list-spec =
     slice-aggregate-list-in-5
     array-borrow-prefix-next-in
     slice-aggregate-list-in-6
-    array-borrow-prefix-used
-    slice-aggregate-list-in-7
-    array-borrow-prefix-barred
-    slice-aggregate-list-in-8
-    array-borrow-prefix-dirty
-    slice-aggregate-list-in-9
-    array-borrow-prefix-queue
-    slice-aggregate-list-in-10
     array-borrow-prefix-overall
-    slice-aggregate-list-in-11
-    array-borrow-prefix-labels
-    slice-aggregate-list-in-12
-    array-borrow-prefix-route
-    slice-aggregate-list-in-13
-    array-borrow-prefix-scratch
-    slice-aggregate-list-in-14
+    slice-aggregate-list-in-7
     list-in-requires
     same-length
     same-length-2

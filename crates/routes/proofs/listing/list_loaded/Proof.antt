@@ -11,18 +11,18 @@ use Rattle.routes.proofs.listing.list_loaded.Statement.{statement}
 use Rattle.routes.proofs.listing.list_loaded.Tie as tie
 
 abbrev start : tie.After-rank-paths → tie.Start
-start c = c .before .before .before .before .before .before .before .before .before .before .before .before .before .before .before .before .before .before .before .before .before .before .before .before .before .before
+start c = c .before .before .before .before .before .before .before .before .before .before .before .before
 
 rank-paths-requires : tie.Need-rank-paths-requires
-rank-paths-requires c κs = let p = c .before .before .before .before .before .before .before .before .before .before .before .before .before .before .before .before .before .before .before .before .before .before .before .before .before .pre in
-    let S = p .1 .1 .0 in
-    (p .0, (p .1 .0 .0, (record { some = S .wanted-from; few = omega (arith, S .wanted-to); room = S .slots-long }, p .1 .0 .1)))
+rank-paths-requires c κs = let p = c .before .before .before .before .before .before .before .before .before .before .before .pre in
+    let S = p .1 .0 in
+    (p .0, record { some = S .wanted-from; few = omega (arith, S .wanted-to); room = S .slots-long })
 
 write-rows-requires : tie.Need-write-rows-requires
-write-rows-requires c κs = let r = c .before .before .before .before .before .before .before .before .before .before .before .before .before .before .before .before .before .before .before in
-    let R = r .rank-paths .ensures .1 .1 in
+write-rows-requires c κs = let r = c .before .before .before .before .before in
+    let R = r .rank-paths .ensures in
     let p = start r .pre in
-    ((kept-readable (R .kept), R .entered .family), (entry-room R (p .1 .1 .0), entry-costs R (p .1 .1 .1)))
+    ((kept-readable (R .kept), R .entered .family), (entry-room R (p .1 .0), entry-costs R (p .1 .1)))
 
 clear-requires : tie.Need-clear-requires
 clear-requires c κs = search needs
@@ -36,33 +36,12 @@ same-length-2 c = search needs
 same-length-3 : tie.Need-same-length-3
 same-length-3 c = search needs
 
-same-length-4 : tie.Need-same-length-4
-same-length-4 c = search needs
-
-same-length-5 : tie.Need-same-length-5
-same-length-5 c = search needs
-
-same-length-6 : tie.Need-same-length-6
-same-length-6 c = search needs
-
-same-length-7 : tie.Need-same-length-7
-same-length-7 c = search needs
-
-same-length-8 : tie.Need-same-length-8
-same-length-8 c = search needs
-
-same-length-9 : tie.Need-same-length-9
-same-length-9 c = search needs
-
-same-length-10 : tie.Need-same-length-10
-same-length-10 c = search needs
-
 returns : tie.Need-returns
-returns c = let r = c .before .before .before .before .before .before .before .before .before .before .before .before .before .before .before .before .before .before .before .before .before .before .before .before .before .before .before .before in
-    let R = r .rank-paths .ensures .1 .1 in
+returns c = let r = c .before .before .before .before .before .before .before .before .before .before .before .before .before .before in
+    let R = r .rank-paths .ensures in
     let p = start r .pre in
     let w = c .before .before .before .before .before .before .before .before .write-rows in
-    (ranked-count R, (entry-rows R _ (entry-room R (p .1 .1 .0) .0) (w .kept .1 .1 .1 .1 .0) (w .ensures .0), (entry-costs-out R _ (w .ensures .1), c .before .before .clear .ensures ∙ ap (λ (k : ℕ). replicate k 0) (r .rank-paths .kept .1 .1 .1 .1 .1 .1 .1 .1 .1 .1 .1 .1 .1 .1 .1 .1 .0))))
+    (ranked-count R, (entry-rows R _ (entry-room R (p .1 .0) .0) (w .kept .1 .1 .1 .1 .0) (w .ensures .0), (entry-costs-out R _ (w .ensures .1), c .before .before .clear .ensures ∙ ap (λ (k : ℕ). replicate k 0) (r .rank-paths .kept .1 .1 .1 .1 .1 .1 .1 .1 .1 .0))))
 
 pub list-loaded-spec : {M : Type 1} → statement M
 list-loaded-spec =
@@ -74,11 +53,4 @@ list-loaded-spec =
     same-length
     same-length-2
     same-length-3
-    same-length-4
-    same-length-5
-    same-length-6
-    same-length-7
-    same-length-8
-    same-length-9
-    same-length-10
     returns)

@@ -1,36 +1,52 @@
 -- `routes::loading::load` meets its contract. Assumes nothing.
 use native.Mathlib.Omega.{arith}
-use mathlib.Core.Path.{_∙_}
+use mathlib.Core.Path.{sym, _∙_}
 use Rattle.labels.proofs.ArcLaws.{chainable-of}
 use Rattle.routes.proofs.LabelLaws.{arrays-for}
 use Rattle.routes.proofs.LoadLaws.{rising-tails, loaded}
+use lib.ListN.{length}
+use Prim.Native.Nat.{_≤_}
+use Rattle.terms.proofs.RoomLaws.{part-long, part-zero}
+use Rattle.routes.proofs.DecodeLaws.{few-nodes}
 use borrow.Author.Needs.{needs}
 use Rattle.routes.proofs.loading.load.Statement.{statement}
 use Rattle.routes.proofs.loading.load.Tie as tie
-
-decode-requires : tie.Need-decode-requires
-decode-requires c κs = let p = c .before .before .before .before .before .before .before .before .before .before .before .before .before .before .pre in (p .0 .0, (p .1 .0 .tails-long, p .1 .0 .heads-long, p .1 .0 .weights-long))
-
-star-requires : tie.Need-star-requires
-star-requires c κs = rising-tails (c .before .before .before .before .before .before .before .before .decode .ensures)
 
 abbrev decoded : tie.After-star → tie.After-decode
 decoded c = c .before .before .before .before .before .before .before .before .before
 
 abbrev start : tie.After-decode → tie.Start
-start c = c .before .before .before .before .before .before .before .before .before .before .before .before .before .before .before
+start c = c .before .before .before .before .before .before .before .before .before .before .before .before
+
+abbrev linked : tie.After-chain → tie.After-decode
+linked h = decoded (h .before .before .before .before .before .before)
+
+places-fit : (h : tie.After-chain) → length (start (linked h) .args .overall .now) ≤ 201
+places-fit h = let p = start (linked h) .pre in omega (arith, p .1 .1 .labels-long, few-nodes (p .0 .0))
+
+decode-requires : tie.Need-decode-requires
+decode-requires c κs = let p = c .before .before .before .before .before .before .before .before .before .before .before .pre in (p .0 .0, (p .1 .0 .tails-long, p .1 .0 .heads-long, p .1 .0 .weights-long))
+
+star-requires : tie.Need-star-requires
+star-requires c κs = rising-tails (c .before .before .before .before .before .before .before .before .decode .ensures)
 
 chain-requires : tie.Need-chain-requires
 chain-requires c κs = let d = decoded (c .before .before .before .before .before) in
     let p = start d .pre in
     chainable-of (d .decode .ensures .arcs) (p .1 .1 .ins-long) (omega (arith, p .1 .0, d .decode .kept))
 
+array-share-prefix-barred : tie.Need-array-share-prefix-barred
+array-share-prefix-barred c = places-fit (c .before .before .before .before .before .before .before .before)
+
+slice-aggregate-least : tie.Need-slice-aggregate-least
+slice-aggregate-least c = sym (part-long 201 _ (places-fit (c .before .before .before .before .before .before .before .before .before)))
+
 least-requires : tie.Need-least-requires
-least-requires c κs = let h = c .before .before .before .before .before .before .before .before .before .before .before in
-    let d = decoded (h .before .before .before .before .before .before) in
+least-requires c κs = let h = c .before .before .before .before .before .before .before .before .before .before in
+    let d = linked h in
     let p = start d .pre in
     let r = p .1 .1 in
-    (arrays-for (d .decode .ensures .arcs) (h .chain .ensures) (r .labels-long) (omega (arith, r .ins-long, r .labels-long, h .chain .kept)) (omega (arith, r .bars-long, r .labels-long)), (record { place = omega (arith, p .0 .1, r .labels-long); free = r .no-bars _ }, record { dirty-long = omega (arith, r .dirty-long, r .labels-long); queue-long = omega (arith, r .queue-long, r .labels-long) }))
+    (arrays-for (d .decode .ensures .arcs) (h .chain .ensures) (r .labels-long) (omega (arith, r .ins-long, r .labels-long, h .chain .kept)) (part-long 201 _ (places-fit h)), record { place = omega (arith, p .0 .1, r .labels-long); free = part-zero 201 (length (start d .args .overall .now)) _ })
 
 same-length : tie.Need-same-length
 same-length c = search needs
@@ -53,19 +69,13 @@ same-length-6 c = search needs
 same-length-7 : tie.Need-same-length-7
 same-length-7 c = search needs
 
-same-length-8 : tie.Need-same-length-8
-same-length-8 c = search needs
-
-same-length-9 : tie.Need-same-length-9
-same-length-9 c = search needs
-
 returns : tie.Need-returns
-returns c = let l = c .before .before .before .before .before .before in
-    let h = l .before .before .before .before .before .before .before .before .before .before .before .before in
+returns c = let l = c .before .before in
+    let h = l .before .before .before .before .before .before .before .before .before .before .before in
     let o = h .before .before .before .before .before .before in
     let d = decoded o in
     let r = start d .pre .1 .1 in
-    loaded (d .decode .ensures) (o .star .kept .1 .0 ∙ r .outs-long) (λ v k. o .star .ensures v (omega (arith, o .star .kept .1 .0))) (h .chain .ensures) (h .chain .kept .1 .0 ∙ r .ins-long) (r .no-bars) (l .least .ensures _ _ (d .decode .ensures .arcs) (h .chain .ensures)) (l .least .kept .1 .1 .1 .1 .1 .1 .1 .1 .0 ∙ r .labels-long)
+    loaded (d .decode .ensures) (o .star .kept .1 .0 ∙ r .outs-long) (λ v k. o .star .ensures v (omega (arith, o .star .kept .1 .0))) (h .chain .ensures) (h .chain .kept .1 .0 ∙ r .ins-long) (part-zero 201 (length (start d .args .overall .now))) (l .least .ensures _ _ (d .decode .ensures .arcs) (h .chain .ensures)) (l .least .kept .1 .1 .1 .1 .1 .1 .0 ∙ r .labels-long)
 
 pub load-spec : {M : Type 1} → statement M
 load-spec =
@@ -74,6 +84,8 @@ load-spec =
     decode-requires
     star-requires
     chain-requires
+    array-share-prefix-barred
+    slice-aggregate-least
     least-requires
     same-length
     same-length-2
@@ -82,6 +94,4 @@ load-spec =
     same-length-5
     same-length-6
     same-length-7
-    same-length-8
-    same-length-9
     returns)
