@@ -1,12 +1,18 @@
 // A call's answer as eight numbers.
+use image::Built;
+use image::Checked;
 use image::Refusal;
+use image::Unpacked;
+use routes::Decided;
+use routes::Labelled;
 use routes::Listed;
+use routes::Regretted;
+use routes::Routed;
 ghost use mathlib.Core.Path.{_≡_};
 ghost use mathlib.Core.List.{[], _∷_};
-ghost use Rattle.image.specs.Outcome.{gives};
 ghost use Rattle.image.specs.Refusals.{numberOf, placeOf};
-ghost use Rattle.image.specs.Answers.{refused};
-ghost use Rattle.routes.specs.Answers.{listed};
+ghost use Rattle.image.specs.Answers.{refused, checked, built, unpacked};
+ghost use Rattle.routes.specs.Answers.{labelled, routed, regretted, listed, decided};
 ghost use Rattle.capi.specs.Replies.{numbers, reply-of};
 
 // refusal is 0 for a result, and v0 to v5 are then its values; it is else the number of the refusal, and
@@ -23,19 +29,19 @@ pub struct Reply {
     pub v5: u32,
 }
 
-// The reply with the two numbers of a refusal, or the one value of a result.
-fn plain(refusal: u32, place: u32, v0: u32) -> Reply
-    ensures { λ r. ⌜ numbers r ≡ (refusal ∷ place ∷ v0 ∷ 0 ∷ 0 ∷ 0 ∷ 0 ∷ 0 ∷ []) ⌝ }
+// A result with these values.
+fn result(v0: u32, v1: u32, v2: u32, v3: u32, v4: u32, v5: u32) -> Reply
+    ensures { λ r. ⌜ numbers r ≡ (0 ∷ 0 ∷ v0 ∷ v1 ∷ v2 ∷ v3 ∷ v4 ∷ v5 ∷ []) ⌝ }
 {
     Reply {
-        refusal,
-        place,
+        refusal: 0,
+        place: 0,
         v0,
-        v1: 0,
-        v2: 0,
-        v3: 0,
-        v4: 0,
-        v5: 0,
+        v1,
+        v2,
+        v3,
+        v4,
+        v5,
     }
 }
 
@@ -91,14 +97,76 @@ fn place(refusal: Refusal) -> u32
 fn of_refusal(refusal: Refusal) -> Reply
     ensures { λ r. ⌜ numbers r ≡ reply-of (refused refusal) ⌝ }
 {
-    plain(number(refusal), place(refusal), 0)
+    Reply {
+        refusal: number(refusal),
+        place: place(refusal),
+        v0: 0,
+        v1: 0,
+        v2: 0,
+        v3: 0,
+        v4: 0,
+        v5: 0,
+    }
 }
 
-// A result with one value.
-fn of_count(count: u32) -> Reply
-    ensures { λ r. ⌜ numbers r ≡ reply-of (gives (count ∷ [])) ⌝ }
+// Check's answer.
+pub fn of_checked(answer: Checked) -> Reply
+    ensures { λ r. ⌜ numbers r ≡ reply-of (checked answer) ⌝ }
 {
-    plain(0, 0, count)
+    match answer {
+        Checked::Network(sizes) => result(sizes.n, sizes.m, sizes.k, 0, 0, 0),
+        Checked::Refused(refusal) => of_refusal(refusal),
+    }
+}
+
+// Build's answer.
+pub fn of_built(answer: Built) -> Reply
+    ensures { λ r. ⌜ numbers r ≡ reply-of (built answer) ⌝ }
+{
+    match answer {
+        Built::Image(length) => result(length, 0, 0, 0, 0, 0),
+        Built::Refused(refusal) => of_refusal(refusal),
+    }
+}
+
+// Unpack's answer.
+pub fn of_unpacked(answer: Unpacked) -> Reply
+    ensures { λ r. ⌜ numbers r ≡ reply-of (unpacked answer) ⌝ }
+{
+    match answer {
+        Unpacked::Lists(sizes) => result(sizes.n, sizes.m, sizes.k, 0, 0, 0),
+        Unpacked::Refused(refusal) => of_refusal(refusal),
+    }
+}
+
+// Label's answer.
+pub fn of_labelled(answer: Labelled) -> Reply
+    ensures { λ r. ⌜ numbers r ≡ reply-of (labelled answer) ⌝ }
+{
+    match answer {
+        Labelled::Written => result(0, 0, 0, 0, 0, 0),
+        Labelled::Refused(refusal) => of_refusal(refusal),
+    }
+}
+
+// Shortest's answer.
+pub fn of_routed(answer: Routed) -> Reply
+    ensures { λ r. ⌜ numbers r ≡ reply-of (routed answer) ⌝ }
+{
+    match answer {
+        Routed::Path(length, cost) => result(length, cost, 0, 0, 0, 0),
+        Routed::Refused(refusal) => of_refusal(refusal),
+    }
+}
+
+// Regret's answer.
+pub fn of_regretted(answer: Regretted) -> Reply
+    ensures { λ r. ⌜ numbers r ≡ reply-of (regretted answer) ⌝ }
+{
+    match answer {
+        Regretted::Measured(measure) => result(measure.figure, measure.worst, 0, 0, 0, 0),
+        Regretted::Refused(refusal) => of_refusal(refusal),
+    }
 }
 
 // Rank's answer.
@@ -106,7 +174,29 @@ pub fn of_listed(answer: Listed) -> Reply
     ensures { λ r. ⌜ numbers r ≡ reply-of (listed answer) ⌝ }
 {
     match answer {
-        Listed::Paths(count) => of_count(count),
+        Listed::Paths(count) => result(count, 0, 0, 0, 0, 0),
         Listed::Refused(refusal) => of_refusal(refusal),
+    }
+}
+
+// Robust's answer. The state is 1 if it is settled and 2 if it is open.
+pub fn of_decided(answer: Decided) -> Reply
+    ensures { λ r. ⌜ numbers r ≡ reply-of (decided answer) ⌝ }
+{
+    match answer {
+        Decided::Settled(found) => {
+            result(found.length, found.figure, found.worst, found.count, 1, 0)
+        }
+        Decided::Open(found, floor) => {
+            result(
+                found.length,
+                found.figure,
+                found.worst,
+                found.count,
+                2,
+                floor,
+            )
+        }
+        Decided::Refused(refusal) => of_refusal(refusal),
     }
 }
