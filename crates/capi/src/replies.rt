@@ -3,6 +3,8 @@ use image::Built;
 use image::Checked;
 use image::Refusal;
 use image::Unpacked;
+use image::number;
+use image::place;
 use routes::Decided;
 use routes::Labelled;
 use routes::Listed;
@@ -10,7 +12,6 @@ use routes::Regretted;
 use routes::Routed;
 ghost use mathlib.Core.Path.{_≡_};
 ghost use mathlib.Core.List.{[], _∷_};
-ghost use Rattle.image.specs.Refusals.{numberOf, placeOf};
 ghost use Rattle.image.specs.Answers.{refused, checked, built, unpacked};
 ghost use Rattle.routes.specs.Answers.{labelled, routed, regretted, listed, decided};
 ghost use Rattle.capi.specs.Replies.{numbers, reply-of};
@@ -42,54 +43,6 @@ fn result(v0: u32, v1: u32, v2: u32, v3: u32, v4: u32, v5: u32) -> Reply
         v3,
         v4,
         v5,
-    }
-}
-
-// The number of a refusal's row.
-fn number(refusal: Refusal) -> u32
-    ensures { λ r. ⌜ r ≡ numberOf refusal ⌝ }
-{
-    match refusal {
-        Refusal::ImageTooShort => 1,
-        Refusal::WrongEdition => 2,
-        Refusal::SizeOutOfRange => 3,
-        Refusal::WrongField => 4,
-        Refusal::WrongLength => 5,
-        Refusal::ArcOutOfRange(_) => 6,
-        Refusal::ArcToItself(_) => 7,
-        Refusal::ArcNotRising(_) => 8,
-        Refusal::CostTooLarge(_) => 9,
-        Refusal::WrongEnds => 10,
-        Refusal::WrongColumn => 11,
-        Refusal::WrongPathCount => 12,
-        Refusal::SliceTooShort => 13,
-        Refusal::NotAPath(_) => 14,
-        Refusal::NoPath => 15,
-        Refusal::CostOverflow => 16,
-    }
-}
-
-// The place that a refusal names, or 0.
-fn place(refusal: Refusal) -> u32
-    ensures { λ r. ⌜ r ≡ placeOf refusal ⌝ }
-{
-    match refusal {
-        Refusal::ArcOutOfRange(arc) => arc,
-        Refusal::ArcToItself(arc) => arc,
-        Refusal::ArcNotRising(arc) => arc,
-        Refusal::CostTooLarge(index) => index,
-        Refusal::NotAPath(position) => position,
-        Refusal::ImageTooShort => 0,
-        Refusal::WrongEdition => 0,
-        Refusal::SizeOutOfRange => 0,
-        Refusal::WrongField => 0,
-        Refusal::WrongLength => 0,
-        Refusal::WrongEnds => 0,
-        Refusal::WrongColumn => 0,
-        Refusal::WrongPathCount => 0,
-        Refusal::SliceTooShort => 0,
-        Refusal::NoPath => 0,
-        Refusal::CostOverflow => 0,
     }
 }
 
