@@ -6,6 +6,7 @@ use image::Unpacked;
 use image::number;
 use image::place;
 use routes::Decided;
+use routes::Decision;
 use routes::Labelled;
 use routes::Listed;
 use routes::Regretted;
@@ -132,24 +133,27 @@ pub fn of_listed(answer: Listed) -> Reply
     }
 }
 
-// Robust's answer. The state is 1 if it is settled and 2 if it is open.
+// A choice of Robust. The state is 1 if it is settled and 2 if it is open.
+fn of_decision(found: Decision, state: u32, floor: u32) -> Reply
+    ensures { λ r. ⌜ numbers r ≡ (0 ∷ 0 ∷ found .length ∷ found .figure ∷ found .worst ∷ found .count ∷ state ∷ floor ∷ []) ⌝ }
+{
+    result(
+        found.length,
+        found.figure,
+        found.worst,
+        found.count,
+        state,
+        floor,
+    )
+}
+
+// Robust's answer.
 pub fn of_decided(answer: Decided) -> Reply
     ensures { λ r. ⌜ numbers r ≡ reply-of (decided answer) ⌝ }
 {
     match answer {
-        Decided::Settled(found) => {
-            result(found.length, found.figure, found.worst, found.count, 1, 0)
-        }
-        Decided::Open(found, floor) => {
-            result(
-                found.length,
-                found.figure,
-                found.worst,
-                found.count,
-                2,
-                floor,
-            )
-        }
+        Decided::Settled(found) => of_decision(found, 1, 0),
+        Decided::Open(found, floor) => of_decision(found, 2, floor),
         Decided::Refused(refusal) => of_refusal(refusal),
     }
 }
