@@ -3,9 +3,10 @@
 // Every call has an answer for every input: its result, or one numbered refusal of the table below. A
 // refusal changes no lent list. A result writes only what the call names; other places keep their content.
 //
-// A list is lent as a pointer and a length in elements. The pointer must not be null, also where the length
-// is 0; so many elements must lie behind it; a list that is written must not overlap another list of the
-// call. Nothing is kept after a call, and threads may call at once with lists of their own.
+// A list is lent as a pointer and a length in elements, and may be longer than the call needs. The pointer
+// must not be null, not even where the length is 0, and the list must have that many elements. A list that
+// is written must not overlap another list of the same call. Nothing is kept after a call, and threads may
+// call at the same time with lists of their own.
 //
 // Nodes are 1 to n and columns 1 to k. A path is the list of its nodes, and no node repeats. Its deviation in
 // a column is its cost there less the least cost of any path there; its figure, or greatest regret, is its
