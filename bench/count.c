@@ -7,12 +7,13 @@
 #include <string.h>
 
 static struct network net;
-static uint16_t rows[256 * MOST_NODES];
-static uint32_t costs[256], work[257 * (MOST_NODES + 16) + 16 * MOST_NODES + 64];
+static uint16_t rows[VIHROLOM_ROWS_LENGTH(VIHROLOM_MOST_NODES, VIHROLOM_MOST_PATHS)];
+static uint32_t costs[VIHROLOM_MOST_PATHS];
+static uint32_t work[VIHROLOM_WORK_LENGTH(VIHROLOM_MOST_NODES, VIHROLOM_MOST_PATHS)];
 
 // Callgrind counts from the entry of this function to its end.
-__attribute__((noinline)) struct reply counted(rank_call *rank, uint32_t wanted) {
-    return rank(net.image, net.image_length, 1, 1, net.n, wanted, rows, wanted * (size_t)net.n, costs, wanted, work, workspace(net.n, wanted));
+__attribute__((noinline)) struct vihrolom_reply counted(rank_call *rank, uint32_t wanted) {
+    return rank(net.image, net.image_length, 1, 1, net.n, wanted, rows, VIHROLOM_ROWS_LENGTH(net.n, wanted), costs, wanted, work, VIHROLOM_WORK_LENGTH(net.n, wanted));
 }
 
 int main(int argc, char **argv) {
@@ -24,6 +25,6 @@ int main(int argc, char **argv) {
     if (shape == SHAPES)
         return 2;
     make_network(&net, shape, (uint32_t)atoi(argv[2]));
-    struct reply r = counted(strcmp(argv[4], "plain") == 0 ? plain_rank : vihrolom_rank, (uint32_t)atoi(argv[3]));
+    struct vihrolom_reply r = counted(strcmp(argv[4], "plain") == 0 ? plain_rank : vihrolom_rank, (uint32_t)atoi(argv[3]));
     return r.refusal != 0;
 }

@@ -9,18 +9,18 @@
 #include <string.h>
 #include <time.h>
 
-enum { MOST = 256, RUNS = 501, BUDGET = 1000000, YEN_RUNS = 9, YEN_BUDGET = 3000000 };
+enum { RUNS = 501, BUDGET = 1000000, YEN_RUNS = 9, YEN_BUDGET = 3000000 };
 
 struct answer {
-    uint16_t rows[MOST * MOST_NODES];
-    uint32_t costs[MOST];
-    uint32_t work[(MOST + 1) * (MOST_NODES + 16) + 16 * MOST_NODES + 64];
+    uint16_t rows[VIHROLOM_ROWS_LENGTH(VIHROLOM_MOST_NODES, VIHROLOM_MOST_PATHS)];
+    uint32_t costs[VIHROLOM_MOST_PATHS];
+    uint32_t work[VIHROLOM_WORK_LENGTH(VIHROLOM_MOST_NODES, VIHROLOM_MOST_PATHS)];
     uint32_t count;
 };
 
 static struct network net;
 static struct answer library, plain;
-static uint32_t yen[MOST];
+static uint32_t yen[VIHROLOM_MOST_PATHS];
 
 // The processor time of this thread in microseconds: other work on the machine is not in it.
 static double now(void) {
@@ -46,9 +46,9 @@ static void fail(const char *what, unsigned shape, uint32_t top, uint32_t wanted
 
 // One call, from garbage in the workspace and the rows; returns its time.
 static double call(rank_call *rank, struct answer *a, uint32_t wanted) {
-    size_t words = workspace(net.n, wanted);
+    size_t places = VIHROLOM_ROWS_LENGTH(net.n, wanted), words = VIHROLOM_WORK_LENGTH(net.n, wanted);
     double began = now();
-    struct reply r = rank(net.image, net.image_length, 1, 1, net.n, wanted, a->rows, wanted * (size_t)net.n, a->costs, wanted, a->work, words);
+    struct vihrolom_reply r = rank(net.image, net.image_length, 1, 1, net.n, wanted, a->rows, places, a->costs, wanted, a->work, words);
     double took = now() - began;
     a->count = r.refusal == 0 ? r.v0 : 0;
     return took;
@@ -61,9 +61,9 @@ static void compare(unsigned shape, uint32_t top, uint32_t wanted) {
     call(plain_rank, &plain, wanted);
     if (plain.count != wanted)
         fail("the network has fewer paths", shape, top, wanted);
-    if (library.count != plain.count || memcmp(library.rows, plain.rows, 2 * wanted * (size_t)net.n) != 0 || memcmp(library.costs, plain.costs, 4 * wanted) != 0)
+    if (library.count != plain.count || memcmp(library.rows, plain.rows, 2 * VIHROLOM_ROWS_LENGTH(net.n, wanted)) != 0 || memcmp(library.costs, plain.costs, 4 * wanted) != 0)
         fail("the library's ranked list is not that of the plain engine", shape, top, wanted);
-    for (size_t i = 0; i < workspace(net.n, wanted); i++)
+    for (size_t i = 0; i < VIHROLOM_WORK_LENGTH(net.n, wanted); i++)
         if (library.work[i] != 0 || plain.work[i] != 0)
             fail("a workspace is not cleared", shape, top, wanted);
     yen_rank(1, net.n, wanted);

@@ -15,7 +15,7 @@ static uint32_t draw(uint32_t below) {
 }
 
 // Whether there is an arc from the one node to the other.
-static uint8_t arc[MOST_NODES + 1][MOST_NODES + 1];
+static uint8_t arc[VIHROLOM_MOST_NODES + 1][VIHROLOM_MOST_NODES + 1];
 
 static void both_ways(unsigned a, unsigned b) {
     arc[a][b] = 1;
@@ -80,7 +80,7 @@ static void put(uint8_t *at, unsigned bytes, uint32_t x) {
 static void write_image(struct network *net) {
     unsigned m = net->m;
     uint8_t *b = net->image;
-    net->image_length = 24 + 8 * (size_t)m;
+    net->image_length = VIHROLOM_IMAGE_LENGTH(m, 1);
     put(b, 2, 1);
     put(b + 2, 2, net->n);
     put(b + 4, 2, m);
@@ -116,8 +116,4 @@ void make_network(struct network *net, unsigned shape, uint32_t top) {
                 net->m++;
             }
     write_image(net);
-}
-
-size_t workspace(unsigned n, unsigned wanted) {
-    return (size_t)(wanted + 1) * (n + 16) + 16 * (size_t)n + 64;
 }

@@ -34,11 +34,11 @@ static uint32_t read32(const uint8_t *b) {
 
 // ---- the rows of the refusal table
 
-static struct reply refused(uint32_t row, uint32_t place) {
-    return (struct reply){.refusal = row, .place = place};
+static struct vihrolom_reply refused(uint32_t row, uint32_t place) {
+    return (struct vihrolom_reply){.refusal = row, .place = place};
 }
 
-static struct reply check_arcs(const uint8_t *image, uint32_t n, uint32_t m) {
+static struct vihrolom_reply check_arcs(const uint8_t *image, uint32_t n, uint32_t m) {
     uint32_t last_tail = 0, last_head = 0;
     for (uint32_t i = 0; i < m; i++) {
         uint32_t tail = read16(image + 24 + 4 * i), head = read16(image + 26 + 4 * i);
@@ -54,7 +54,7 @@ static struct reply check_arcs(const uint8_t *image, uint32_t n, uint32_t m) {
     return refused(0, 0);
 }
 
-static struct reply check(const uint8_t *image, size_t length) {
+static struct vihrolom_reply check(const uint8_t *image, size_t length) {
     if (length < 24)
         return refused(1, 0);
     if (read16(image) != 1)
@@ -67,13 +67,13 @@ static struct reply check(const uint8_t *image, size_t length) {
         return refused(4, 0);
     if (length != total)
         return refused(5, 0);
-    struct reply arcs = check_arcs(image, n, m);
+    struct vihrolom_reply arcs = check_arcs(image, n, m);
     if (arcs.refusal != 0)
         return arcs;
     for (uint32_t i = 0; i < m * k; i++)
         if (read32(image + 24 + 4 * m + 4 * i) > 1000000)
             return refused(9, i);
-    return (struct reply){.v0 = n, .v1 = m, .v2 = k};
+    return (struct vihrolom_reply){.v0 = n, .v1 = m, .v2 = k};
 }
 
 // ---- labels
@@ -330,8 +330,8 @@ static void rank_paths(struct engine *e) {
         split(e, j);
 }
 
-struct reply plain_rank(const uint8_t *image, size_t image_length, uint32_t column, uint32_t start, uint32_t goal, uint32_t wanted, uint16_t *rows, size_t rows_length, uint32_t *costs, size_t costs_length, uint32_t *work, size_t work_length) {
-    struct reply sizes = check(image, image_length);
+struct vihrolom_reply plain_rank(const uint8_t *image, size_t image_length, uint32_t column, uint32_t start, uint32_t goal, uint32_t wanted, uint16_t *rows, size_t rows_length, uint32_t *costs, size_t costs_length, uint32_t *work, size_t work_length) {
+    struct vihrolom_reply sizes = check(image, image_length);
     if (sizes.refusal != 0)
         return sizes;
     uint32_t n = sizes.v0;
@@ -357,5 +357,5 @@ struct reply plain_rank(const uint8_t *image, size_t image_length, uint32_t colu
         costs[i] = entry[0];
     }
     memset(work, 0, work_length * sizeof *work);
-    return (struct reply){.v0 = e.count};
+    return (struct vihrolom_reply){.v0 = e.count};
 }

@@ -2,17 +2,10 @@
 #ifndef RANK_H
 #define RANK_H
 
-#include <stddef.h>
-#include <stdint.h>
+#include "vihrolom.h"
 
-// refusal is 0 for a result; v0 is then the number of paths.
-struct reply {
-    uint32_t refusal, place, v0, v1, v2, v3, v4, v5;
-};
+typedef struct vihrolom_reply rank_call(const uint8_t *image, size_t image_length, uint32_t column, uint32_t start, uint32_t goal, uint32_t wanted, uint16_t *rows, size_t rows_length, uint32_t *costs, size_t costs_length, uint32_t *work, size_t work_length);
 
-typedef struct reply rank_call(const uint8_t *image, size_t image_length, uint32_t column, uint32_t start, uint32_t goal, uint32_t wanted, uint16_t *rows, size_t rows_length, uint32_t *costs, size_t costs_length, uint32_t *work, size_t work_length);
-
-rank_call vihrolom_rank;
 rank_call plain_rank;
 
 #endif

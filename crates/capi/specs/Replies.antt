@@ -9,6 +9,6 @@ abbrev pub numbers : Reply → List ℕ
 numbers r = r .refusal ∷ r .place ∷ r .v0 ∷ r .v1 ∷ r .v2 ∷ r .v3 ∷ r .v4 ∷ r .v5 ∷ []
 
 -- the first number is 0 for a result, which has at most six values; what is not used is 0
-unfoldable pub reply-of : Outcome → List ℕ
+abbrev pub reply-of : Outcome → List ℕ
 reply-of (gives values) = 0 ∷ 0 ∷ (values ++ replicate (6 - length values) 0)
 reply-of (refuses number place) = number ∷ place ∷ replicate 6 0

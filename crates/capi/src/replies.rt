@@ -1,12 +1,20 @@
 // A call's answer as eight numbers.
+use image::Built;
+use image::Checked;
 use image::Refusal;
+use image::Unpacked;
+use image::number;
+use image::place;
+use routes::Decided;
+use routes::Decision;
+use routes::Labelled;
 use routes::Listed;
+use routes::Regretted;
+use routes::Routed;
 ghost use mathlib.Core.Path.{_≡_};
 ghost use mathlib.Core.List.{[], _∷_};
-ghost use Rattle.image.specs.Outcome.{gives};
-ghost use Rattle.image.specs.Refusals.{numberOf, placeOf};
-ghost use Rattle.image.specs.Answers.{refused};
-ghost use Rattle.routes.specs.Answers.{listed};
+ghost use Rattle.image.specs.Answers.{refused, checked, built, unpacked};
+ghost use Rattle.routes.specs.Answers.{labelled, routed, regretted, listed, decided};
 ghost use Rattle.capi.specs.Replies.{numbers, reply-of};
 
 // refusal is 0 for a result, and v0 to v5 are then its values; it is else the number of the refusal, and
@@ -23,14 +31,30 @@ pub struct Reply {
     pub v5: u32,
 }
 
-// The reply with the two numbers of a refusal, or the one value of a result.
-fn plain(refusal: u32, place: u32, v0: u32) -> Reply
-    ensures { λ r. ⌜ numbers r ≡ (refusal ∷ place ∷ v0 ∷ 0 ∷ 0 ∷ 0 ∷ 0 ∷ 0 ∷ []) ⌝ }
+// A result with these values.
+fn result(v0: u32, v1: u32, v2: u32, v3: u32, v4: u32, v5: u32) -> Reply
+    ensures { λ r. ⌜ numbers r ≡ (0 ∷ 0 ∷ v0 ∷ v1 ∷ v2 ∷ v3 ∷ v4 ∷ v5 ∷ []) ⌝ }
 {
     Reply {
-        refusal,
-        place,
+        refusal: 0,
+        place: 0,
         v0,
+        v1,
+        v2,
+        v3,
+        v4,
+        v5,
+    }
+}
+
+// A refusal.
+fn of_refusal(refusal: Refusal) -> Reply
+    ensures { λ r. ⌜ numbers r ≡ reply-of (refused refusal) ⌝ }
+{
+    Reply {
+        refusal: number(refusal),
+        place: place(refusal),
+        v0: 0,
         v1: 0,
         v2: 0,
         v3: 0,
@@ -39,66 +63,64 @@ fn plain(refusal: u32, place: u32, v0: u32) -> Reply
     }
 }
 
-// The number of a refusal's row.
-fn number(refusal: Refusal) -> u32
-    ensures { λ r. ⌜ r ≡ numberOf refusal ⌝ }
+// Check's answer.
+pub fn of_checked(answer: Checked) -> Reply
+    ensures { λ r. ⌜ numbers r ≡ reply-of (checked answer) ⌝ }
 {
-    match refusal {
-        Refusal::ImageTooShort => 1,
-        Refusal::WrongEdition => 2,
-        Refusal::SizeOutOfRange => 3,
-        Refusal::WrongField => 4,
-        Refusal::WrongLength => 5,
-        Refusal::ArcOutOfRange(_) => 6,
-        Refusal::ArcToItself(_) => 7,
-        Refusal::ArcNotRising(_) => 8,
-        Refusal::CostTooLarge(_) => 9,
-        Refusal::WrongEnds => 10,
-        Refusal::WrongColumn => 11,
-        Refusal::WrongPathCount => 12,
-        Refusal::SliceTooShort => 13,
-        Refusal::NotAPath(_) => 14,
-        Refusal::NoPath => 15,
-        Refusal::CostOverflow => 16,
+    match answer {
+        Checked::Network(sizes) => result(sizes.n, sizes.m, sizes.k, 0, 0, 0),
+        Checked::Refused(refusal) => of_refusal(refusal),
     }
 }
 
-// The place that a refusal names, or 0.
-fn place(refusal: Refusal) -> u32
-    ensures { λ r. ⌜ r ≡ placeOf refusal ⌝ }
+// Build's answer.
+pub fn of_built(answer: Built) -> Reply
+    ensures { λ r. ⌜ numbers r ≡ reply-of (built answer) ⌝ }
 {
-    match refusal {
-        Refusal::ArcOutOfRange(arc) => arc,
-        Refusal::ArcToItself(arc) => arc,
-        Refusal::ArcNotRising(arc) => arc,
-        Refusal::CostTooLarge(index) => index,
-        Refusal::NotAPath(position) => position,
-        Refusal::ImageTooShort => 0,
-        Refusal::WrongEdition => 0,
-        Refusal::SizeOutOfRange => 0,
-        Refusal::WrongField => 0,
-        Refusal::WrongLength => 0,
-        Refusal::WrongEnds => 0,
-        Refusal::WrongColumn => 0,
-        Refusal::WrongPathCount => 0,
-        Refusal::SliceTooShort => 0,
-        Refusal::NoPath => 0,
-        Refusal::CostOverflow => 0,
+    match answer {
+        Built::Image(length) => result(length, 0, 0, 0, 0, 0),
+        Built::Refused(refusal) => of_refusal(refusal),
     }
 }
 
-// A refusal.
-fn of_refusal(refusal: Refusal) -> Reply
-    ensures { λ r. ⌜ numbers r ≡ reply-of (refused refusal) ⌝ }
+// Unpack's answer.
+pub fn of_unpacked(answer: Unpacked) -> Reply
+    ensures { λ r. ⌜ numbers r ≡ reply-of (unpacked answer) ⌝ }
 {
-    plain(number(refusal), place(refusal), 0)
+    match answer {
+        Unpacked::Lists(sizes) => result(sizes.n, sizes.m, sizes.k, 0, 0, 0),
+        Unpacked::Refused(refusal) => of_refusal(refusal),
+    }
 }
 
-// A result with one value.
-fn of_count(count: u32) -> Reply
-    ensures { λ r. ⌜ numbers r ≡ reply-of (gives (count ∷ [])) ⌝ }
+// Label's answer.
+pub fn of_labelled(answer: Labelled) -> Reply
+    ensures { λ r. ⌜ numbers r ≡ reply-of (labelled answer) ⌝ }
 {
-    plain(0, 0, count)
+    match answer {
+        Labelled::Written => result(0, 0, 0, 0, 0, 0),
+        Labelled::Refused(refusal) => of_refusal(refusal),
+    }
+}
+
+// Shortest's answer.
+pub fn of_routed(answer: Routed) -> Reply
+    ensures { λ r. ⌜ numbers r ≡ reply-of (routed answer) ⌝ }
+{
+    match answer {
+        Routed::Path(length, cost) => result(length, cost, 0, 0, 0, 0),
+        Routed::Refused(refusal) => of_refusal(refusal),
+    }
+}
+
+// Regret's answer.
+pub fn of_regretted(answer: Regretted) -> Reply
+    ensures { λ r. ⌜ numbers r ≡ reply-of (regretted answer) ⌝ }
+{
+    match answer {
+        Regretted::Measured(measure) => result(measure.figure, measure.worst, 0, 0, 0, 0),
+        Regretted::Refused(refusal) => of_refusal(refusal),
+    }
 }
 
 // Rank's answer.
@@ -106,7 +128,32 @@ pub fn of_listed(answer: Listed) -> Reply
     ensures { λ r. ⌜ numbers r ≡ reply-of (listed answer) ⌝ }
 {
     match answer {
-        Listed::Paths(count) => of_count(count),
+        Listed::Paths(count) => result(count, 0, 0, 0, 0, 0),
         Listed::Refused(refusal) => of_refusal(refusal),
+    }
+}
+
+// A choice of Robust. The state is 1 if it is settled and 2 if it is open.
+fn of_decision(found: Decision, state: u32, floor: u32) -> Reply
+    ensures { λ r. ⌜ numbers r ≡ (0 ∷ 0 ∷ found .length ∷ found .figure ∷ found .worst ∷ found .count ∷ state ∷ floor ∷ []) ⌝ }
+{
+    result(
+        found.length,
+        found.figure,
+        found.worst,
+        found.count,
+        state,
+        floor,
+    )
+}
+
+// Robust's answer.
+pub fn of_decided(answer: Decided) -> Reply
+    ensures { λ r. ⌜ numbers r ≡ reply-of (decided answer) ⌝ }
+{
+    match answer {
+        Decided::Settled(found) => of_decision(found, 1, 0),
+        Decided::Open(found, floor) => of_decision(found, 2, floor),
+        Decided::Refused(refusal) => of_refusal(refusal),
     }
 }

@@ -19,6 +19,8 @@ pub use parts::read_arcs;
 pub use parts::read_column;
 pub use parts::read_columns;
 pub use refusal::Refusal;
+pub use refusal::number;
+pub use refusal::place;
 pub use rows::is_node;
 pub use unpacking::Unpacked;
 pub use unpacking::unpack;

@@ -3,7 +3,6 @@
 
 mod lines;
 mod printing;
-mod refusals;
 mod words;
 
 pub use printing::Printed;

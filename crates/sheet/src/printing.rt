@@ -2,11 +2,11 @@
 use super::lines::write_open;
 use super::lines::write_pair;
 use super::lines::write_settled;
-use super::refusals::number;
-use super::refusals::place;
 use image::Checked;
 use image::Refusal;
 use image::check;
+use image::number;
+use image::place;
 use routes::Decided;
 use routes::robust;
 ghost use mathlib.Core.Path.{_≡_};

@@ -9,8 +9,8 @@ use Rattle.capi.proofs.replies.of_listed.Tie as tie
 enum-known-answer : tie.Need-enum-known-answer
 enum-known-answer c = search needs
 
-of-count-requires : tie.Need-of-count-requires
-of-count-requires c κs = search needs
+result-requires : tie.Need-result-requires
+result-requires c κs = search needs
 
 enum-known-answer-2 : tie.Need-enum-known-answer-2
 enum-known-answer-2 c = search needs
@@ -19,10 +19,18 @@ of-refusal-requires : tie.Need-of-refusal-requires
 of-refusal-requires c κs = search needs
 
 returns : tie.Need-returns
-returns c = c .of-count .ensures ∙ ap (λ x. reply-of (listed x)) (sym (c .before .before .answer .given .1))
+returns c = c .result .ensures ∙ ap (λ x. reply-of (listed x)) (sym (c .before .before .answer .given .1))
 
 returns-2 : tie.Need-returns-2
 returns-2 c = c .of-refusal .ensures ∙ ap (λ x. reply-of (listed x)) (sym (c .before .before .answer2 .given .1))
 
 pub of-listed-spec : {M : Type 1} → statement M
-of-listed-spec = tie.close (tie.spec enum-known-answer of-count-requires enum-known-answer-2 of-refusal-requires returns returns-2)
+of-listed-spec =
+    tie.close
+    (tie.spec
+    enum-known-answer
+    result-requires
+    enum-known-answer-2
+    of-refusal-requires
+    returns
+    returns-2)

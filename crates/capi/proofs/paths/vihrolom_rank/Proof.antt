@@ -1,9 +1,9 @@
--- `capi::vihrolom_rank` meets its contract. Assumes nothing.
+-- `capi::paths::vihrolom_rank` meets its contract. Assumes nothing.
 use mathlib.Core.Path.{ap, _∙_}
 use borrow.Author.Needs.{needs}
 use Rattle.capi.specs.Replies.{reply-of}
-use Rattle.capi.proofs.vihrolom_rank.Statement.{statement}
-use Rattle.capi.proofs.vihrolom_rank.Tie as tie
+use Rattle.capi.proofs.paths.vihrolom_rank.Statement.{statement}
+use Rattle.capi.proofs.paths.vihrolom_rank.Tie as tie
 
 rank-requires : tie.Need-rank-requires
 rank-requires c κs = search needs
@@ -25,4 +25,6 @@ returns c = let k = c .before .before .before .before .before .before .before in
     (c .of-listed .ensures ∙ ap reply-of (k .rank .ensures .0), k .rank .ensures .1)
 
 pub vihrolom-rank-spec : {M : Type 1} → statement M
-vihrolom-rank-spec = tie.close (tie.spec rank-requires of-listed-requires same-length same-length-2 same-length-3 returns)
+vihrolom-rank-spec =
+    tie.close
+    (tie.spec rank-requires of-listed-requires same-length same-length-2 same-length-3 returns)

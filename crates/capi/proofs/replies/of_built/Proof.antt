@@ -1,0 +1,36 @@
+-- `capi::replies::of_built` meets its contract. Assumes nothing.
+use mathlib.Core.Path.{sym, ap, _∙_}
+use borrow.Author.Needs.{needs}
+use Rattle.image.specs.Answers.{built}
+use Rattle.capi.specs.Replies.{reply-of}
+use Rattle.capi.proofs.replies.of_built.Statement.{statement}
+use Rattle.capi.proofs.replies.of_built.Tie as tie
+
+enum-known-answer : tie.Need-enum-known-answer
+enum-known-answer c = search needs
+
+result-requires : tie.Need-result-requires
+result-requires c κs = search needs
+
+enum-known-answer-2 : tie.Need-enum-known-answer-2
+enum-known-answer-2 c = search needs
+
+of-refusal-requires : tie.Need-of-refusal-requires
+of-refusal-requires c κs = search needs
+
+returns : tie.Need-returns
+returns c = c .result .ensures ∙ ap (λ x. reply-of (built x)) (sym (c .before .before .answer .given .1))
+
+returns-2 : tie.Need-returns-2
+returns-2 c = c .of-refusal .ensures ∙ ap (λ x. reply-of (built x)) (sym (c .before .before .answer2 .given .1))
+
+pub of-built-spec : {M : Type 1} → statement M
+of-built-spec =
+    tie.close
+    (tie.spec
+    enum-known-answer
+    result-requires
+    enum-known-answer-2
+    of-refusal-requires
+    returns
+    returns-2)

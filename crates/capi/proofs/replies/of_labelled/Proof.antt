@@ -1,0 +1,30 @@
+-- `capi::replies::of_labelled` meets its contract. Assumes nothing.
+use mathlib.Core.Path.{sym, ap, _∙_}
+use borrow.Author.Needs.{needs}
+use Rattle.routes.specs.Answers.{labelled}
+use Rattle.capi.specs.Replies.{reply-of}
+use Rattle.capi.proofs.replies.of_labelled.Statement.{statement}
+use Rattle.capi.proofs.replies.of_labelled.Tie as tie
+
+enum-told : tie.Need-enum-told
+enum-told c = search needs
+
+result-requires : tie.Need-result-requires
+result-requires c κs = search needs
+
+enum-known-answer : tie.Need-enum-known-answer
+enum-known-answer c = search needs
+
+of-refusal-requires : tie.Need-of-refusal-requires
+of-refusal-requires c κs = search needs
+
+returns : tie.Need-returns
+returns c = c .result .ensures ∙ ap (λ x. reply-of (labelled x)) (sym (c .before .enum-told .given .1))
+
+returns-2 : tie.Need-returns-2
+returns-2 c = c .of-refusal .ensures ∙ ap (λ x. reply-of (labelled x)) (sym (c .before .before .answer .given .1))
+
+pub of-labelled-spec : {M : Type 1} → statement M
+of-labelled-spec =
+    tie.close
+    (tie.spec enum-told result-requires enum-known-answer of-refusal-requires returns returns-2)

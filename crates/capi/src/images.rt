@@ -1,0 +1,53 @@
+// The calls of the image layer: Check, Build and Unpack.
+use super::replies::Reply;
+use super::replies::of_built;
+use super::replies::of_checked;
+use super::replies::of_unpacked;
+use image::build;
+use image::check;
+use image::unpack;
+ghost use mathlib.Core.Path.{_≡_};
+ghost use lib.ListN.{length};
+ghost use Rattle.image.specs.Outcome.{sound, after};
+ghost use Rattle.image.specs.Layout.{image-of, node-list, cost-list};
+ghost use Rattle.image.specs.Calls.{check-outcome, build-fault, build-outcome, unpack-fault, unpack-outcome};
+ghost use Rattle.image.specs.RoundTrip.{ReadsBack, WritesAgain};
+ghost use Rattle.capi.specs.Replies.{numbers, reply-of};
+
+// Document 01, call 1. v0 to v2: n, m and k.
+#[no_mangle]
+pub extern "C" fn vihrolom_check(image: &[u8]) -> Reply
+    ensures { λ r. ⌜ numbers r ≡ reply-of (check-outcome (now (image .entry))) ⌝ }
+{
+    let answer = check(image);
+    of_checked(answer)
+}
+
+// Document 01, call 7. v0: the image's length.
+#[no_mangle]
+pub extern "C" fn vihrolom_build(
+    n: u32,
+    k: u32,
+    nodes: &[u16],
+    costs: &[u32],
+    image: &mut [u8],
+) -> Reply
+    ensures { λ r. ⌜ numbers r ≡ reply-of (build-outcome n k (now (nodes .entry)) (now (costs .entry)) (length (now (image .entry)))) ⌝ }
+    ensures { λ _. ⌜ now (image .exit) ≡ after (build-fault n k (now (nodes .entry)) (now (costs .entry)) (length (now (image .entry)))) (image-of n k (now (nodes .entry)) (now (costs .entry))) (now (image .entry)) ⌝ }
+    ensures { λ _. ⌜ (build-fault n k (now (nodes .entry)) (now (costs .entry)) (length (now (image .entry))) ≡ sound → ReadsBack n k (now (nodes .entry)) (now (costs .entry))) ⌝ }
+{
+    let answer = build(n, k, nodes, costs, image);
+    of_built(answer)
+}
+
+// Document 01, call 7. v0 to v2: n, m and k.
+#[no_mangle]
+pub extern "C" fn vihrolom_unpack(image: &[u8], nodes: &mut [u16], costs: &mut [u32]) -> Reply
+    ensures { λ r. ⌜ numbers r ≡ reply-of (unpack-outcome (now (image .entry)) (length (now (nodes .entry))) (length (now (costs .entry)))) ⌝ }
+    ensures { λ _. ⌜ now (nodes .exit) ≡ after (unpack-fault (now (image .entry)) (length (now (nodes .entry))) (length (now (costs .entry)))) (node-list (now (image .entry))) (now (nodes .entry)) ⌝ }
+    ensures { λ _. ⌜ now (costs .exit) ≡ after (unpack-fault (now (image .entry)) (length (now (nodes .entry))) (length (now (costs .entry)))) (cost-list (now (image .entry))) (now (costs .entry)) ⌝ }
+    ensures { λ _. ⌜ (unpack-fault (now (image .entry)) (length (now (nodes .entry))) (length (now (costs .entry))) ≡ sound → WritesAgain (now (image .entry))) ⌝ }
+{
+    let answer = unpack(image, nodes, costs);
+    of_unpacked(answer)
+}

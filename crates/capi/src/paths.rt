@@ -1,0 +1,95 @@
+// The calls of the path layer: Label, Shortest, Regret, Rank and Robust.
+use super::replies::Reply;
+use super::replies::of_decided;
+use super::replies::of_labelled;
+use super::replies::of_listed;
+use super::replies::of_regretted;
+use super::replies::of_routed;
+use routes::label;
+use routes::rank;
+use routes::regret;
+use routes::robust;
+use routes::shortest;
+ghost use mathlib.Core.Path.{_≡_};
+ghost use lib.ListN.{length};
+ghost use Rattle.image.specs.Outcome.{after};
+ghost use Rattle.routes.specs.Calls.{cleared, label-fault, label-outcome, labels-of, shortest-fault, shortest-outcome, shortest-of, regret-outcome, rank-fault, rank-outcome, rank-rows-of, rank-costs-of, robust-fault, robust-outcome, robust-of, chosen};
+ghost use Rattle.routes.specs.Demands.{Kept3};
+ghost use Rattle.capi.specs.Replies.{numbers, reply-of};
+
+// Document 01, call 2. No values.
+#[no_mangle]
+pub extern "C" fn vihrolom_label(image: &[u8], column: u32, goal: u32, labels: &mut [u32]) -> Reply
+    ensures { λ r. ⌜ numbers r ≡ reply-of (label-outcome (now (image .entry)) column goal (length (now (labels .entry)))) ⌝ }
+    ensures { λ _. ⌜ now (labels .exit) ≡ after (label-fault (now (image .entry)) column goal (length (now (labels .entry)))) (labels-of (now (image .entry)) column goal) (now (labels .entry)) ⌝ }
+{
+    let answer = label(image, column, goal, labels);
+    of_labelled(answer)
+}
+
+// Document 01, call 3. v0: the path's length; v1: its cost.
+#[no_mangle]
+pub extern "C" fn vihrolom_shortest(
+    image: &[u8],
+    column: u32,
+    start: u32,
+    goal: u32,
+    path: &mut [u16],
+) -> Reply
+    ensures { λ r. ⌜ numbers r ≡ reply-of (shortest-outcome (now (image .entry)) column start goal (length (now (path .entry)))) ⌝ }
+    ensures { λ _. ⌜ now (path .exit) ≡ after (shortest-fault (now (image .entry)) column start goal (length (now (path .entry)))) (shortest-of (now (image .entry)) column start goal) (now (path .entry)) ⌝ }
+{
+    let answer = shortest(image, column, start, goal, path);
+    of_routed(answer)
+}
+
+// Document 01, call 4. v0: the figure; v1: the worst column.
+#[no_mangle]
+pub extern "C" fn vihrolom_regret(image: &[u8], start: u32, goal: u32, nodes: &[u16]) -> Reply
+    ensures { λ r. ⌜ numbers r ≡ reply-of (regret-outcome (now (image .entry)) start goal (now (nodes .entry))) ⌝ }
+{
+    let answer = regret(image, start, goal, nodes);
+    of_regretted(answer)
+}
+
+// Document 01, call 5. v0: the number of paths.
+#[no_mangle]
+pub extern "C" fn vihrolom_rank(
+    image: &[u8],
+    column: u32,
+    start: u32,
+    goal: u32,
+    wanted: u32,
+    rows: &mut [u16],
+    costs: &mut [u32],
+    work: &mut [u32],
+) -> Reply
+    ensures { λ r. ⌜ numbers r ≡ reply-of (rank-outcome (now (image .entry)) column start goal wanted (length (now (rows .entry))) (length (now (costs .entry))) (length (now (work .entry)))) ⌝ }
+    ensures { λ _. ⌜ now (rows .exit) ≡ after (rank-fault (now (image .entry)) column start goal wanted (length (now (rows .entry))) (length (now (costs .entry))) (length (now (work .entry)))) (rank-rows-of (now (image .entry)) column start goal wanted) (now (rows .entry)) ⌝ }
+    ensures { λ _. ⌜ now (costs .exit) ≡ after (rank-fault (now (image .entry)) column start goal wanted (length (now (rows .entry))) (length (now (costs .entry))) (length (now (work .entry)))) (rank-costs-of (now (image .entry)) column start goal wanted) (now (costs .entry)) ⌝ }
+    ensures { λ _. ⌜ now (work .exit) ≡ cleared (rank-fault (now (image .entry)) column start goal wanted (length (now (rows .entry))) (length (now (costs .entry))) (length (now (work .entry)))) (now (work .entry)) ⌝ }
+{
+    let answer = rank(image, column, start, goal, wanted, rows, costs, work);
+    of_listed(answer)
+}
+
+// Document 01, call 6. v0: the path's length; v1: its figure; v2: its worst column; v3: the count;
+// v4: the state, 1 settled or 2 open; v5: the floor, 0 if settled.
+#[no_mangle]
+pub extern "C" fn vihrolom_robust(
+    image: &[u8],
+    column: u32,
+    start: u32,
+    goal: u32,
+    wanted: u32,
+    path: &mut [u16],
+    work: &mut [u32],
+) -> Reply
+    ensures { λ r. ⌜ numbers r ≡ reply-of (robust-outcome (now (image .entry)) column start goal wanted (length (now (path .entry))) (length (now (work .entry)))) ⌝ }
+    ensures { λ _. ⌜ now (path .exit) ≡ after (robust-fault (now (image .entry)) column start goal wanted (length (now (path .entry))) (length (now (work .entry)))) (chosen (robust-of (now (image .entry)) column start goal wanted)) (now (path .entry)) ⌝ }
+    ensures { λ _. ⌜ now (work .exit) ≡ cleared (robust-fault (now (image .entry)) column start goal wanted (length (now (path .entry))) (length (now (work .entry)))) (now (work .entry)) ⌝ }
+    ensures { λ _. ⌜ Kept3 (now (image .entry)) column start goal wanted (length (now (path .entry))) (length (now (work .entry))) ⌝ }
+{
+    let answer = robust(image, column, start, goal, wanted, path, work);
+    of_decided(answer)
+}

@@ -1,0 +1,368 @@
+// Calls the eight C functions on the cases of document 01 and on an example of each refusal. Every lent
+// list stands at the beginning of a longer buffer that holds a pattern, and after each call the whole
+// buffer is held to what it has to be: what is written, what is kept, and what lies behind the list.
+// Prints the number of checks; stops at the first that fails, with exit status 1. C99, and C++ as well.
+#include "vihrolom.h"
+
+#include <stdio.h>
+#include <stdlib.h>
+#include <string.h>
+
+enum { PATTERN = 165, ROOM = 4096 };
+
+union buffer {
+    uint8_t bytes[ROOM];
+    uint16_t nodes[ROOM / 2];
+    uint32_t numbers[ROOM / 4];
+};
+
+// A list of `length` elements, as it is and as it has to be after a call.
+struct list {
+    size_t length;
+    union buffer is, due;
+};
+
+typedef struct vihrolom_reply reply;
+
+static const char *running = "";
+static unsigned checks;
+
+// ---- checks
+
+static void expect(const char *what, unsigned long is, unsigned long due) {
+    if (is != due) {
+        fprintf(stderr, "smoke: %s: %s is %lu, must be %lu\n", running, what, is, due);
+        exit(1);
+    }
+    checks++;
+}
+
+static void expect_reply(reply is, reply due) {
+    expect("refusal", is.refusal, due.refusal);
+    expect("place", is.place, due.place);
+    expect("v0", is.v0, due.v0);
+    expect("v1", is.v1, due.v1);
+    expect("v2", is.v2, due.v2);
+    expect("v3", is.v3, due.v3);
+    expect("v4", is.v4, due.v4);
+    expect("v5", is.v5, due.v5);
+}
+
+static void expect_list(const char *what, const struct list *list) {
+    for (size_t i = 0; i < ROOM; i++)
+        if (list->is.bytes[i] != list->due.bytes[i]) {
+            fprintf(stderr, "smoke: %s: byte %zu of %s is %u, must be %u\n", running, i, what, list->is.bytes[i], list->due.bytes[i]);
+            exit(1);
+        }
+    checks++;
+}
+
+// ---- lists
+
+// A list to write to, with so many places.
+static struct list places(size_t length) {
+    struct list list;
+    list.length = length;
+    memset(&list.is, PATTERN, ROOM);
+    memset(&list.due, PATTERN, ROOM);
+    return list;
+}
+
+// What a call has to write over the list's beginning; `elements` is null if it writes nothing.
+static void written(struct list *list, const void *elements, size_t bytes) {
+    if (elements != NULL)
+        memcpy(&list->due, elements, bytes);
+}
+
+// A list to read.
+static struct list elements(const void *content, size_t length, size_t width) {
+    struct list list = places(length);
+    memcpy(&list.is, content, length * width);
+    memcpy(&list.due, content, length * width);
+    return list;
+}
+
+static struct list bytes(const uint8_t *content, size_t length) {
+    return elements(content, length, 1);
+}
+
+static struct list nodes(const uint16_t *content, size_t length) {
+    return elements(content, length, 2);
+}
+
+static struct list numbers(const uint32_t *content, size_t length) {
+    return elements(content, length, 4);
+}
+
+// A workspace, which after a result is 0.
+static struct list workspace(size_t length, uint32_t refusal) {
+    struct list list = places(length);
+    if (refusal == 0)
+        memset(&list.due, 0, 4 * length);
+    return list;
+}
+
+// ---- network S
+
+static const uint16_t S_nodes[] = {1, 2, 1, 3, 2, 3, 2, 4, 3, 4};
+static const uint32_t S_costs[] = {2, 5, 1, 6, 2, 4, 1, 2, 1, 7};
+static const uint8_t S_image[] = {
+    1, 0, 4, 0, 5, 0, 2, 0, 24, 0, 0, 0, 44, 0, 0, 0, 84, 0, 0, 0, 0, 0, 0, 0, // edition, n, m, k, 24, 44, 84, 0
+    1, 0, 2, 0, 1, 0, 3, 0, 2, 0, 3, 0, 2, 0, 4, 0, 3, 0, 4, 0,                // the arcs
+    2, 0, 0, 0, 5, 0, 0, 0, 1, 0, 0, 0, 6, 0, 0, 0, 2, 0, 0, 0,                // column 1
+    4, 0, 0, 0, 1, 0, 0, 0, 2, 0, 0, 0, 1, 0, 0, 0, 7, 0, 0, 0,                // column 2
+};
+
+enum { N = 4, M = 5, COLUMNS = 2 };
+
+// The image of the cases below.
+static struct list image;
+
+// ---- one case of each call: what is given to it, and what it has to give and write
+
+static void build_case(const char *name, uint32_t n, uint32_t k, struct list arcs, struct list costs, size_t room, reply due, const uint8_t *result) {
+    running = name;
+    struct list target = places(room);
+    written(&target, result, due.v0);
+    expect_reply(vihrolom_build(n, k, arcs.is.nodes, arcs.length, costs.is.numbers, costs.length, target.is.bytes, target.length), due);
+    expect_list("the nodes", &arcs);
+    expect_list("the costs", &costs);
+    expect_list("the image", &target);
+}
+
+static void check_case(const char *name, struct list source, reply due) {
+    running = name;
+    expect_reply(vihrolom_check(source.is.bytes, source.length), due);
+    expect_list("the image", &source);
+}
+
+static void unpack_case(const char *name, size_t nodes_room, size_t costs_room, reply due, const uint16_t *arcs, const uint32_t *prices) {
+    running = name;
+    struct list ends = places(nodes_room), costs = places(costs_room);
+    written(&ends, arcs, sizeof S_nodes);
+    written(&costs, prices, sizeof S_costs);
+    expect_reply(vihrolom_unpack(image.is.bytes, image.length, ends.is.nodes, ends.length, costs.is.numbers, costs.length), due);
+    expect_list("the image", &image);
+    expect_list("the nodes", &ends);
+    expect_list("the costs", &costs);
+}
+
+static void label_case(const char *name, uint32_t column, uint32_t goal, size_t room, reply due, const uint32_t *result) {
+    running = name;
+    struct list labels = places(room);
+    written(&labels, result, 4 * N);
+    expect_reply(vihrolom_label(image.is.bytes, image.length, column, goal, labels.is.numbers, labels.length), due);
+    expect_list("the image", &image);
+    expect_list("the labels", &labels);
+}
+
+static void shortest_case(const char *name, uint32_t column, uint32_t start, uint32_t goal, size_t room, reply due, const uint16_t *result) {
+    running = name;
+    struct list path = places(room);
+    written(&path, result, 2 * due.v0);
+    expect_reply(vihrolom_shortest(image.is.bytes, image.length, column, start, goal, path.is.nodes, path.length), due);
+    expect_list("the image", &image);
+    expect_list("the path", &path);
+}
+
+static void regret_case(const char *name, uint32_t start, uint32_t goal, struct list path, reply due) {
+    running = name;
+    expect_reply(vihrolom_regret(image.is.bytes, image.length, start, goal, path.is.nodes, path.length), due);
+    expect_list("the image", &image);
+    expect_list("the path", &path);
+}
+
+// Rows and costs have places for `wanted` paths and some more, the workspace has `room`.
+static void rank_case(const char *name, uint32_t column, uint32_t start, uint32_t goal, uint32_t wanted, size_t room, reply due, const uint16_t *paths, const uint32_t *prices) {
+    running = name;
+    struct list rows = places(VIHROLOM_ROWS_LENGTH(N, wanted) + 3), costs = places(wanted + 2), work = workspace(room, due.refusal);
+    written(&rows, paths, 2 * VIHROLOM_ROWS_LENGTH(N, due.v0));
+    written(&costs, prices, 4 * due.v0);
+    expect_reply(vihrolom_rank(image.is.bytes, image.length, column, start, goal, wanted, rows.is.nodes, rows.length, costs.is.numbers, costs.length, work.is.numbers, work.length), due);
+    expect_list("the image", &image);
+    expect_list("the rows", &rows);
+    expect_list("the costs", &costs);
+    expect_list("the workspace", &work);
+}
+
+static void robust_case(const char *name, uint32_t column, uint32_t start, uint32_t goal, uint32_t wanted, size_t path_room, size_t room, reply due, const uint16_t *result) {
+    running = name;
+    struct list path = places(path_room), work = workspace(room, due.refusal);
+    written(&path, result, 2 * due.v0);
+    expect_reply(vihrolom_robust(image.is.bytes, image.length, column, start, goal, wanted, path.is.nodes, path.length, work.is.numbers, work.length), due);
+    expect_list("the image", &image);
+    expect_list("the path", &path);
+    expect_list("the workspace", &work);
+}
+
+// ---- replies
+
+static reply gives(uint32_t v0, uint32_t v1, uint32_t v2) {
+    reply due = {0, 0, v0, v1, v2, 0, 0, 0};
+    return due;
+}
+
+static reply refused(uint32_t row, uint32_t place) {
+    reply due = {row, place, 0, 0, 0, 0, 0, 0};
+    return due;
+}
+
+// ---- the cases
+
+static void build_cases(void) {
+    struct list arcs = nodes(S_nodes, 2 * M), costs = numbers(S_costs, M * COLUMNS);
+    build_case("Build S", N, COLUMNS, arcs, costs, sizeof S_image + 3, gives(84, 0, 0), S_image);
+    build_case("Build with n = 1", 1, COLUMNS, arcs, costs, sizeof S_image, refused(VIHROLOM_SIZE_OUT_OF_RANGE, 0), NULL);
+    build_case("Build with an odd node list", N, COLUMNS, nodes(S_nodes, 2 * M - 1), costs, sizeof S_image, refused(VIHROLOM_WRONG_FIELD, 0), NULL);
+    build_case("Build with a cost too few", N, COLUMNS, arcs, numbers(S_costs, M * COLUMNS - 1), sizeof S_image, refused(VIHROLOM_WRONG_FIELD, 0), NULL);
+    build_case("Build with n = 3", 3, COLUMNS, arcs, costs, sizeof S_image, refused(VIHROLOM_ARC_OUT_OF_RANGE, 3), NULL);
+    const uint32_t dear[] = {0, 1000000, 1000001};
+    build_case("Build with cost 1,000,001", N, 3, nodes(S_nodes, 2), numbers(dear, 3), sizeof S_image, refused(VIHROLOM_COST_TOO_LARGE, 2), NULL);
+    build_case("Build into 83 bytes", N, COLUMNS, arcs, costs, sizeof S_image - 1, refused(VIHROLOM_SLICE_TOO_SHORT, 0), NULL);
+}
+
+// S with one byte replaced.
+static struct list damaged(size_t offset, uint8_t byte) {
+    struct list source = bytes(S_image, sizeof S_image);
+    source.is.bytes[offset] = source.due.bytes[offset] = byte;
+    return source;
+}
+
+static void check_cases(void) {
+    struct list longer = bytes(S_image, sizeof S_image);
+    longer.length++;
+    check_case("Check S", bytes(S_image, sizeof S_image), gives(N, M, COLUMNS));
+    check_case("Check an empty image", bytes(S_image, 0), refused(VIHROLOM_IMAGE_TOO_SHORT, 0));
+    check_case("Check edition 7", damaged(0, 7), refused(VIHROLOM_WRONG_EDITION, 0));
+    check_case("Check n = 1", damaged(2, 1), refused(VIHROLOM_SIZE_OUT_OF_RANGE, 0));
+    check_case("Check reserved = 1", damaged(20, 1), refused(VIHROLOM_WRONG_FIELD, 0));
+    check_case("Check one byte added", longer, refused(VIHROLOM_WRONG_LENGTH, 0));
+    check_case("Check arc 0 2", damaged(24, 0), refused(VIHROLOM_ARC_OUT_OF_RANGE, 0));
+    check_case("Check arc 2 2", damaged(34, 2), refused(VIHROLOM_ARC_TO_ITSELF, 2));
+    check_case("Check arc 1 2 twice", damaged(30, 2), refused(VIHROLOM_ARC_NOT_RISING, 1));
+    check_case("Check a cost above 1,000,000", damaged(82, 16), refused(VIHROLOM_COST_TOO_LARGE, 9));
+}
+
+static void unpack_cases(void) {
+    unpack_case("Unpack S", 2 * M + 1, M * COLUMNS + 1, gives(N, M, COLUMNS), S_nodes, S_costs);
+    unpack_case("Unpack with 9 places for nodes", 2 * M - 1, M * COLUMNS, refused(VIHROLOM_SLICE_TOO_SHORT, 0), NULL, NULL);
+    unpack_case("Unpack with 9 places for costs", 2 * M, M * COLUMNS - 1, refused(VIHROLOM_SLICE_TOO_SHORT, 0), NULL, NULL);
+    image = damaged(0, 7);
+    unpack_case("Unpack edition 7", 2 * M, M * COLUMNS, refused(VIHROLOM_WRONG_EDITION, 0), NULL, NULL);
+    image = bytes(S_image, sizeof S_image);
+}
+
+static void label_cases(void) {
+    const uint32_t first[] = {5, 3, 2, 0}, second[] = {5, 1, 7, 0}, apart[] = {0, VIHROLOM_UNREACHED, VIHROLOM_UNREACHED, VIHROLOM_UNREACHED};
+    label_case("Label column 1, goal 4", 1, 4, N + 2, gives(0, 0, 0), first);
+    label_case("Label column 2, goal 4", 2, 4, N, gives(0, 0, 0), second);
+    label_case("Label column 1, goal 1", 1, 1, N, gives(0, 0, 0), apart);
+    label_case("Label with goal 5", 1, 5, N, refused(VIHROLOM_WRONG_ENDS, 0), NULL);
+    label_case("Label with column 0", 0, 4, N, refused(VIHROLOM_WRONG_COLUMN, 0), NULL);
+    label_case("Label into 3 places", 1, 4, N - 1, refused(VIHROLOM_SLICE_TOO_SHORT, 0), NULL);
+}
+
+static const uint16_t by_2_and_3[] = {1, 2, 3, 4}, by_3[] = {1, 3, 4}, by_2[] = {1, 2, 4};
+
+static void shortest_cases(void) {
+    shortest_case("Shortest column 1", 1, 1, 4, N + 2, gives(4, 5, 0), by_2_and_3);
+    shortest_case("Shortest column 2", 2, 1, 4, N, gives(3, 5, 0), by_2);
+    shortest_case("Shortest from 1 to 1", 1, 1, 1, N, refused(VIHROLOM_WRONG_ENDS, 0), NULL);
+    shortest_case("Shortest in column 3", 3, 1, 4, N, refused(VIHROLOM_WRONG_COLUMN, 0), NULL);
+    shortest_case("Shortest into 3 places", 1, 1, 4, N - 1, refused(VIHROLOM_SLICE_TOO_SHORT, 0), NULL);
+    shortest_case("Shortest from 4 to 1", 1, 4, 1, N, refused(VIHROLOM_NO_PATH, 0), NULL);
+}
+
+static void regret_cases(void) {
+    const uint16_t none[] = {1, 4}, back[] = {1, 2, 1};
+    regret_case("Regret of 1 2 4", 1, 4, nodes(by_2, 3), gives(3, 1, 0));
+    regret_case("Regret of 1 3 4", 1, 4, nodes(by_3, 3), gives(3, 2, 0));
+    regret_case("Regret of 1 2 3 4", 1, 4, nodes(by_2_and_3, 4), gives(8, 2, 0));
+    regret_case("Regret with goal 5", 1, 5, nodes(by_2, 3), refused(VIHROLOM_WRONG_ENDS, 0));
+    regret_case("Regret of an empty list", 1, 4, nodes(by_2, 0), refused(VIHROLOM_NOT_A_PATH, 0));
+    regret_case("Regret of 1 2", 1, 4, nodes(by_2, 2), refused(VIHROLOM_NOT_A_PATH, 2));
+    regret_case("Regret of 1 4", 1, 4, nodes(none, 2), refused(VIHROLOM_NOT_A_PATH, 1));
+    regret_case("Regret of 1 2 1", 1, 4, nodes(back, 3), refused(VIHROLOM_NOT_A_PATH, 2));
+}
+
+static void rank_cases(void) {
+    const uint16_t first[] = {1, 2, 3, 4, 1, 3, 4, 0, 1, 2, 4, 0}, second[] = {1, 2, 4, 0, 1, 3, 4, 0, 1, 2, 3, 4};
+    const uint32_t first_costs[] = {5, 7, 8}, second_costs[] = {5, 8, 13};
+    const size_t work = VIHROLOM_WORK_LENGTH(N, 5);
+    rank_case("Rank column 1, K = 5", 1, 1, 4, 5, work + 2, gives(3, 0, 0), first, first_costs);
+    rank_case("Rank column 1, K = 2", 1, 1, 4, 2, VIHROLOM_WORK_LENGTH(N, 2), gives(2, 0, 0), first, first_costs);
+    rank_case("Rank column 2, K = 5", 2, 1, 4, 5, work, gives(3, 0, 0), second, second_costs);
+    rank_case("Rank with start 0", 1, 0, 4, 5, work, refused(VIHROLOM_WRONG_ENDS, 0), NULL, NULL);
+    rank_case("Rank with K = 0", 1, 1, 4, 0, work, refused(VIHROLOM_WRONG_PATH_COUNT, 0), NULL, NULL);
+    rank_case("Rank with K = 257", 1, 1, 4, 257, work, refused(VIHROLOM_WRONG_PATH_COUNT, 0), NULL, NULL);
+    rank_case("Rank with an empty workspace", 1, 1, 4, 5, 0, refused(VIHROLOM_SLICE_TOO_SHORT, 0), NULL, NULL);
+    rank_case("Rank with a place too few in the workspace", 1, 1, 4, 5, work - 1, refused(VIHROLOM_SLICE_TOO_SHORT, 0), NULL, NULL);
+    rank_case("Rank from 4 to 1", 1, 4, 1, 5, work, refused(VIHROLOM_NO_PATH, 0), NULL, NULL);
+}
+
+static void robust_cases(void) {
+    // length, figure, worst column, count, state, floor
+    const reply settled = {0, 0, 3, 3, 2, 2, VIHROLOM_SETTLED, 0};
+    const reply unsettled = {0, 0, 4, 8, 2, 1, VIHROLOM_OPEN, 2};
+    const reply at_once = {0, 0, 3, 3, 1, 1, VIHROLOM_SETTLED, 0};
+    const size_t one = VIHROLOM_WORK_LENGTH(N, 1), two = VIHROLOM_WORK_LENGTH(N, 2);
+    robust_case("Robust column 1, K = 2", 1, 1, 4, 2, N + 2, two + 2, settled, by_3);
+    robust_case("Robust column 1, K = 1", 1, 1, 4, 1, N, one, unsettled, by_2_and_3);
+    robust_case("Robust column 2, K = 1", 2, 1, 4, 1, N, one, at_once, by_2);
+    robust_case("Robust in column 3", 3, 1, 4, 2, N, two, refused(VIHROLOM_WRONG_COLUMN, 0), NULL);
+    robust_case("Robust with K = 257", 1, 1, 4, 257, N, two, refused(VIHROLOM_WRONG_PATH_COUNT, 0), NULL);
+    robust_case("Robust into 3 places", 1, 1, 4, 2, N - 1, two, refused(VIHROLOM_SLICE_TOO_SHORT, 0), NULL);
+    robust_case("Robust with a place too few in the workspace", 1, 1, 4, 2, N, two - 1, refused(VIHROLOM_SLICE_TOO_SHORT, 0), NULL);
+    robust_case("Robust from 4 to 1", 1, 4, 1, 2, N, two, refused(VIHROLOM_NO_PATH, 0), NULL);
+}
+
+// The image that Build makes of a network with one column.
+static struct list built(uint32_t n, struct list arcs, struct list costs) {
+    struct list made = places(VIHROLOM_IMAGE_LENGTH(costs.length, 1));
+    expect_reply(vihrolom_build(n, 1, arcs.is.nodes, arcs.length, costs.is.numbers, costs.length, made.is.bytes, made.length), gives((uint32_t)made.length, 0, 0));
+    written(&made, &made.is, made.length);
+    expect_list("the image", &made);
+    return bytes(made.is.bytes, made.length);
+}
+
+// The three cases of document 01 that are not on S.
+static void other_networks(void) {
+    const uint16_t ring[] = {1, 3, 2, 3, 2, 4, 3, 2, 3, 4}, ranked[] = {1, 3, 2, 4, 1, 3, 4, 0};
+    const uint32_t nothing[] = {0, 0, 0, 0, 0};
+    running = "Build with all costs 0";
+    image = built(N, nodes(ring, 10), numbers(nothing, 5));
+    rank_case("Rank with all costs 0, K = 5", 1, 1, 4, 5, VIHROLOM_WORK_LENGTH(N, 5), gives(2, 0, 0), ranked, nothing);
+
+    running = "Build with n = 2, m = 0, k = 1";
+    image = built(2, nodes(ring, 0), numbers(nothing, 0));
+    expect("the length", image.length, 24);
+    robust_case("Robust with n = 2, m = 0, k = 1", 1, 1, 2, 1, 2, VIHROLOM_WORK_LENGTH(2, 1), refused(VIHROLOM_NO_PATH, 0), NULL);
+
+    uint16_t line[2 * 199], path[200];
+    uint32_t dear[199];
+    for (unsigned i = 0; i < 199; i++) {
+        line[2 * i] = (uint16_t)(i + 1);
+        line[2 * i + 1] = (uint16_t)(i + 2);
+        dear[i] = VIHROLOM_MOST_COST;
+    }
+    for (unsigned i = 0; i < 200; i++)
+        path[i] = (uint16_t)(i + 1);
+    running = "Build 200 nodes in a line";
+    image = built(200, nodes(line, 2 * 199), numbers(dear, 199));
+    shortest_case("Shortest on 200 nodes in a line", 1, 1, 200, 200, gives(200, 199000000, 0), path);
+}
+
+int main(void) {
+    image = bytes(S_image, sizeof S_image);
+    build_cases();
+    check_cases();
+    unpack_cases();
+    label_cases();
+    shortest_cases();
+    regret_cases();
+    rank_cases();
+    robust_cases();
+    other_networks();
+    printf("smoke: %u checks\n", checks);
+    return 0;
+}
