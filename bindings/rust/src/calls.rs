@@ -14,8 +14,8 @@ pub fn check(image: &[u8]) -> Reply {
 
 /// Label: writes for each node the least cost to the goal, or 4,294,967,295 if it can't be reached.
 pub fn label(image: &[u8], column: u32, goal: u32, labels: &mut [u32]) -> Reply {
-    // SAFETY: each pointer and length are those of a slice that is borrowed for the call, and the one
-    // that is written is borrowed mutably.
+    // SAFETY: each pointer and length are those of a slice that is borrowed for the call; the one that
+    // is written is borrowed mutably, so that it overlaps no other.
     unsafe {
         raw::vihrolom_label(
             image.as_ptr(),
@@ -30,8 +30,8 @@ pub fn label(image: &[u8], column: u32, goal: u32, labels: &mut [u32]) -> Reply 
 
 /// Shortest: writes the first path of the ranking order; needs n places. Values: length, cost.
 pub fn shortest(image: &[u8], column: u32, start: u32, goal: u32, path: &mut [u16]) -> Reply {
-    // SAFETY: each pointer and length are those of a slice that is borrowed for the call, and the one
-    // that is written is borrowed mutably.
+    // SAFETY: each pointer and length are those of a slice that is borrowed for the call; the one that
+    // is written is borrowed mutably, so that it overlaps no other.
     unsafe {
         raw::vihrolom_shortest(
             image.as_ptr(),
@@ -74,7 +74,7 @@ pub fn rank(
     work: &mut [u32],
 ) -> Reply {
     // SAFETY: each pointer and length are those of a slice that is borrowed for the call; those that
-    // are written are borrowed mutably, so that none overlaps another.
+    // are written are borrowed mutably, so that they overlap no other.
     unsafe {
         raw::vihrolom_rank(
             image.as_ptr(),
@@ -105,7 +105,7 @@ pub fn robust(
     work: &mut [u32],
 ) -> Reply {
     // SAFETY: each pointer and length are those of a slice that is borrowed for the call; those that
-    // are written are borrowed mutably, so that none overlaps another.
+    // are written are borrowed mutably, so that they overlap no other.
     unsafe {
         raw::vihrolom_robust(
             image.as_ptr(),
@@ -125,8 +125,8 @@ pub fn robust(
 /// Build: writes the image of a network of n nodes and k columns, from 2m node numbers and mk costs;
 /// needs 24 + 4m + 4mk bytes. Value: length.
 pub fn build(n: u32, k: u32, nodes: &[u16], costs: &[u32], image: &mut [u8]) -> Reply {
-    // SAFETY: each pointer and length are those of a slice that is borrowed for the call, and the one
-    // that is written is borrowed mutably.
+    // SAFETY: each pointer and length are those of a slice that is borrowed for the call; the one that
+    // is written is borrowed mutably, so that it overlaps no other.
     unsafe {
         raw::vihrolom_build(
             n,
@@ -144,7 +144,7 @@ pub fn build(n: u32, k: u32, nodes: &[u16], costs: &[u32], image: &mut [u8]) -> 
 /// Unpack: writes 2m node numbers and mk costs. Values: n, m, k.
 pub fn unpack(image: &[u8], nodes: &mut [u16], costs: &mut [u32]) -> Reply {
     // SAFETY: each pointer and length are those of a slice that is borrowed for the call; those that
-    // are written are borrowed mutably, so that neither overlaps the other.
+    // are written are borrowed mutably, so that they overlap no other.
     unsafe {
         raw::vihrolom_unpack(
             image.as_ptr(),

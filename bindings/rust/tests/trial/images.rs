@@ -6,7 +6,7 @@ use crate::lent::{reply_of, Lent};
 use crate::plain::{self, Net, Refused};
 use crate::random::hold_calls;
 use crate::tally::Tally;
-use vihrolom::{calls, Network};
+use vihrolom::{calls, Network, Refusal};
 
 const IMAGES: u32 = 30_000;
 
@@ -25,12 +25,7 @@ fn damaged_images_are_refused_as_the_plain_check_says() {
         if let Ok(network) = &got {
             assert_eq!(network.image(), image);
         }
-        tally.hold(
-            "check",
-            got.as_ref().map(lists).map_err(|&r| r),
-            expected.clone(),
-            &image,
-        );
+        tally.hold("check", read_back(&got), expected.clone(), &image);
         match (got, expected) {
             (Ok(network), Ok(net)) => hold_calls(&net, &network, &mut draw, &mut tally),
             (_, Err(refused)) => hold_refused(&image, refused),
@@ -52,12 +47,7 @@ fn lists_that_are_no_network_are_refused_as_the_plain_check_says() {
         }
         let got = Network::build(net.n, &net.arcs, &net.columns);
         let expected = plain::check_lists(&net).map(|()| net.clone());
-        tally.hold(
-            "build",
-            got.as_ref().map(lists).map_err(|&r| r),
-            expected,
-            &net,
-        );
+        tally.hold("build", read_back(&got), expected, &net);
         if let Ok(network) = got {
             assert_eq!(network.image(), net.image());
             let again = Network::build(network.nodes(), network.arcs(), network.columns());
@@ -76,42 +66,35 @@ fn kinds(rows: impl IntoIterator<Item = u32>) -> Vec<String> {
         .collect()
 }
 
-/// What a network says of itself.
-fn lists(network: &Network) -> Net {
-    Net {
-        n: network.nodes(),
-        arcs: network.arcs().to_vec(),
-        columns: network.columns().to_vec(),
-    }
+/// The lists of an accepted network, or the refusal.
+fn read_back(accepted: &Result<Network, Refusal>) -> Result<Net, Refusal> {
+    let network = accepted.as_ref().map_err(|&refusal| refusal)?;
+    let (arcs, columns) = (network.arcs().to_vec(), network.columns().to_vec());
+    let n = network.nodes();
+    Ok(Net { n, arcs, columns })
 }
 
 /// Every call on a refused image gives its refusal and changes no slice, whatever else is given.
 fn hold_refused(image: &[u8], refused: Refused) {
-    let mut short = Lent::<u16>::new(9);
-    let mut long = Lent::<u32>::new(600);
-    let mut other = Lent::<u32>::new(600);
-    let replies = [
-        calls::check(image),
-        calls::label(image, 0, 1, long.slice()),
-        calls::shortest(image, 1, 0, 2, short.slice()),
-        calls::regret(image, 1, 1, &[1, 2]),
-        calls::rank(
-            image,
-            1,
-            1,
-            2,
-            3,
-            short.slice(),
-            other.slice(),
-            long.slice(),
-        ),
-        calls::robust(image, 1, 1, 2, 300, short.slice(), long.slice()),
-        calls::unpack(image, short.slice(), long.slice()),
-    ];
-    assert_eq!(replies, [reply_of(Err(&refused)); 7], "{image:?}");
-    short.assert_holds(&[]);
-    long.assert_holds(&[]);
-    other.assert_holds(&[]);
+    let (mut nodes, mut costs, mut work) = (Lent::new(24), Lent::new(100), Lent::new(600));
+    let expected = reply_of(Err(&refused));
+    assert_eq!(calls::check(image), expected);
+    assert_eq!(calls::label(image, 0, 1, costs.slice()), expected);
+    assert_eq!(calls::shortest(image, 1, 0, 2, nodes.slice()), expected);
+    assert_eq!(calls::regret(image, 1, 1, &[1, 2]), expected);
+    let (rows, in_costs, in_work) = (nodes.slice(), costs.slice(), work.slice());
+    assert_eq!(
+        calls::rank(image, 1, 1, 2, 3, rows, in_costs, in_work),
+        expected
+    );
+    assert_eq!(
+        calls::robust(image, 1, 1, 2, 300, nodes.slice(), work.slice()),
+        expected
+    );
+    assert_eq!(calls::unpack(image, nodes.slice(), costs.slice()), expected);
+    nodes.assert_holds(&[]);
+    costs.assert_holds(&[]);
+    work.assert_holds(&[]);
 }
 
 /// Changes an image in one place.
@@ -178,12 +161,7 @@ fn spoil(net: &mut Net, n: u32, draw: &mut Draw) {
             .insert(draw.position(m), net.arcs[draw.position(m)]),
         7 if k > 0 => move_cost(net, draw),
         8 => lengthen(net, draw.pick(&[1_000, 1_001, 65_536 + m])),
-        9 if m > 0 && k > 0 => {
-            let column = &mut net.columns[draw.position(k)];
-            if let Some(last) = column.last_mut() {
-                *last = draw.pick(&[1_000_000, 1_000_001, u32::MAX]);
-            }
-        }
+        9 if k > 0 => raise_cost(&mut net.columns[draw.position(k)], draw),
         _ => net.columns.push(vec![0; m]),
     }
 }
@@ -193,6 +171,13 @@ fn move_cost(net: &mut Net, draw: &mut Draw) {
     let k = net.columns.len();
     if let Some(cost) = net.columns[draw.position(k)].pop() {
         net.columns[draw.position(k)].push(cost);
+    }
+}
+
+/// Gives one arc of a column, if it has any, the largest cost or one above it.
+fn raise_cost(column: &mut [u32], draw: &mut Draw) {
+    if !column.is_empty() {
+        column[draw.position(column.len())] = draw.pick(&[1_000_000, 1_000_001, u32::MAX]);
     }
 }
 
