@@ -1,0 +1,73 @@
+//! What the calls give.
+
+use std::fmt;
+
+/// A loopless path with its cost in the column that was asked for.
+#[derive(Clone, Debug, PartialEq, Eq, Hash)]
+pub struct Path {
+    /// The nodes, from start to goal.
+    pub nodes: Vec<u32>,
+    /// The sum of the costs of its arcs.
+    pub cost: u32,
+}
+
+/// The greatest regret of a path.
+#[derive(Clone, Copy, Debug, PartialEq, Eq, Hash)]
+pub struct Regret {
+    /// The path's largest deviation over all columns.
+    pub figure: u32,
+    /// The lowest-numbered column that has it.
+    pub worst_column: u32,
+}
+
+/// Whether the stopping rule was met.
+#[derive(Clone, Copy, Debug, PartialEq, Eq, Hash)]
+pub enum State {
+    /// It was: no path at all has a smaller figure.
+    Settled,
+    /// It needs more than K paths: the least figure of all paths lies between the floor and the
+    /// figure of the route.
+    Open {
+        /// The deviation of the first path that was not counted, in the column that ranks.
+        floor: u32,
+    },
+}
+
+/// The route of least greatest regret among the ranked paths that were counted.
+#[derive(Clone, Debug, PartialEq, Eq, Hash)]
+pub struct Choice {
+    /// The nodes of the route, from start to goal.
+    pub route: Vec<u32>,
+    /// Its greatest regret.
+    pub regret: Regret,
+    /// How many ranked paths were counted: all that the stopping rule needs, or K if it needs more.
+    pub count: u32,
+    /// Whether the answer is settled.
+    pub state: State,
+}
+
+/// `settled`, or `open floor F`.
+impl fmt::Display for State {
+    fn fmt(&self, f: &mut fmt::Formatter<'_>) -> fmt::Result {
+        match self {
+            State::Settled => f.write_str("settled"),
+            State::Open { floor } => write!(f, "open floor {floor}"),
+        }
+    }
+}
+
+/// The three lines of document 01's sheet, without the last newline.
+impl fmt::Display for Choice {
+    fn fmt(&self, f: &mut fmt::Formatter<'_>) -> fmt::Result {
+        f.write_str("route")?;
+        for node in &self.route {
+            write!(f, " {node}")?;
+        }
+        let Regret {
+            figure,
+            worst_column,
+        } = self.regret;
+        write!(f, "\nregret {figure} column {worst_column}")?;
+        write!(f, "\nranked {} {}", self.count, self.state)
+    }
+}

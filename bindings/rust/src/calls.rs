@@ -1,0 +1,158 @@
+//! The calls of document 01 over slices that the caller lends. They are safe for slices of any length
+//! and content: one that is too short is refused.
+//!
+//! A call that is refused changes no slice. Places beyond those that a call is said to write keep their
+//! content. A workspace needs (K+1)(n+16) + 16n + 64 places, and all of it is 0 after a result.
+
+use crate::raw::{self, Reply};
+
+/// Check: is this an image? Values: n, m, k.
+pub fn check(image: &[u8]) -> Reply {
+    // SAFETY: pointer and length are those of a slice that is borrowed for the call.
+    unsafe { raw::vihrolom_check(image.as_ptr(), image.len()) }
+}
+
+/// Label: writes for each node the least cost to the goal, or 4,294,967,295 if it can't be reached.
+pub fn label(image: &[u8], column: u32, goal: u32, labels: &mut [u32]) -> Reply {
+    // SAFETY: each pointer and length are those of a slice that is borrowed for the call; the one that
+    // is written is borrowed mutably, so that it overlaps no other.
+    unsafe {
+        raw::vihrolom_label(
+            image.as_ptr(),
+            image.len(),
+            column,
+            goal,
+            labels.as_mut_ptr(),
+            labels.len(),
+        )
+    }
+}
+
+/// Shortest: writes the first path of the ranking order; needs n places. Values: length, cost.
+pub fn shortest(image: &[u8], column: u32, start: u32, goal: u32, path: &mut [u16]) -> Reply {
+    // SAFETY: each pointer and length are those of a slice that is borrowed for the call; the one that
+    // is written is borrowed mutably, so that it overlaps no other.
+    unsafe {
+        raw::vihrolom_shortest(
+            image.as_ptr(),
+            image.len(),
+            column,
+            start,
+            goal,
+            path.as_mut_ptr(),
+            path.len(),
+        )
+    }
+}
+
+/// Regret of a node list. Values: figure, worst column.
+pub fn regret(image: &[u8], start: u32, goal: u32, nodes: &[u16]) -> Reply {
+    // SAFETY: each pointer and length are those of a slice that is borrowed for the call.
+    unsafe {
+        raw::vihrolom_regret(
+            image.as_ptr(),
+            image.len(),
+            start,
+            goal,
+            nodes.as_ptr(),
+            nodes.len(),
+        )
+    }
+}
+
+/// Rank: writes the first K paths, one a row of n places filled up with 0, and their costs; needs
+/// K times n places and K. Value: count.
+#[allow(clippy::too_many_arguments)] // they are those of document 01
+pub fn rank(
+    image: &[u8],
+    column: u32,
+    start: u32,
+    goal: u32,
+    k: u32,
+    rows: &mut [u16],
+    costs: &mut [u32],
+    work: &mut [u32],
+) -> Reply {
+    // SAFETY: each pointer and length are those of a slice that is borrowed for the call; those that
+    // are written are borrowed mutably, so that they overlap no other.
+    unsafe {
+        raw::vihrolom_rank(
+            image.as_ptr(),
+            image.len(),
+            column,
+            start,
+            goal,
+            k,
+            rows.as_mut_ptr(),
+            rows.len(),
+            costs.as_mut_ptr(),
+            costs.len(),
+            work.as_mut_ptr(),
+            work.len(),
+        )
+    }
+}
+
+/// Robust: writes the path of least greatest regret among those counted; needs n places. Values:
+/// length, figure, worst column, count, state (1 settled, 2 open), floor (0 if settled).
+pub fn robust(
+    image: &[u8],
+    column: u32,
+    start: u32,
+    goal: u32,
+    k: u32,
+    path: &mut [u16],
+    work: &mut [u32],
+) -> Reply {
+    // SAFETY: each pointer and length are those of a slice that is borrowed for the call; those that
+    // are written are borrowed mutably, so that they overlap no other.
+    unsafe {
+        raw::vihrolom_robust(
+            image.as_ptr(),
+            image.len(),
+            column,
+            start,
+            goal,
+            k,
+            path.as_mut_ptr(),
+            path.len(),
+            work.as_mut_ptr(),
+            work.len(),
+        )
+    }
+}
+
+/// Build: writes the image of a network of n nodes and k columns, from 2m node numbers and mk costs;
+/// needs 24 + 4m + 4mk bytes. Value: length.
+pub fn build(n: u32, k: u32, nodes: &[u16], costs: &[u32], image: &mut [u8]) -> Reply {
+    // SAFETY: each pointer and length are those of a slice that is borrowed for the call; the one that
+    // is written is borrowed mutably, so that it overlaps no other.
+    unsafe {
+        raw::vihrolom_build(
+            n,
+            k,
+            nodes.as_ptr(),
+            nodes.len(),
+            costs.as_ptr(),
+            costs.len(),
+            image.as_mut_ptr(),
+            image.len(),
+        )
+    }
+}
+
+/// Unpack: writes 2m node numbers and mk costs. Values: n, m, k.
+pub fn unpack(image: &[u8], nodes: &mut [u16], costs: &mut [u32]) -> Reply {
+    // SAFETY: each pointer and length are those of a slice that is borrowed for the call; those that
+    // are written are borrowed mutably, so that they overlap no other.
+    unsafe {
+        raw::vihrolom_unpack(
+            image.as_ptr(),
+            image.len(),
+            nodes.as_mut_ptr(),
+            nodes.len(),
+            costs.as_mut_ptr(),
+            costs.len(),
+        )
+    }
+}

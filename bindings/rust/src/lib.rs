@@ -1,0 +1,14 @@
+#![doc = include_str!("../README.md")]
+#![deny(missing_docs)]
+#![deny(unsafe_code)]
+
+mod answers;
+#[allow(unsafe_code)]
+pub mod calls;
+mod network;
+pub mod raw;
+mod refusal;
+
+pub use answers::{Choice, Path, Regret, State};
+pub use network::Network;
+pub use refusal::Refusal;

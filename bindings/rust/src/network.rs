@@ -1,0 +1,214 @@
+//! An accepted network, and the calls on it.
+
+use crate::{calls, Choice, Path, Refusal, Regret, State};
+
+/// The length of the longest image: 1,000 arcs and 8 columns.
+const LONGEST_IMAGE: usize = 24 + 4 * 1_000 * (1 + 8);
+
+/// The largest K that is not refused.
+const MOST_PATHS: u32 = 256;
+
+/// The label of a node from which the goal can't be reached.
+const UNREACHED: u32 = u32::MAX;
+
+/// A network whose image the core has accepted: 2 to 200 nodes, up to 1,000 arcs, 1 to 8 columns,
+/// costs up to 1,000,000.
+///
+/// Nodes and columns are numbered from 1. Any number may be given to a call; what document 01 doesn't
+/// admit is refused.
+#[derive(Clone, Debug, PartialEq, Eq, Hash)]
+pub struct Network {
+    image: Vec<u8>,
+    nodes: u32,
+    arcs: Vec<(u32, u32)>,
+    columns: Vec<Vec<u32>>,
+}
+
+impl Network {
+    /// The network with this number of nodes, these arcs from tail to head, and these columns, each
+    /// with the cost of every arc. Arcs must rise strictly by tail, then head.
+    ///
+    /// A column that hasn't got one cost for each arc is refused as row 4.
+    pub fn build<C: AsRef<[u32]>>(
+        nodes: u32,
+        arcs: &[(u32, u32)],
+        columns: &[C],
+    ) -> Result<Network, Refusal> {
+        let ends: Vec<u16> = arcs
+            .iter()
+            .flat_map(|&(tail, head)| [tail, head])
+            .map(in_16_bits)
+            .collect();
+        let costs = joined(arcs.len(), columns);
+        // More columns than 32 bits can count are as much out of range as the most that they can.
+        let k = u32::try_from(columns.len()).unwrap_or(u32::MAX);
+        let mut image = vec![0; LONGEST_IMAGE];
+        let [length, ..] = calls::build(nodes, k, &ends, &costs, &mut image).values()?;
+        image.truncate(length as usize);
+        image.shrink_to_fit();
+        Network::from_image(image)
+    }
+
+    /// The network of an image.
+    pub fn from_image(image: impl Into<Vec<u8>>) -> Result<Network, Refusal> {
+        let image = image.into();
+        let [nodes, m, k, ..] = calls::check(&image).values()?;
+        let (m, k) = (m as usize, k as usize);
+        let mut ends = vec![0; 2 * m];
+        let mut costs = vec![0; m * k];
+        calls::unpack(&image, &mut ends, &mut costs).values()?;
+        let arcs = ends
+            .chunks_exact(2)
+            .map(|arc| (arc[0].into(), arc[1].into()))
+            .collect();
+        let columns = (0..k).map(|u| costs[u * m..(u + 1) * m].to_vec()).collect();
+        Ok(Network {
+            image,
+            nodes,
+            arcs,
+            columns,
+        })
+    }
+
+    /// The image.
+    pub fn image(&self) -> &[u8] {
+        &self.image
+    }
+
+    /// The number of nodes.
+    pub fn nodes(&self) -> u32 {
+        self.nodes
+    }
+
+    /// The arcs, from tail to head, rising.
+    pub fn arcs(&self) -> &[(u32, u32)] {
+        &self.arcs
+    }
+
+    /// The columns, each with the costs of all arcs in their order. Column u stands at index u - 1.
+    pub fn columns(&self) -> &[Vec<u32>] {
+        &self.columns
+    }
+
+    /// For each node the least cost to the goal, or `None` if the goal can't be reached. Node v stands
+    /// at index v - 1.
+    pub fn label(&self, column: u32, goal: u32) -> Result<Vec<Option<u32>>, Refusal> {
+        let mut labels = vec![0; self.nodes as usize];
+        calls::label(&self.image, column, goal, &mut labels).values()?;
+        Ok(labels
+            .into_iter()
+            .map(|label| (label != UNREACHED).then_some(label))
+            .collect())
+    }
+
+    /// The first path of the ranking order: the cheapest one, and of equally cheap ones the one with
+    /// the smaller node at the first place where they differ.
+    pub fn shortest(&self, column: u32, start: u32, goal: u32) -> Result<Path, Refusal> {
+        let mut path = vec![0; self.nodes as usize];
+        let [length, cost, ..] =
+            calls::shortest(&self.image, column, start, goal, &mut path).values()?;
+        Ok(Path {
+            nodes: in_32_bits(&path[..length as usize]),
+            cost,
+        })
+    }
+
+    /// The greatest regret of the path with these nodes.
+    pub fn regret(&self, start: u32, goal: u32, nodes: &[u32]) -> Result<Regret, Refusal> {
+        let nodes: Vec<u16> = nodes.iter().copied().map(in_16_bits).collect();
+        let [figure, worst_column, ..] =
+            calls::regret(&self.image, start, goal, &nodes).values()?;
+        Ok(Regret {
+            figure,
+            worst_column,
+        })
+    }
+
+    /// The first `k` paths of the ranking order, or all if there are fewer. `k` is 1 to 256.
+    pub fn rank(&self, column: u32, start: u32, goal: u32, k: u32) -> Result<Vec<Path>, Refusal> {
+        let n = self.nodes as usize;
+        let room = room_for(k);
+        let mut rows = vec![0; room * n];
+        let mut costs = vec![0; room];
+        let mut work = vec![0; self.workspace(room)];
+        let image = &self.image;
+        let reply = calls::rank(
+            image, column, start, goal, k, &mut rows, &mut costs, &mut work,
+        );
+        let [count, ..] = reply.values()?;
+        let paths = rows.chunks_exact(n).zip(costs).take(count as usize);
+        Ok(paths
+            .map(|(row, cost)| Path {
+                nodes: in_32_bits(filled(row)),
+                cost,
+            })
+            .collect())
+    }
+
+    /// The route of least greatest regret: paths are ranked in the column and counted until the
+    /// stopping rule holds, at most `k` of them. `k` is 1 to 256.
+    pub fn robust(&self, column: u32, start: u32, goal: u32, k: u32) -> Result<Choice, Refusal> {
+        let mut path = vec![0; self.nodes as usize];
+        let mut work = vec![0; self.workspace(room_for(k))];
+        let reply = calls::robust(&self.image, column, start, goal, k, &mut path, &mut work);
+        let [length, figure, worst_column, count, state, floor] = reply.values()?;
+        Ok(Choice {
+            route: in_32_bits(&path[..length as usize]),
+            regret: Regret {
+                figure,
+                worst_column,
+            },
+            count,
+            state: if state == 1 {
+                State::Settled
+            } else {
+                State::Open { floor }
+            },
+        })
+    }
+
+    /// The size of the workspace for this many paths.
+    fn workspace(&self, paths: usize) -> usize {
+        let n = self.nodes as usize;
+        (paths + 1) * (n + 16) + 16 * n + 64
+    }
+}
+
+/// The number of paths to make room for. A K above the most is refused as row 12 whatever the slices'
+/// lengths are, for row 13 stands later.
+fn room_for(k: u32) -> usize {
+    k.min(MOST_PATHS) as usize
+}
+
+/// A node number as lists have it. One that is too large for 16 bits becomes the largest, which is no
+/// node either; and a list is refused at its first number that is none, so the refusal and its place
+/// are the same.
+fn in_16_bits(node: u32) -> u16 {
+    u16::try_from(node).unwrap_or(u16::MAX)
+}
+
+/// Node numbers of a list.
+fn in_32_bits(nodes: &[u16]) -> Vec<u32> {
+    nodes.iter().copied().map(u32::from).collect()
+}
+
+/// A row without the zeros that fill it up.
+fn filled(row: &[u16]) -> &[u16] {
+    let end = row.iter().position(|&node| node == 0).unwrap_or(row.len());
+    &row[..end]
+}
+
+/// The costs of all columns in one list. If a column hasn't got m costs, the list hasn't got m for
+/// each column either, as row 4 wants to see it: where the lengths even out, one cost is added.
+fn joined<C: AsRef<[u32]>>(m: usize, columns: &[C]) -> Vec<u32> {
+    let mut costs: Vec<u32> = columns
+        .iter()
+        .flat_map(|column| column.as_ref())
+        .copied()
+        .collect();
+    let ragged = columns.iter().any(|column| column.as_ref().len() != m);
+    if ragged && m.checked_mul(columns.len()) == Some(costs.len()) {
+        costs.push(0);
+    }
+    costs
+}

@@ -1,0 +1,146 @@
+//! The refusal table of document 01.
+
+use std::error::Error;
+use std::fmt;
+
+/// Why a call gave no result: one row of the refusal table. Rows that name a place carry it.
+#[derive(Clone, Copy, Debug, PartialEq, Eq, Hash)]
+#[non_exhaustive]
+pub enum Refusal {
+    /// 1: image under 24 bytes.
+    ImageTooShort,
+    /// 2: edition isn't 1.
+    WrongEdition,
+    /// 3: n, m or k outside its range.
+    SizeOutOfRange,
+    /// 4: an offset, total or reserved field is wrong; in Build, costs not mk.
+    WrongField,
+    /// 5: image length isn't the total.
+    WrongLength,
+    /// 6: tail or head outside 1..n, at this arc, from 0.
+    ArcOutOfRange(u32),
+    /// 7: tail equals head, at this arc, from 0.
+    ArcToItself(u32),
+    /// 8: arc not above the one before, at this arc, from 0.
+    ArcNotRising(u32),
+    /// 9: cost above 1,000,000, at this index in all columns' costs, from 0.
+    CostTooLarge(u32),
+    /// 10: start or goal outside 1..n, or equal.
+    WrongEnds,
+    /// 11: column outside 1..k.
+    WrongColumn,
+    /// 12: K outside 1..256.
+    WrongPathCount,
+    /// 13: a lent slice is too short. A [`Network`](crate::Network) sizes its own and never gives it.
+    SliceTooShort,
+    /// 14: the node list is no path. The place is 0 if the list is empty or doesn't begin with start,
+    /// else the first position whose node repeats or has no arc from the node before, else the
+    /// list's length.
+    NotAPath(u32),
+    /// 15: no path exists.
+    NoPath,
+    /// 16: a path cost exceeds 4,000,000,000.
+    CostOverflow,
+}
+
+/// The table's words, by number from 1.
+const WORDS: [&str; 16] = [
+    "image under 24 bytes",
+    "edition isn't 1",
+    "n, m or k outside its range",
+    "an offset, total or reserved field is wrong; in Build, odd node list or costs not mk",
+    "image length isn't the total",
+    "tail or head outside 1..n",
+    "tail equals head",
+    "arc not above the one before",
+    "cost above 1,000,000",
+    "start or goal outside 1..n, or equal",
+    "column outside 1..k",
+    "K outside 1..256",
+    "a lent slice is too short",
+    "the node list is no path",
+    "no path exists",
+    "a path cost exceeds 4,000,000,000",
+];
+
+impl Refusal {
+    /// The refusal with this number and place; `None` if the table has no such row.
+    pub(crate) fn from_numbers(number: u32, place: u32) -> Option<Refusal> {
+        Some(match number {
+            1 => Refusal::ImageTooShort,
+            2 => Refusal::WrongEdition,
+            3 => Refusal::SizeOutOfRange,
+            4 => Refusal::WrongField,
+            5 => Refusal::WrongLength,
+            6 => Refusal::ArcOutOfRange(place),
+            7 => Refusal::ArcToItself(place),
+            8 => Refusal::ArcNotRising(place),
+            9 => Refusal::CostTooLarge(place),
+            10 => Refusal::WrongEnds,
+            11 => Refusal::WrongColumn,
+            12 => Refusal::WrongPathCount,
+            13 => Refusal::SliceTooShort,
+            14 => Refusal::NotAPath(place),
+            15 => Refusal::NoPath,
+            16 => Refusal::CostOverflow,
+            _ => return None,
+        })
+    }
+
+    /// The number of the row.
+    pub fn number(self) -> u32 {
+        match self {
+            Refusal::ImageTooShort => 1,
+            Refusal::WrongEdition => 2,
+            Refusal::SizeOutOfRange => 3,
+            Refusal::WrongField => 4,
+            Refusal::WrongLength => 5,
+            Refusal::ArcOutOfRange(_) => 6,
+            Refusal::ArcToItself(_) => 7,
+            Refusal::ArcNotRising(_) => 8,
+            Refusal::CostTooLarge(_) => 9,
+            Refusal::WrongEnds => 10,
+            Refusal::WrongColumn => 11,
+            Refusal::WrongPathCount => 12,
+            Refusal::SliceTooShort => 13,
+            Refusal::NotAPath(_) => 14,
+            Refusal::NoPath => 15,
+            Refusal::CostOverflow => 16,
+        }
+    }
+
+    /// The place, or 0 if the row names none.
+    pub fn place(self) -> u32 {
+        self.named_place().unwrap_or(0)
+    }
+
+    /// The table's words for the row, without the place.
+    pub fn words(self) -> &'static str {
+        WORDS[self.number() as usize - 1]
+    }
+
+    /// The place, if the row names one.
+    fn named_place(self) -> Option<u32> {
+        match self {
+            Refusal::ArcOutOfRange(arc)
+            | Refusal::ArcToItself(arc)
+            | Refusal::ArcNotRising(arc) => Some(arc),
+            Refusal::CostTooLarge(index) => Some(index),
+            Refusal::NotAPath(position) => Some(position),
+            _ => None,
+        }
+    }
+}
+
+/// The table's words, and the place in brackets if the row names one.
+impl fmt::Display for Refusal {
+    fn fmt(&self, f: &mut fmt::Formatter<'_>) -> fmt::Result {
+        f.write_str(self.words())?;
+        match self.named_place() {
+            Some(place) => write!(f, " (at {place})"),
+            None => Ok(()),
+        }
+    }
+}
+
+impl Error for Refusal {}

@@ -1,0 +1,361 @@
+//! The cases of document 01, its refusal table, and what the crate adds to them.
+
+use crate::tally::numbers;
+use std::path::Path as FilePath;
+use vihrolom::raw::Reply;
+use vihrolom::{calls, Choice, Network, Path, Refusal, Regret, State};
+
+const S_ARCS: [(u32, u32); 5] = [(1, 2), (1, 3), (2, 3), (2, 4), (3, 4)];
+const S_COLUMNS: [[u32; 5]; 2] = [[2, 5, 1, 6, 2], [4, 1, 2, 1, 7]];
+
+/// Network S of document 01.
+fn network_s() -> Network {
+    Network::build(4, &S_ARCS, &S_COLUMNS).expect("network S")
+}
+
+fn path(nodes: &[u32], cost: u32) -> Path {
+    Path {
+        nodes: nodes.to_vec(),
+        cost,
+    }
+}
+
+fn choice(route: &[u32], figure: u32, worst_column: u32, count: u32, state: State) -> Choice {
+    Choice {
+        route: route.to_vec(),
+        regret: Regret {
+            figure,
+            worst_column,
+        },
+        count,
+        state,
+    }
+}
+
+/// A file of the repository's examples.
+fn example(name: &str) -> Vec<u8> {
+    let file = FilePath::new(env!("CARGO_MANIFEST_DIR"))
+        .join("../../examples")
+        .join(name);
+    std::fs::read(&file).unwrap_or_else(|error| panic!("{}: {error}", file.display()))
+}
+
+#[test]
+fn network_s_is_the_image_of_84_bytes() {
+    let s = network_s();
+    assert_eq!(s.image().len(), 84);
+    assert_eq!(s.image(), example("S.image"));
+    assert_eq!(Network::from_image(s.image()), Ok(s.clone()));
+    assert_eq!((s.nodes(), s.arcs()), (4, &S_ARCS[..]));
+    assert_eq!(s.columns(), S_COLUMNS);
+}
+
+#[test]
+fn ranked_lists_of_s() {
+    let s = network_s();
+    let in_column_1 = [
+        path(&[1, 2, 3, 4], 5),
+        path(&[1, 3, 4], 7),
+        path(&[1, 2, 4], 8),
+    ];
+    let in_column_2 = [
+        path(&[1, 2, 4], 5),
+        path(&[1, 3, 4], 8),
+        path(&[1, 2, 3, 4], 13),
+    ];
+    assert_eq!(s.rank(1, 1, 4, 5), Ok(in_column_1.to_vec()));
+    assert_eq!(s.rank(2, 1, 4, 5), Ok(in_column_2.to_vec()));
+    assert_eq!(s.rank(1, 1, 4, 256), Ok(in_column_1.to_vec()));
+    assert_eq!(s.rank(1, 1, 4, 2), Ok(in_column_1[..2].to_vec()));
+    assert_eq!(s.shortest(1, 1, 4), Ok(in_column_1[0].clone()));
+    assert_eq!(s.shortest(2, 1, 4), Ok(in_column_2[0].clone()));
+}
+
+#[test]
+fn labels_of_s() {
+    let s = network_s();
+    assert_eq!(s.label(1, 4), Ok(vec![Some(5), Some(3), Some(2), Some(0)]));
+    assert_eq!(s.label(1, 1), Ok(vec![Some(0), None, None, None]));
+}
+
+#[test]
+fn figures_of_s() {
+    let s = network_s();
+    assert_eq!(
+        s.regret(1, 4, &[1, 2, 4]),
+        Ok(Regret {
+            figure: 3,
+            worst_column: 1
+        })
+    );
+    assert_eq!(
+        s.regret(1, 4, &[1, 3, 4]),
+        Ok(Regret {
+            figure: 3,
+            worst_column: 2
+        })
+    );
+    assert_eq!(
+        s.regret(1, 4, &[1, 2, 3, 4]),
+        Ok(Regret {
+            figure: 8,
+            worst_column: 2
+        })
+    );
+}
+
+#[test]
+fn robust_routes_of_s() {
+    let s = network_s();
+    let open = State::Open { floor: 2 };
+    assert_eq!(
+        s.robust(1, 1, 4, 2),
+        Ok(choice(&[1, 3, 4], 3, 2, 2, State::Settled))
+    );
+    assert_eq!(
+        s.robust(1, 1, 4, 1),
+        Ok(choice(&[1, 2, 3, 4], 8, 2, 1, open))
+    );
+    assert_eq!(
+        s.robust(2, 1, 4, 1),
+        Ok(choice(&[1, 2, 4], 3, 1, 1, State::Settled))
+    );
+}
+
+#[test]
+fn refusals_of_s() {
+    let s = network_s();
+    assert_eq!(s.shortest(1, 4, 1), Err(Refusal::NoPath));
+    assert_eq!(s.rank(1, 4, 1, 5), Err(Refusal::NoPath));
+    assert_eq!(s.robust(1, 4, 1, 5), Err(Refusal::NoPath));
+    assert_eq!(s.regret(1, 4, &[1, 2]), Err(Refusal::NotAPath(2)));
+    assert_eq!(s.regret(1, 4, &[1, 4]), Err(Refusal::NotAPath(1)));
+    assert_eq!(s.regret(1, 4, &[]), Err(Refusal::NotAPath(0)));
+    assert_eq!(s.regret(1, 4, &[2, 4]), Err(Refusal::NotAPath(0)));
+    assert_eq!(s.regret(4, 1, &[4, 1]), Err(Refusal::NotAPath(1)));
+}
+
+#[test]
+fn a_ring_of_cost_0_is_not_gone_round() {
+    let arcs = [(1, 3), (2, 3), (2, 4), (3, 2), (3, 4)];
+    let network = Network::build(4, &arcs, &[[0; 5]]).expect("a network");
+    assert_eq!(
+        network.rank(1, 1, 4, 5),
+        Ok(vec![path(&[1, 3, 2, 4], 0), path(&[1, 3, 4], 0)])
+    );
+}
+
+#[test]
+fn two_nodes_without_an_arc() {
+    let network = Network::build(2, &[], &[[]]).expect("a network");
+    assert_eq!(network.image().len(), 24);
+    assert_eq!(network.columns(), [[]]);
+    assert_eq!(network.robust(1, 1, 2, 1), Err(Refusal::NoPath));
+    assert_eq!(network.label(1, 2), Ok(vec![None, Some(0)]));
+}
+
+#[test]
+fn two_hundred_nodes_in_a_line() {
+    let arcs: Vec<(u32, u32)> = (1..200).map(|tail| (tail, tail + 1)).collect();
+    let network = Network::build(200, &arcs, &[vec![1_000_000; 199]]).expect("a network");
+    let line: Vec<u32> = (1..=200).collect();
+    assert_eq!(network.shortest(1, 1, 200), Ok(path(&line, 199_000_000)));
+    assert_eq!(
+        network.rank(1, 1, 200, 256),
+        Ok(vec![path(&line, 199_000_000)])
+    );
+    assert_eq!(
+        network.robust(1, 1, 200, 256),
+        Ok(choice(&line, 0, 1, 1, State::Settled))
+    );
+    assert_eq!(
+        network.label(1, 200).map(|labels| labels[0]),
+        Ok(Some(199_000_000))
+    );
+    assert_eq!(network.label(1, 1).map(|labels| labels[199]), Ok(None));
+}
+
+#[test]
+fn the_longest_image_is_accepted() {
+    let heads =
+        (1..=200).flat_map(|tail| (1..=5).map(move |step| (tail, (tail + step - 1) % 200 + 1)));
+    let mut arcs: Vec<(u32, u32)> = heads.collect();
+    arcs.sort_unstable();
+    let columns = vec![vec![1_000_000; 1_000]; 8];
+    let network = Network::build(200, &arcs, &columns).expect("a network");
+    assert_eq!(network.image().len(), 36_024);
+    assert_eq!(
+        network.rank(8, 1, 200, 256).map(|paths| paths.len()),
+        Ok(256)
+    );
+}
+
+#[test]
+fn examples_give_their_sheets() {
+    for name in ["S", "close", "apart"] {
+        let network = Network::from_image(example(&format!("{name}.image"))).expect(name);
+        let choice = network.robust(1, 1, network.nodes(), 48).expect(name);
+        assert_eq!(
+            format!("{choice}\n").into_bytes(),
+            example(&format!("{name}.sheet")),
+            "{name}"
+        );
+    }
+}
+
+/// The image of S with one byte changed.
+fn changed(offset: usize, byte: u8) -> Result<Network, Refusal> {
+    let mut image = network_s().image().to_vec();
+    image[offset] = byte;
+    Network::from_image(image)
+}
+
+#[test]
+fn the_examples_of_the_refusal_table() {
+    let s = network_s();
+    let one_more = [s.image(), &[0]].concat();
+    let refused = |result: Result<Network, Refusal>| result.map_err(numbers).unwrap_err();
+    assert_eq!(refused(Network::from_image([])), (1, 0));
+    assert_eq!(refused(changed(0, 7)), (2, 0));
+    assert_eq!(refused(changed(2, 1)), (3, 0));
+    assert_eq!(refused(changed(20, 1)), (4, 0));
+    assert_eq!(refused(Network::from_image(one_more)), (5, 0));
+    assert_eq!(refused(Network::build(4, &[(0, 2)], &[[1]])), (6, 0));
+    assert_eq!(
+        refused(Network::build(4, &[(1, 2), (2, 2)], &[[1, 1]])),
+        (7, 1)
+    );
+    assert_eq!(
+        refused(Network::build(4, &[(1, 2), (1, 2)], &[[1, 1]])),
+        (8, 1)
+    );
+    assert_eq!(
+        refused(Network::build(4, &[(1, 2)], &[[1], [1_000_001]])),
+        (9, 1)
+    );
+    assert_eq!(s.shortest(1, 1, 1), Err(Refusal::WrongEnds));
+    assert_eq!(s.shortest(0, 1, 4), Err(Refusal::WrongColumn));
+    assert_eq!(s.robust(1, 1, 4, 257), Err(Refusal::WrongPathCount));
+    let reply = calls::robust(s.image(), 1, 1, 4, 1, &mut [0; 4], &mut []);
+    assert_eq!(reply.values(), Err(Refusal::SliceTooShort));
+    assert_eq!(s.regret(1, 4, &[1, 4]), Err(Refusal::NotAPath(1)));
+    assert_eq!(s.shortest(1, 4, 1), Err(Refusal::NoPath));
+}
+
+#[test]
+fn the_lowest_number_that_applies_is_given() {
+    let s = network_s();
+    assert_eq!(s.rank(0, 1, 1, 0), Err(Refusal::WrongEnds));
+    assert_eq!(s.rank(0, 4, 1, 0), Err(Refusal::WrongColumn));
+    assert_eq!(s.rank(1, 4, 1, 0), Err(Refusal::WrongPathCount));
+    let short = calls::rank(s.image(), 1, 4, 1, 1, &mut [], &mut [], &mut []);
+    assert_eq!(short.values(), Err(Refusal::SliceTooShort));
+    let falling = Network::build(4, &[(1, 2), (1, 2), (0, 2)], &[[1_000_001; 3]]);
+    assert_eq!(falling, Err(Refusal::ArcNotRising(1)));
+    let mut image = [0; 100];
+    let odd = calls::build(4, 1, &[1, 2, 3], &[1], &mut image);
+    assert_eq!(odd.values(), Err(Refusal::WrongField));
+    let odd_of_one_node = calls::build(1, 1, &[1, 2, 3], &[1], &mut image);
+    assert_eq!(odd_of_one_node.values(), Err(Refusal::SizeOutOfRange));
+    let short = calls::build(4, 1, &[1, 2], &[1_000_001], &mut []);
+    assert_eq!(short.values(), Err(Refusal::CostTooLarge(0)));
+}
+
+/// Numbers that are right in 16 bits and lists of unequal lengths don't slip through.
+#[test]
+fn what_does_not_fit_is_refused() {
+    let s = network_s();
+    let no_columns: [[u32; 5]; 0] = [];
+    let many_arcs = vec![(1, 2); 65_536 + 1];
+    let many_costs = vec![1; many_arcs.len()];
+    assert_eq!(
+        Network::build(65_536 + 4, &S_ARCS, &S_COLUMNS),
+        Err(Refusal::SizeOutOfRange)
+    );
+    assert_eq!(
+        Network::build(u32::MAX, &S_ARCS, &S_COLUMNS),
+        Err(Refusal::SizeOutOfRange)
+    );
+    assert_eq!(
+        Network::build(4, &S_ARCS, &no_columns),
+        Err(Refusal::SizeOutOfRange)
+    );
+    assert_eq!(
+        Network::build(4, &S_ARCS, &[[1; 5]; 9]),
+        Err(Refusal::SizeOutOfRange)
+    );
+    assert_eq!(
+        Network::build(4, &many_arcs, &[many_costs]),
+        Err(Refusal::SizeOutOfRange)
+    );
+    let arcs = [(1, 2), (2, 65_536 + 3)];
+    assert_eq!(
+        Network::build(4, &arcs, &[[1, 1]]),
+        Err(Refusal::ArcOutOfRange(1))
+    );
+    let arcs = [(1, 2), (2, 3)];
+    assert_eq!(
+        Network::build(4, &arcs, &[vec![1], vec![1, 1, 1]]),
+        Err(Refusal::WrongField)
+    );
+    assert_eq!(
+        Network::build(4, &arcs, &[vec![1, 1], vec![1]]),
+        Err(Refusal::WrongField)
+    );
+    assert_eq!(Network::build(4, &[], &[[1]]), Err(Refusal::WrongField));
+    assert_eq!(
+        s.regret(1, 4, &[65_536 + 1, 3, 4]),
+        Err(Refusal::NotAPath(0))
+    );
+    assert_eq!(
+        s.regret(1, 4, &[1, 65_536 + 3, 4]),
+        Err(Refusal::NotAPath(1))
+    );
+    assert_eq!(s.rank(1, 1, 4, u32::MAX), Err(Refusal::WrongPathCount));
+    assert_eq!(s.label(65_536 + 1, 4), Err(Refusal::WrongColumn));
+    assert_eq!(s.label(1, 65_536 + 4), Err(Refusal::WrongEnds));
+}
+
+/// The refusal in the reply with these two numbers.
+fn refusal(number: u32, place: u32) -> Refusal {
+    Reply {
+        refusal: number,
+        place,
+        ..Reply::default()
+    }
+    .values()
+    .unwrap_err()
+}
+
+#[test]
+fn each_row_has_its_number_its_place_and_its_words() {
+    for number in 1..=16 {
+        let named = if [6, 7, 8, 9, 14].contains(&number) {
+            5
+        } else {
+            0
+        };
+        assert_eq!(numbers(refusal(number, 5)), (number, named));
+    }
+    assert_eq!(
+        refusal(10, 0).to_string(),
+        "start or goal outside 1..n, or equal"
+    );
+    assert_eq!(refusal(15, 0).to_string(), "no path exists");
+    assert_eq!(
+        refusal(16, 0).to_string(),
+        "a path cost exceeds 4,000,000,000"
+    );
+    assert_eq!(refusal(7, 3).to_string(), "tail equals head (at 3)");
+    assert_eq!(
+        refusal(14, 0).to_string(),
+        "the node list is no path (at 0)"
+    );
+    assert_eq!(refusal(9, 7).words(), "cost above 1,000,000");
+}
+
+#[test]
+#[should_panic(expected = "refusal 17, which this crate doesn't know")]
+fn a_library_with_other_rows_is_not_trusted() {
+    refusal(17, 0);
+}

@@ -1,0 +1,362 @@
+//! Document 01 in the plainest way, apart from the library: all loopless paths are found by depth-first
+//! search, and every answer is read off from all of them.
+
+/// A refusal: its number and its place.
+pub type Refused = (u32, u32);
+
+/// Lists that may be a network.
+#[derive(Clone, Debug, PartialEq)]
+pub struct Net {
+    pub n: u32,
+    pub arcs: Vec<(u32, u32)>,
+    pub columns: Vec<Vec<u32>>,
+}
+
+/// A path, with the indices of its arcs.
+#[derive(Clone, Default)]
+struct Route {
+    nodes: Vec<u32>,
+    arcs: Vec<usize>,
+}
+
+/// Robust's answer; there is a floor exactly if it is open.
+#[derive(Debug, PartialEq)]
+pub struct Chosen {
+    pub route: Vec<u32>,
+    pub figure: u32,
+    pub worst: u32,
+    pub count: u32,
+    pub floor: Option<u32>,
+}
+
+impl Net {
+    /// The image of these lists.
+    pub fn image(&self) -> Vec<u8> {
+        let (m, k) = (self.arcs.len() as u32, self.columns.len() as u32);
+        let mut image = Vec::new();
+        for number in [1, self.n, m, k] {
+            image.extend((number as u16).to_le_bytes());
+        }
+        for number in [24, 24 + 4 * m, 24 + 4 * m + 4 * m * k, 0] {
+            image.extend(number.to_le_bytes());
+        }
+        for end in self.ends() {
+            image.extend(end.to_le_bytes());
+        }
+        for cost in self.costs() {
+            image.extend(cost.to_le_bytes());
+        }
+        image
+    }
+
+    /// Tails and heads in one list.
+    pub fn ends(&self) -> Vec<u16> {
+        self.arcs
+            .iter()
+            .flat_map(|&(tail, head)| [tail as u16, head as u16])
+            .collect()
+    }
+
+    /// All columns in one list.
+    pub fn costs(&self) -> Vec<u32> {
+        self.columns.concat()
+    }
+
+    fn cost(&self, column: u32, route: &Route) -> u32 {
+        let costs = &self.columns[column as usize - 1];
+        route.arcs.iter().map(|&arc| costs[arc]).sum()
+    }
+
+    /// All loopless paths between two nodes. From a node to itself that is the path of one node.
+    fn routes(&self, start: u32, goal: u32) -> Vec<Route> {
+        let mut found = Vec::new();
+        let mut route = Route {
+            nodes: vec![start],
+            arcs: Vec::new(),
+        };
+        self.extend(&mut route, goal, &mut found);
+        found
+    }
+
+    /// Adds to `found` all loopless paths to the goal that begin with `route`.
+    fn extend(&self, route: &mut Route, goal: u32, found: &mut Vec<Route>) {
+        let last = route.nodes[route.nodes.len() - 1];
+        if last == goal {
+            found.push(route.clone());
+            return;
+        }
+        for (arc, &(tail, head)) in self.arcs.iter().enumerate() {
+            if tail == last && !route.nodes.contains(&head) {
+                route.nodes.push(head);
+                route.arcs.push(arc);
+                self.extend(route, goal, found);
+                route.nodes.pop();
+                route.arcs.pop();
+            }
+        }
+    }
+
+    fn has_node(&self, node: u32) -> bool {
+        (1..=self.n).contains(&node)
+    }
+
+    /// Row 11.
+    fn check_column(&self, column: u32) -> Result<(), Refused> {
+        let there = column >= 1 && column as usize <= self.columns.len();
+        if there {
+            Ok(())
+        } else {
+            Err((11, 0))
+        }
+    }
+
+    /// Label: for each node the least cost of its paths to the goal.
+    pub fn label(&self, column: u32, goal: u32) -> Result<Vec<Option<u32>>, Refused> {
+        if !self.has_node(goal) {
+            return Err((10, 0));
+        }
+        self.check_column(column)?;
+        let least = |node| {
+            self.routes(node, goal)
+                .iter()
+                .map(|route| self.cost(column, route))
+                .min()
+        };
+        Ok((1..=self.n).map(least).collect())
+    }
+}
+
+/// A network, start and goal, with all paths between them.
+pub struct Query<'a> {
+    net: &'a Net,
+    start: u32,
+    goal: u32,
+    routes: Vec<Route>,
+}
+
+impl Query<'_> {
+    /// Finds all paths; start and goal may be any numbers.
+    pub fn new(net: &Net, start: u32, goal: u32) -> Query<'_> {
+        let mut query = Query {
+            net,
+            start,
+            goal,
+            routes: Vec::new(),
+        };
+        if query.check_ends().is_ok() {
+            query.routes = net.routes(start, goal);
+        }
+        query
+    }
+
+    /// The node lists of all paths.
+    pub fn lists(&self) -> Vec<Vec<u32>> {
+        self.routes
+            .iter()
+            .map(|route| route.nodes.clone())
+            .collect()
+    }
+
+    /// Row 10.
+    fn check_ends(&self) -> Result<(), Refused> {
+        let right = self.net.has_node(self.start) && self.net.has_node(self.goal);
+        if right && self.start != self.goal {
+            Ok(())
+        } else {
+            Err((10, 0))
+        }
+    }
+
+    /// Rows 10, 11, 12 and 15, and then all paths in the ranking order.
+    fn ranked(&self, column: u32, k: u32) -> Result<Vec<&Route>, Refused> {
+        self.check_ends()?;
+        self.net.check_column(column)?;
+        if !(1..=256).contains(&k) {
+            return Err((12, 0));
+        }
+        if self.routes.is_empty() {
+            return Err((15, 0));
+        }
+        let mut ranked: Vec<&Route> = self.routes.iter().collect();
+        ranked.sort_by_key(|route| (self.net.cost(column, route), &route.nodes));
+        Ok(ranked)
+    }
+
+    /// Shortest: the first path with its cost.
+    pub fn shortest(&self, column: u32) -> Result<(Vec<u32>, u32), Refused> {
+        Ok(self.rank(column, 1)?.remove(0))
+    }
+
+    /// Rank: the first k paths with their costs.
+    pub fn rank(&self, column: u32, k: u32) -> Result<Vec<(Vec<u32>, u32)>, Refused> {
+        let first = self.ranked(column, k)?.into_iter().take(k as usize);
+        Ok(first
+            .map(|route| (route.nodes.clone(), self.net.cost(column, route)))
+            .collect())
+    }
+
+    /// For each column the least cost of all paths.
+    fn bests(&self) -> Vec<u32> {
+        let columns = 1..=self.net.columns.len() as u32;
+        let best = |column| {
+            self.routes
+                .iter()
+                .map(|route| self.net.cost(column, route))
+                .min()
+        };
+        columns
+            .map(|column| best(column).expect("a path"))
+            .collect()
+    }
+
+    /// A path's deviation in each column.
+    fn deviations(&self, bests: &[u32], route: &Route) -> Vec<u32> {
+        let columns = 1..=self.net.columns.len() as u32;
+        columns
+            .zip(bests)
+            .map(|(column, best)| self.net.cost(column, route) - best)
+            .collect()
+    }
+
+    /// Row 14: the place at which a node list is no path.
+    fn place_in_error(&self, list: &[u32]) -> Option<usize> {
+        if list.first() != Some(&self.start) {
+            return Some(0);
+        }
+        for position in 1..list.len() {
+            let (before, node) = (list[position - 1], list[position]);
+            if list[..position].contains(&node) || !self.net.arcs.contains(&(before, node)) {
+                return Some(position);
+            }
+        }
+        (list.last() != Some(&self.goal)).then_some(list.len())
+    }
+
+    /// Regret: figure and worst column of a node list.
+    pub fn regret(&self, list: &[u32]) -> Result<(u32, u32), Refused> {
+        self.check_ends()?;
+        if let Some(place) = self.place_in_error(list) {
+            return Err((14, place as u32));
+        }
+        let route = self
+            .routes
+            .iter()
+            .find(|route| route.nodes == list)
+            .expect("all paths are found");
+        Ok(greatest(&self.deviations(&self.bests(), route)))
+    }
+
+    /// Robust: the stopping rule J over all paths, and the earliest of those counted that has the
+    /// least figure.
+    pub fn robust(&self, column: u32, k: u32) -> Result<Chosen, Refused> {
+        let ranked = self.ranked(column, k)?;
+        let bests = self.bests();
+        let deviations: Vec<_> = ranked
+            .iter()
+            .map(|route| self.deviations(&bests, route))
+            .collect();
+        let figures: Vec<u32> = deviations.iter().map(|each| greatest(each).0).collect();
+        let least = |j: usize| *figures[..j].iter().min().expect("j is not 0");
+        let in_column = |j: usize| deviations[j - 1][column as usize - 1];
+        let all = ranked.len();
+        let needed = (1..=all)
+            .find(|&j| j == all || in_column(j + 1) >= least(j))
+            .expect("j = N");
+        let count = needed.min(k as usize);
+        let at = figures
+            .iter()
+            .position(|&figure| figure == least(count))
+            .expect("it is attained");
+        let (figure, worst) = greatest(&deviations[at]);
+        Ok(Chosen {
+            route: ranked[at].nodes.clone(),
+            figure,
+            worst,
+            count: count as u32,
+            floor: (needed > k as usize).then(|| in_column(k as usize + 1)),
+        })
+    }
+}
+
+/// The largest deviation, and the lowest-numbered column that has it.
+fn greatest(deviations: &[u32]) -> (u32, u32) {
+    let figure = *deviations.iter().max().expect("a column");
+    let index = deviations
+        .iter()
+        .position(|&each| each == figure)
+        .expect("it is attained");
+    (figure, index as u32 + 1)
+}
+
+/// Rows 1 to 9 on an image: the lists that it holds, or the refusal.
+pub fn check(image: &[u8]) -> Result<Net, Refused> {
+    if image.len() < 24 {
+        return Err((1, 0));
+    }
+    let two = |at: usize| u32::from(u16::from_le_bytes([image[at], image[at + 1]]));
+    let four = |at: usize| two(at) + (two(at + 2) << 16);
+    if two(0) != 1 {
+        return Err((2, 0));
+    }
+    let (n, m, k) = (two(2), two(4), two(6));
+    check_sizes(n, m as usize, k as usize)?;
+    let total = 24 + 4 * m + 4 * m * k;
+    if [four(8), four(12), four(16), four(20)] != [24, 24 + 4 * m, total, 0] {
+        return Err((4, 0));
+    }
+    if image.len() != total as usize {
+        return Err((5, 0));
+    }
+    let (m, k) = (m as usize, k as usize);
+    let arcs: Vec<_> = (0..m)
+        .map(|arc| (two(24 + 4 * arc), two(26 + 4 * arc)))
+        .collect();
+    let cost = |column: usize, arc: usize| four(24 + 4 * m + 4 * m * column + 4 * arc);
+    let columns = (0..k)
+        .map(|column| (0..m).map(|arc| cost(column, arc)).collect())
+        .collect();
+    let net = Net { n, arcs, columns };
+    check_content(&net)?;
+    Ok(net)
+}
+
+/// The rows of Build on lists.
+pub fn check_lists(net: &Net) -> Result<(), Refused> {
+    let m = net.arcs.len();
+    check_sizes(net.n, m, net.columns.len())?;
+    if net.columns.iter().any(|column| column.len() != m) {
+        return Err((4, 0));
+    }
+    check_content(net)
+}
+
+/// Row 3.
+fn check_sizes(n: u32, m: usize, k: usize) -> Result<(), Refused> {
+    let right = (2..=200).contains(&n) && m <= 1_000 && (1..=8).contains(&k);
+    if right {
+        Ok(())
+    } else {
+        Err((3, 0))
+    }
+}
+
+/// Rows 6 to 9: the first arc in error, then the first cost.
+fn check_content(net: &Net) -> Result<(), Refused> {
+    let mut before = (0, 0);
+    for (arc, &(tail, head)) in (0..).zip(&net.arcs) {
+        if !net.has_node(tail) || !net.has_node(head) {
+            return Err((6, arc));
+        }
+        if tail == head {
+            return Err((7, arc));
+        }
+        if (tail, head) <= before {
+            return Err((8, arc));
+        }
+        before = (tail, head);
+    }
+    match net.costs().iter().position(|&cost| cost > 1_000_000) {
+        Some(index) => Err((9, index as u32)),
+        None => Ok(()),
+    }
+}
