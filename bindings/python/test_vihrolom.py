@@ -1,0 +1,474 @@
+"""Holds the module to the cases of document 01, and to a plain enumeration of all loopless paths.
+
+Two rows of the refusal table are not reached: 13, since the module sizes every slice, and 16, for
+which document 01 knows no example.
+"""
+import ctypes
+import glob
+import os
+import pickle
+import random
+import struct
+import subprocess
+import sys
+import unittest
+from unittest import mock
+
+import _ctypes
+import vihrolom
+from vihrolom import Choice, Lists, Path, Refusal, Regret, Sizes
+
+FOLDER = os.path.dirname(os.path.abspath(__file__))
+EXAMPLES = os.path.join(FOLDER, "..", "..", "examples")
+
+S_ENDS = (1, 2, 1, 3, 2, 3, 2, 4, 3, 4)
+S_COSTS = (2, 5, 1, 6, 2, 4, 1, 2, 1, 7)
+S = struct.pack("<4H4I10H10I", 1, 4, 5, 2, 24, 44, 84, 0, *S_ENDS, *S_COSTS)
+
+# numbers that do not fit 32 bits; ctypes would cut three of them to 1
+BEYOND = (2**32, 2**32 + 1, 2**64 + 1, -1, 1 - 2**32)
+
+
+def outcome(call, *arguments):
+    """What a call gives: its result, or number and place of its refusal."""
+    try:
+        return call(*arguments)
+    except Refusal as refusal:
+        return refusal.number, refusal.place
+
+
+def by_rank(path):
+    """The ranking order: by cost, then node list."""
+    return path.cost, path.nodes
+
+
+def read(name):
+    with open(os.path.join(EXAMPLES, name), "rb") as file:
+        return file.read()
+
+
+class Cases(unittest.TestCase):
+    """The cases of document 01; start 1, goal 4 on network S unless stated."""
+
+    def test_build_and_unpack(self):
+        self.assertEqual(len(S), 84)
+        self.assertEqual(vihrolom.build(4, 2, S_ENDS, S_COSTS), S)
+        self.assertEqual(vihrolom.check(S), Sizes(nodes=4, arcs=5, columns=2))
+        self.assertEqual(vihrolom.unpack(S), Lists(Sizes(4, 5, 2), S_ENDS, S_COSTS))
+
+    def test_rank(self):
+        first = [Path((1, 2, 3, 4), 5), Path((1, 3, 4), 7), Path((1, 2, 4), 8)]
+        second = [Path((1, 2, 4), 5), Path((1, 3, 4), 8), Path((1, 2, 3, 4), 13)]
+        self.assertEqual(vihrolom.rank(S, 1, 1, 4, 5), first)
+        self.assertEqual(vihrolom.rank(S, 2, 1, 4, 5), second)
+        self.assertEqual(vihrolom.rank(S, 1, 1, 4, 2), first[:2])
+
+    def test_label(self):
+        self.assertEqual(vihrolom.label(S, 1, 4), [5, 3, 2, 0])
+        self.assertEqual(vihrolom.label(S, 1, 2), [2, 0, None, None])
+
+    def test_shortest(self):
+        self.assertEqual(vihrolom.shortest(S, 1, 1, 4), Path((1, 2, 3, 4), 5))
+        self.assertEqual(vihrolom.shortest(S, 2, 1, 4), Path((1, 2, 4), 5))
+
+    def test_regret(self):
+        self.assertEqual(vihrolom.regret(S, 1, 4, [1, 2, 4]), Regret(3, 1))
+        self.assertEqual(vihrolom.regret(S, 1, 4, [1, 3, 4]), Regret(3, 2))
+        self.assertEqual(vihrolom.regret(S, 1, 4, [1, 2, 3, 4]), Regret(8, 2))
+
+    def test_robust(self):
+        settled = Choice((1, 3, 4), figure=3, worst=2, count=2, settled=True, floor=None)
+        self.assertEqual(vihrolom.robust(S, 1, 1, 4, 2), settled)
+        still_open = Choice((1, 2, 3, 4), figure=8, worst=2, count=1, settled=False, floor=2)
+        self.assertEqual(vihrolom.robust(S, 1, 1, 4, 1), still_open)
+        at_once = Choice((1, 2, 4), figure=3, worst=1, count=1, settled=True, floor=None)
+        self.assertEqual(vihrolom.robust(S, 2, 1, 4, 1), at_once)
+
+    def test_ring_of_zero_costs(self):
+        image = vihrolom.build(4, 1, [1, 3, 2, 3, 2, 4, 3, 2, 3, 4], [0] * 5)
+        self.assertEqual(vihrolom.rank(image, 1, 1, 4, 5), [Path((1, 3, 2, 4), 0), Path((1, 3, 4), 0)])
+
+    def test_network_without_arcs(self):
+        image = vihrolom.build(2, 1, [], [])
+        self.assertEqual(len(image), 24)
+        self.assertEqual(vihrolom.unpack(image), Lists(Sizes(2, 0, 1), (), ()))
+        self.assertEqual(vihrolom.label(image, 1, 2), [None, 0])
+        self.assertEqual(outcome(vihrolom.robust, image, 1, 1, 2, 1), (15, 0))
+
+    def test_line_of_200_nodes(self):
+        ends = [node for tail in range(1, 200) for node in (tail, tail + 1)]
+        image = vihrolom.build(200, 1, ends, [1_000_000] * 199)
+        line = Path(tuple(range(1, 201)), 199_000_000)
+        self.assertEqual(vihrolom.shortest(image, 1, 1, 200), line)
+        self.assertEqual(vihrolom.rank(image, 1, 1, 200, 256), [line])
+        self.assertEqual(vihrolom.robust(image, 1, 1, 200, 256), Choice(line.nodes, 0, 1, 1, True, None))
+
+    def test_most_paths(self):
+        image = read("apart.image")
+        paths = vihrolom.rank(image, 1, 1, 100, 256)
+        self.assertEqual(len({path.nodes for path in paths}), 256)
+        self.assertEqual(paths, sorted(paths, key=by_rank))
+        self.assertEqual(vihrolom.rank(image, 1, 1, 100, 48), paths[:48])
+
+    def test_sheets_of_the_examples(self):
+        names = [os.path.basename(file) for file in glob.glob(os.path.join(EXAMPLES, "*.image"))]
+        self.assertLessEqual({"S.image", "close.image", "apart.image"}, set(names))
+        for name in names:
+            with self.subTest(name):
+                text = vihrolom.sheet(read(name)).encode()
+                self.assertEqual(text, read(name.replace(".image", ".sheet")))
+
+    def test_sheet_of_a_refusal(self):
+        self.assertEqual(vihrolom.sheet(b""), "refused 1 at 0\n")
+        self.assertEqual(vihrolom.sheet(vihrolom.build(2, 1, [], [])), "refused 15 at 0\n")
+        self.assertEqual(vihrolom.sheet(S[:32] + S[28:32] + S[36:]), "refused 8 at 2\n")
+
+
+class Refusing(unittest.TestCase):
+    def refused(self, number, place, call, *arguments):
+        self.assertEqual(outcome(call, *arguments), (number, place), (call.__name__, arguments))
+
+
+class Refusals(Refusing):
+    """The rows of the refusal table."""
+
+    def refused_image(self, number, place, image):
+        """Every call with an image checks it first."""
+        self.refused(number, place, vihrolom.check, image)
+        self.refused(number, place, vihrolom.unpack, image)
+        self.refused(number, place, vihrolom.label, image, 1, 4)
+        self.refused(number, place, vihrolom.shortest, image, 1, 1, 4)
+        self.refused(number, place, vihrolom.regret, image, 1, 4, [1, 3, 4])
+        self.refused(number, place, vihrolom.rank, image, 1, 1, 4, 1)
+        self.refused(number, place, vihrolom.robust, image, 1, 1, 4, 1)
+        self.assertEqual(vihrolom.sheet(image), f"refused {number} at {place}\n")
+
+    def refused_field(self, number, place, offset, form, value):
+        """Network S with one number of its image changed."""
+        image = bytearray(S)
+        struct.pack_into(form, image, offset, value)
+        self.refused_image(number, place, bytes(image))
+
+    def test_length(self):
+        self.refused_image(1, 0, b"")
+        self.refused_image(1, 0, S[:23])
+        self.refused_image(5, 0, S + b"\0")
+        self.refused_image(5, 0, S[:-1])
+
+    def test_header(self):
+        self.refused_field(2, 0, 0, "<H", 7)
+        for offset, value in [(2, 0), (2, 1), (2, 201), (2, 65535), (4, 1001), (6, 0), (6, 9)]:
+            self.refused_field(3, 0, offset, "<H", value)
+        for offset, value in [(8, 25), (12, 40), (16, 85), (20, 1)]:
+            self.refused_field(4, 0, offset, "<I", value)
+
+    def test_arcs_of_an_image(self):
+        self.refused_field(6, 0, 24, "<H", 0)
+        self.refused_field(6, 4, 42, "<H", 5)
+        self.refused_field(7, 2, 34, "<H", 2)
+        self.refused_field(8, 1, 30, "<H", 2)
+
+    def test_costs_of_an_image(self):
+        self.refused_field(9, 0, 44, "<I", 1_000_001)
+        self.refused_field(9, 9, 80, "<I", 2**32 - 1)
+
+    def test_build(self):
+        build = vihrolom.build
+        for nodes in (0, 1, 201):
+            self.refused(3, 0, build, nodes, 2, S_ENDS, S_COSTS)
+        for columns in (0, 9):
+            self.refused(3, 0, build, 4, columns, S_ENDS, S_COSTS)
+        self.refused(3, 0, build, 4, 1, [1, 2] * 1001, [1] * 1001)
+        self.refused(4, 0, build, 4, 2, S_ENDS + (1,), S_COSTS)
+        self.refused(4, 0, build, 4, 2, S_ENDS, S_COSTS[:-1])
+        self.refused(6, 0, build, 4, 2, (0,) + S_ENDS[1:], S_COSTS)
+        self.refused(6, 4, build, 4, 2, S_ENDS[:-1] + (5,), S_COSTS)
+        self.refused(7, 2, build, 4, 2, S_ENDS[:4] + (2, 2) + S_ENDS[6:], S_COSTS)
+        self.refused(8, 1, build, 4, 2, (1, 2, 1, 2) + S_ENDS[4:], S_COSTS)
+        self.refused(9, 9, build, 4, 2, S_ENDS, S_COSTS[:-1] + (1_000_001,))
+
+    def test_start_and_goal(self):
+        for start, goal in [(1, 1), (0, 4), (5, 4), (1, 0), (1, 5)]:
+            self.refused(10, 0, vihrolom.shortest, S, 1, start, goal)
+            self.refused(10, 0, vihrolom.regret, S, start, goal, [1, 3, 4])
+            self.refused(10, 0, vihrolom.rank, S, 1, start, goal, 1)
+            self.refused(10, 0, vihrolom.robust, S, 1, start, goal, 1)
+        for goal in (0, 5):
+            self.refused(10, 0, vihrolom.label, S, 1, goal)
+
+    def test_column(self):
+        for column in (0, 3):
+            self.refused(11, 0, vihrolom.label, S, column, 4)
+            self.refused(11, 0, vihrolom.shortest, S, column, 1, 4)
+            self.refused(11, 0, vihrolom.rank, S, column, 1, 4, 1)
+            self.refused(11, 0, vihrolom.robust, S, column, 1, 4, 1)
+
+    def test_limit(self):
+        for limit in (0, 257, 2**32 - 1):
+            self.refused(12, 0, vihrolom.rank, S, 1, 1, 4, limit)
+            self.refused(12, 0, vihrolom.robust, S, 1, 1, 4, limit)
+
+    def test_lowest_number_first(self):
+        self.refused(10, 0, vihrolom.robust, S, 0, 1, 1, 0)
+        self.refused(11, 0, vihrolom.robust, S, 0, 4, 1, 0)
+        self.refused(12, 0, vihrolom.robust, S, 1, 4, 1, 0)
+
+    def test_list_that_is_no_path(self):
+        for place, nodes in [
+            (0, []),
+            (0, [2, 4]),
+            (0, [0, 1, 3, 4]),
+            (1, [1, 4]),
+            (1, [1, 1]),
+            (1, [1, 5]),
+            (2, [1, 2]),
+            (2, [1, 2, 1]),
+            (3, [1, 3, 4, 4]),
+            (1, [1]),
+        ]:
+            self.refused(14, place, vihrolom.regret, S, 1, 4, nodes)
+
+    def test_no_path(self):
+        self.refused(15, 0, vihrolom.shortest, S, 1, 4, 1)
+        self.refused(15, 0, vihrolom.rank, S, 1, 4, 1, 5)
+        self.refused(15, 0, vihrolom.robust, S, 1, 4, 1, 5)
+
+    def test_words(self):
+        refusal = Refusal(11, 0)
+        self.assertEqual(str(refusal), "refused 11 at 0: column outside 1..k")
+        self.assertEqual(Refusal(1, 0).words, "image under 24 bytes")
+        self.assertEqual(Refusal(16, 0).words, "a path cost exceeds 4,000,000,000")
+        self.assertEqual(len({Refusal(number, 0).words for number in range(1, 17)}), 16)
+        self.assertEqual(str(pickle.loads(pickle.dumps(refusal))), str(refusal))
+
+
+class Numbers(Refusing):
+    """Numbers that do not fit the parameters of the C functions, and things that are no numbers."""
+
+    def test_numbers_beyond_32_bits(self):
+        for number in BEYOND:
+            self.refused(3, 0, vihrolom.build, number, 2, S_ENDS, S_COSTS)
+            self.refused(3, 0, vihrolom.build, 4, number, S_ENDS, S_COSTS)
+            self.refused(10, 0, vihrolom.label, S, 1, number)
+            self.refused(11, 0, vihrolom.label, S, number, 4)
+            self.refused(12, 0, vihrolom.rank, S, 1, 1, 4, number)
+            self.refused(12, 0, vihrolom.robust, S, 1, 1, 4, number)
+            for call, more in [(vihrolom.shortest, ()), (vihrolom.rank, (5,)), (vihrolom.robust, (5,))]:
+                self.refused(11, 0, call, S, number, 1, 4, *more)
+                self.refused(10, 0, call, S, 1, number, 4, *more)
+                self.refused(10, 0, call, S, 1, 1, number, *more)
+            self.refused(10, 0, vihrolom.regret, S, number, 4, [1, 3, 4])
+            self.refused(10, 0, vihrolom.regret, S, 1, number, [1, 3, 4])
+
+    def test_nodes_beyond_16_bits(self):
+        for node in (2**16, 2**16 + 3, *BEYOND):
+            self.refused(6, 1, vihrolom.build, 4, 2, S_ENDS[:3] + (node,) + S_ENDS[4:], S_COSTS)
+            self.refused(14, 1, vihrolom.regret, S, 1, 4, [1, node, 4])
+            self.refused(14, 0, vihrolom.regret, S, 1, 4, [node, 3, 4])
+
+    def test_costs(self):
+        for cost in (1_000_001, 2**32 - 1, 2**32, 2**32 + 1, 2**64 + 1):
+            self.refused(9, 3, vihrolom.build, 4, 2, S_ENDS, S_COSTS[:3] + (cost,) + S_COSTS[4:])
+        for cost in (-1, 1 - 2**32, -(2**64)):
+            with self.assertRaisesRegex(ValueError, "index 3"):
+                vihrolom.build(4, 2, S_ENDS, S_COSTS[:3] + (cost,) + S_COSTS[4:])
+        greatest = vihrolom.build(2, 1, [1, 2], [1_000_000])
+        self.assertEqual(vihrolom.shortest(greatest, 1, 1, 2), Path((1, 2), 1_000_000))
+
+    def test_no_whole_numbers(self):
+        for wrong in (1.0, "1", None):
+            for call, arguments in [
+                (vihrolom.build, (wrong, 1, [1, 2], [1])),
+                (vihrolom.build, (2, 1, [1, wrong], [1])),
+                (vihrolom.build, (2, 1, [1, 2], [wrong])),
+                (vihrolom.label, (S, wrong, 4)),
+                (vihrolom.regret, (S, 1, 4, [1, wrong, 4])),
+                (vihrolom.rank, (S, 1, 1, 4, wrong)),
+                (vihrolom.robust, (S, 1, 1, wrong, 5)),
+            ]:
+                self.assertRaises(TypeError, call, *arguments)
+
+    def test_images_that_are_no_bytes(self):
+        for wrong in (84, "S", None, [1, 0]):
+            self.assertRaises(TypeError, vihrolom.check, wrong)
+        for image in (bytearray(S), memoryview(S), memoryview(S).cast("I")):
+            self.assertEqual(vihrolom.check(image), Sizes(4, 5, 2))
+
+
+class Plain:
+    """A network whose answers are found by looking at all loopless paths."""
+
+    def __init__(self, nodes, arcs, columns):
+        self.nodes = nodes
+        self.arcs = arcs
+        self.columns = columns
+        self.costs = [dict(zip(arcs, column)) for column in columns]
+
+    def image(self):
+        m, k = len(self.arcs), len(self.columns)
+        ends = [node for arc in self.arcs for node in arc]
+        costs = [cost for column in self.columns for cost in column]
+        form = f"<4H4I{2 * m}H{m * k}I"
+        header = (1, self.nodes, m, k, 24, 24 + 4 * m, 24 + 4 * m + 4 * m * k, 0)
+        return struct.pack(form, *header, *ends, *costs)
+
+    def paths(self, start, goal, used=()):
+        used = (*used, start)
+        if start == goal:
+            return [used]
+        heads = [head for tail, head in self.arcs if tail == start and head not in used]
+        return [path for head in heads for path in self.paths(head, goal, used)]
+
+    def cost(self, u, path):
+        return sum(self.costs[u - 1][arc] for arc in zip(path, path[1:]))
+
+    def label(self, u, goal):
+        least = []
+        for node in range(1, self.nodes + 1):
+            least.append(min((self.cost(u, path) for path in self.paths(node, goal)), default=None))
+        return least
+
+    def ranked(self, u, start, goal):
+        paths = [Path(path, self.cost(u, path)) for path in self.paths(start, goal)]
+        return sorted(paths, key=by_rank)
+
+    def rank(self, u, start, goal, limit):
+        return self.ranked(u, start, goal)[:limit] or (15, 0)
+
+    def shortest(self, u, start, goal):
+        ranked = self.ranked(u, start, goal)
+        return ranked[0] if ranked else (15, 0)
+
+    def deviations(self, start, goal, paths):
+        """For each path its deviation in each column."""
+        columns = range(1, len(self.columns) + 1)
+        every = self.paths(start, goal)
+        bests = [min(self.cost(u, path) for path in every) for u in columns]
+        return [[self.cost(u, path) - best for u, best in zip(columns, bests)] for path in paths]
+
+    def regret(self, start, goal, nodes):
+        if not nodes or nodes[0] != start:
+            return 14, 0
+        for i in range(1, len(nodes)):
+            if nodes[i] in nodes[:i] or (nodes[i - 1], nodes[i]) not in self.arcs:
+                return 14, i
+        if nodes[-1] != goal:
+            return 14, len(nodes)
+        (row,) = self.deviations(start, goal, [tuple(nodes)])
+        return Regret(max(row), row.index(max(row)) + 1)
+
+    def robust(self, u, start, goal, limit):
+        paths = [path.nodes for path in self.ranked(u, start, goal)]
+        if not paths:
+            return 15, 0
+        rows = self.deviations(start, goal, paths)
+        figures = [max(row) for row in rows]
+        needed = 1
+        while needed < len(paths) and rows[needed][u - 1] < min(figures[:needed]):
+            needed += 1
+        settled = needed <= limit
+        count = needed if settled else limit
+        floor = None if settled else rows[limit][u - 1]
+        figure = min(figures[:count])
+        at = figures.index(figure)
+        return Choice(paths[at], figure, rows[at].index(figure) + 1, count, settled, floor)
+
+
+def draw_network(draw):
+    """A network of 2 to 7 nodes, sparse or dense, with few or many equal costs."""
+    nodes = draw.randint(2, 7)
+    share = draw.choice((0.3, 0.5, 0.7, 1.0))
+    pairs = [(tail, head) for tail in range(1, nodes + 1) for head in range(1, nodes + 1) if tail != head]
+    arcs = [pair for pair in pairs if draw.random() < share]
+    top = draw.choice((0, 1, 3, 20, 1_000_000))
+    columns = [[draw.randint(0, top) for _ in arcs] for _ in range(draw.randint(1, 4))]
+    return Plain(nodes, arcs, columns)
+
+
+class AgainstEnumeration(unittest.TestCase):
+    NETWORKS = 2400
+
+    def agree(self, plain, call, *arguments):
+        """The call on the network's image gives what the enumeration gives."""
+        expected = getattr(plain, call.__name__)(*arguments)
+        given = outcome(call, plain.image(), *arguments)
+        self.assertEqual(given, expected, (call.__name__, plain.arcs, plain.columns, arguments))
+        self.compared[call.__name__] = self.compared.get(call.__name__, 0) + 1
+
+    def agree_on_lists(self, plain):
+        image = plain.image()
+        sizes = Sizes(plain.nodes, len(plain.arcs), len(plain.columns))
+        ends = tuple(node for arc in plain.arcs for node in arc)
+        costs = tuple(cost for column in plain.columns for cost in column)
+        self.assertEqual(vihrolom.build(sizes.nodes, sizes.columns, ends, costs), image)
+        self.assertEqual(vihrolom.unpack(image), Lists(sizes, ends, costs))
+
+    def agree_on_paths(self, plain, draw):
+        column = draw.randint(1, len(plain.columns))
+        start, goal = draw.sample(range(1, plain.nodes + 1), 2)
+        self.agree(plain, vihrolom.label, column, goal)
+        self.agree(plain, vihrolom.shortest, column, start, goal)
+        for limit in (draw.randint(1, 12), 256):
+            self.agree(plain, vihrolom.rank, column, start, goal, limit)
+        for limit in (1, draw.randint(2, 12), 256):
+            self.agree(plain, vihrolom.robust, column, start, goal, limit)
+        paths = plain.paths(start, goal)
+        for path in draw.sample(paths, min(3, len(paths))):
+            self.agree(plain, vihrolom.regret, start, goal, path)
+            self.agree(plain, vihrolom.regret, start, goal, path[:-1])
+        drawn = [start] + [draw.randint(0, plain.nodes + 1) for _ in range(draw.randint(0, 4))]
+        self.agree(plain, vihrolom.regret, start, goal, drawn)
+
+    def test_random_networks(self):
+        draw = random.Random(20)
+        self.compared = {}
+        for _ in range(self.NETWORKS):
+            plain = draw_network(draw)
+            self.agree_on_lists(plain)
+            self.agree_on_paths(plain, draw)
+        self.assertEqual(set(self.compared), {"label", "shortest", "rank", "robust", "regret"})
+        self.assertGreaterEqual(min(self.compared.values()), self.NETWORKS)
+        self.assertGreaterEqual(sum(self.compared.values()), 10 * self.NETWORKS)
+
+
+class Passing(unittest.TestCase):
+    """How the module finds the library, and what it passes to it."""
+
+    def test_no_slice_is_null(self):
+        seen = []
+
+        def function(*arguments):
+            seen.extend(argument for argument in arguments if isinstance(argument, ctypes.Array))
+            return mock.Mock(refusal=15, place=0)
+
+        library = mock.Mock(vihrolom_build=function, vihrolom_check=function, vihrolom_regret=function)
+        with mock.patch.object(vihrolom, "_library", return_value=library):
+            outcome(vihrolom.build, 2, 1, [], [])
+            outcome(vihrolom.check, b"")
+            outcome(vihrolom.regret, b"", 1, 2, [])
+        self.assertEqual(len(seen), 6)
+        for slice in seen:
+            self.assertGreaterEqual(len(slice), 1)
+            self.assertNotEqual(ctypes.addressof(slice), 0)
+
+    def test_library_that_cannot_be_loaded(self):
+        program = (
+            "import vihrolom\n"
+            "print('imported')\n"
+            "try: vihrolom.check(b'')\n"
+            "except vihrolom.LibraryMissing as error: print(error)\n"
+        )
+        # no file, a file that is no library, and a library without the functions
+        for file in ("/nowhere/libvihrolom.so", __file__, _ctypes.__file__):
+            environment = dict(os.environ, VIHROLOM_LIBRARY=file)
+            command = [sys.executable, "-c", program]
+            run = subprocess.run(command, cwd=FOLDER, env=environment, capture_output=True, text=True)
+            self.assertEqual((run.returncode, run.stderr), (0, ""))
+            imported, complaint = run.stdout.splitlines()
+            self.assertEqual(imported, "imported")
+            self.assertIn(file, complaint)
+            self.assertIn("tools/build-library", complaint)
+
+
+if __name__ == "__main__":
+    unittest.main()

@@ -1,0 +1,319 @@
+"""Routes whose worst disappointment is smallest: the calls of document 01 on network images.
+
+Each function takes the bytes of a network image and passes them to the proved core in a shared
+library. The core examines every image, list and number itself; the functions here only size the
+slices that it writes to. A call gives its result or raises `Refusal`.
+
+The library's file is named by the environment variable VIHROLOM_LIBRARY; if that is not set, it is
+target/sharedlib/libvihrolom.so of the repository, which tools/build-library makes. It is loaded by
+the first call.
+
+Numbers may be any whole numbers. One that does not fit the 32 bits of its parameter, or the 16 bits
+of a node in a list, is never cut down to them: it is refused as document 01 refuses it, since it is
+outside 1..n, 1..k or 1..256 or above 1,000,000. Document 01 has no row for a negative cost; that
+raises ValueError. What is no whole number raises TypeError.
+"""
+from __future__ import annotations
+
+import ctypes
+import functools
+import operator
+import os
+from dataclasses import dataclass
+from typing import Iterable, List, Optional, Tuple
+
+_FOLDER = os.path.dirname(os.path.abspath(__file__))
+_LIBRARY = os.path.join(_FOLDER, "..", "..", "target", "sharedlib", "libvihrolom.so")
+
+_GREATEST_16 = 2**16 - 1
+_GREATEST_32 = 2**32 - 1
+_NOT_REACHED = _GREATEST_32
+_MOST_PATHS = 256
+_SHEET_PATHS = 48
+
+# The rows of document 01's refusal table, from 1 on. Its remarks on places are left out.
+_ROWS = (
+    "image under 24 bytes",
+    "edition isn't 1",
+    "n, m or k outside its range",
+    "an offset, total or reserved field is wrong; in Build, odd node list or costs not mk",
+    "image length isn't the total",
+    "tail or head outside 1..n",
+    "tail equals head",
+    "arc not above the one before",
+    "cost above 1,000,000",
+    "start or goal outside 1..n, or equal",
+    "column outside 1..k",
+    "K outside 1..256",
+    "a lent slice is too short",
+    "the node list is no path",
+    "no path exists",
+    "a path cost exceeds 4,000,000,000",
+)
+
+
+class Refusal(Exception):
+    """A refusal of document 01: the number of its row, its place (0 if it names none), and its words."""
+
+    def __init__(self, number: int, place: int) -> None:
+        super().__init__(number, place)
+        self.number = number
+        self.place = place
+        self.words = _ROWS[number - 1]
+
+    def __str__(self) -> str:
+        return f"refused {self.number} at {self.place}: {self.words}"
+
+
+class LibraryMissing(OSError):
+    """The shared library is not there, or is not the one that this module calls."""
+
+
+@dataclass(frozen=True)
+class Sizes:
+    """How many nodes, arcs and columns a network has."""
+
+    nodes: int
+    arcs: int
+    columns: int
+
+
+@dataclass(frozen=True)
+class Lists:
+    """What an image holds: tail and head of each arc in turn, and the costs, column after column."""
+
+    sizes: Sizes
+    ends: Tuple[int, ...]
+    costs: Tuple[int, ...]
+
+
+@dataclass(frozen=True)
+class Path:
+    """A path and its cost in the column asked for."""
+
+    nodes: Tuple[int, ...]
+    cost: int
+
+
+@dataclass(frozen=True)
+class Regret:
+    """The greatest regret of a path, and the lowest-numbered column that has it."""
+
+    figure: int
+    worst: int
+
+
+@dataclass(frozen=True)
+class Choice:
+    """Robust's answer.
+
+    `path` has the least greatest regret of the `count` paths that were counted: `figure`, in column
+    `worst`. If `settled`, no path at all has less, and `floor` is None. Otherwise the least greatest
+    regret of all paths lies between `floor` and `figure`.
+    """
+
+    path: Tuple[int, ...]
+    figure: int
+    worst: int
+    count: int
+    settled: bool
+    floor: Optional[int]
+
+
+def build(nodes: int, columns: int, ends: Iterable[int], costs: Iterable[int]) -> bytes:
+    """The image of a network.
+
+    `ends` has tail and head of each arc in turn, rising by tail, then head; `costs` has the costs of
+    all arcs in column 1, then those in column 2, and so on.
+    """
+    arc_ends, arc_costs = _node_list(ends), _cost_list(costs)
+    image = (ctypes.c_uint8 * (24 + 2 * len(arc_ends) + 4 * len(arc_costs)))()
+    reply = _call("build", _number(nodes), _number(columns), arc_ends, arc_costs, image)
+    return bytes(image[: reply.v0])
+
+
+def check(image: bytes) -> Sizes:
+    """The sizes of an image's network, if the image is sound."""
+    reply = _call("check", _image(image))
+    return Sizes(reply.v0, reply.v1, reply.v2)
+
+
+def unpack(image: bytes) -> Lists:
+    """The lists that an image was built from."""
+    sizes = check(image)
+    ends = (ctypes.c_uint16 * (2 * sizes.arcs))()
+    costs = (ctypes.c_uint32 * (sizes.arcs * sizes.columns))()
+    _call("unpack", _image(image), ends, costs)
+    return Lists(sizes, tuple(ends), tuple(costs))
+
+
+def label(image: bytes, column: int, goal: int) -> List[Optional[int]]:
+    """For each node, from 1 on, its least cost to the goal; None if it cannot reach the goal."""
+    labels = (ctypes.c_uint32 * check(image).nodes)()
+    _call("label", _image(image), _number(column), _number(goal), labels)
+    return [None if cost == _NOT_REACHED else cost for cost in labels]
+
+
+def shortest(image: bytes, column: int, start: int, goal: int) -> Path:
+    """The first path of the ranking order: the cheapest, and of equal ones the first by node list."""
+    path = (ctypes.c_uint16 * check(image).nodes)()
+    reply = _call("shortest", _image(image), _number(column), _number(start), _number(goal), path)
+    return Path(tuple(path[: reply.v0]), reply.v1)
+
+
+def regret(image: bytes, start: int, goal: int, nodes: Iterable[int]) -> Regret:
+    """The greatest regret of the path with these nodes."""
+    reply = _call("regret", _image(image), _number(start), _number(goal), _node_list(nodes))
+    return Regret(reply.v0, reply.v1)
+
+
+def rank(image: bytes, column: int, start: int, goal: int, limit: int) -> List[Path]:
+    """The first `limit` paths of the ranking order, or all if there are fewer; `limit` is 1 to 256."""
+    width, rows = check(image).nodes, _room(limit)
+    nodes = (ctypes.c_uint16 * (rows * width))()
+    costs = (ctypes.c_uint32 * rows)()
+    ends = _number(start), _number(goal)
+    work = _workspace(rows, width)
+    reply = _call("rank", _image(image), _number(column), *ends, _number(limit), nodes, costs, work)
+    return [Path(_row(nodes, width, i), costs[i]) for i in range(reply.v0)]
+
+
+def robust(image: bytes, column: int, start: int, goal: int, limit: int) -> Choice:
+    """The path of least greatest regret, sought among the first `limit` paths ranked in `column`.
+
+    `limit` is 1 to 256. The answer is settled as soon as no later path can have less regret.
+    """
+    width = check(image).nodes
+    path = (ctypes.c_uint16 * width)()
+    work = _workspace(_room(limit), width)
+    ends = _number(start), _number(goal)
+    reply = _call("robust", _image(image), _number(column), *ends, _number(limit), path, work)
+    length, figure, worst, count = reply.v0, reply.v1, reply.v2, reply.v3
+    settled = reply.v4 == 1
+    floor = None if settled else reply.v5
+    return Choice(tuple(path[:length]), figure, worst, count, settled, floor)
+
+
+def sheet(image: bytes) -> str:
+    """The sheet that the program prints for an image, refused ones included.
+
+    It tells Robust's answer in column 1, from node 1 to the last node, over at most 48 paths.
+    """
+    try:
+        choice = robust(image, 1, 1, check(image).nodes, _SHEET_PATHS)
+    except Refusal as refusal:
+        return f"refused {refusal.number} at {refusal.place}\n"
+    return answer_text(choice, " ".join(map(str, choice.path)), str(choice.worst))
+
+
+def answer_text(choice: Choice, route: str, worst: str) -> str:
+    """The sheet of Robust's answer, with its route and its worst column in the words given."""
+    state = "settled" if choice.settled else f"open floor {choice.floor}"
+    return (
+        f"route {route}\n"
+        f"regret {choice.figure} column {worst}\n"
+        f"ranked {choice.count} {state}\n"
+    )
+
+
+def _row(nodes: ctypes.Array, width: int, index: int) -> Tuple[int, ...]:
+    """The path in one row of `width` places. The row is filled up with 0, which is no node."""
+    return tuple(node for node in nodes[index * width : (index + 1) * width] if node != 0)
+
+
+def _room(limit: int) -> int:
+    """For how many paths to make room. A limit outside 1..256 is refused before room is asked for."""
+    return max(0, min(operator.index(limit), _MOST_PATHS))
+
+
+def _workspace(rows: int, nodes: int) -> ctypes.Array:
+    """The workspace that Rank and Robust borrow."""
+    return (ctypes.c_uint32 * ((rows + 1) * (nodes + 16) + 16 * nodes + 64))()
+
+
+def _image(image: bytes) -> ctypes.Array:
+    """A copy of the image's bytes, which nothing can change during the call."""
+    content = memoryview(image).tobytes()
+    return (ctypes.c_uint8 * len(content)).from_buffer_copy(content)
+
+
+def _number(number: int) -> int:
+    """The number, or 0 if it does not fit 32 bits: 0 is outside every range that numbers have."""
+    number = operator.index(number)
+    return number if 0 <= number <= _GREATEST_32 else 0
+
+
+def _node_list(nodes: Iterable[int]) -> ctypes.Array:
+    """The nodes of a list; 0, which is no node, stands for one that does not fit 16 bits."""
+    places = [operator.index(node) for node in nodes]
+    places = [node if 0 <= node <= _GREATEST_16 else 0 for node in places]
+    return (ctypes.c_uint16 * len(places))(*places)
+
+
+def _cost_list(costs: Iterable[int]) -> ctypes.Array:
+    """The costs of a list; the greatest number, too large for a cost, stands for a greater one."""
+    places = [min(operator.index(cost), _GREATEST_32) for cost in costs]
+    for index, cost in enumerate(places):
+        if cost < 0:
+            raise ValueError(f"the cost at index {index} is negative: {cost}")
+    return (ctypes.c_uint32 * len(places))(*places)
+
+
+class _Reply(ctypes.Structure):
+    """What a C function returns. `refusal` is 0 for a result, and v0 to v5 are then its values."""
+
+    _fields_ = [
+        (name, ctypes.c_uint32)
+        for name in ("refusal", "place", "v0", "v1", "v2", "v3", "v4", "v5")
+    ]
+
+
+# How a parameter of a C function passes: a number as it is, a slice as pointer and length in elements.
+_NUMBER = (ctypes.c_uint32,)
+_BYTES = (ctypes.POINTER(ctypes.c_uint8), ctypes.c_size_t)
+_NODES = (ctypes.POINTER(ctypes.c_uint16), ctypes.c_size_t)
+_WORDS = (ctypes.POINTER(ctypes.c_uint32), ctypes.c_size_t)
+
+_FUNCTIONS = {
+    "build": (_NUMBER, _NUMBER, _NODES, _WORDS, _BYTES),
+    "check": (_BYTES,),
+    "unpack": (_BYTES, _NODES, _WORDS),
+    "label": (_BYTES, _NUMBER, _NUMBER, _WORDS),
+    "shortest": (_BYTES, _NUMBER, _NUMBER, _NUMBER, _NODES),
+    "regret": (_BYTES, _NUMBER, _NUMBER, _NODES),
+    "rank": (_BYTES, _NUMBER, _NUMBER, _NUMBER, _NUMBER, _NODES, _WORDS, _WORDS),
+    "robust": (_BYTES, _NUMBER, _NUMBER, _NUMBER, _NUMBER, _NODES, _WORDS),
+}
+
+
+@functools.lru_cache(maxsize=None)
+def _library() -> ctypes.CDLL:
+    """The shared library, with the parameters of its functions declared."""
+    path = os.path.abspath(os.environ.get("VIHROLOM_LIBRARY") or _LIBRARY)
+    try:
+        library = ctypes.CDLL(path)
+        for name, parameters in _FUNCTIONS.items():
+            function = getattr(library, "vihrolom_" + name)
+            function.argtypes = [kind for parameter in parameters for kind in parameter]
+            function.restype = _Reply
+    except (OSError, AttributeError) as error:
+        advice = "run tools/build-library, or name the library's file in VIHROLOM_LIBRARY"
+        raise LibraryMissing(f"cannot load the library ({error}); {advice}") from None
+    return library
+
+
+def _call(name: str, *arguments) -> _Reply:
+    """The reply of a C function to numbers and slices, if it gives a result.
+
+    An empty slice passes with a pointer to a place that it does not have: no pointer is null.
+    """
+    passed = []
+    for argument in arguments:
+        if isinstance(argument, ctypes.Array):
+            passed += [argument or (argument._type_ * 1)(), len(argument)]
+        else:
+            passed.append(argument)
+    reply = getattr(_library(), "vihrolom_" + name)(*passed)
+    if reply.refusal != 0:
+        raise Refusal(reply.refusal, reply.place)
+    return reply
