@@ -13,8 +13,8 @@ use routes::shortest;
 ghost use mathlib.Core.Path.{_≡_};
 ghost use lib.ListN.{length};
 ghost use Rattle.image.specs.Outcome.{after};
-ghost use Rattle.routes.specs.Calls.{cleared, label-fault, label-outcome, labels-of, shortest-fault, shortest-outcome, shortest-of, regret-outcome, rank-fault, rank-outcome, rank-rows-of, rank-costs-of, robust-fault, robust-outcome, robust-of, chosen};
-ghost use Rattle.routes.specs.Demands.{Kept3};
+ghost use Rattle.calls.specs.Calls.{cleared, label-fault, label-outcome, labels-of, shortest-fault, shortest-outcome, shortest-of, regret-outcome, rank-fault, rank-outcome, rank-rows-of, rank-costs-of, robust-fault, robust-outcome, robust-of, chosen};
+ghost use Rattle.calls.specs.Demands.{Kept3};
 ghost use Rattle.capi.specs.Replies.{numbers, reply-of};
 
 // Document 01, call 2. No values.

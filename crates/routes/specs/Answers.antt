@@ -2,14 +2,14 @@
 use mathlib.Core.List.{[], _∷_}
 use Rattle.image.specs.Outcome.{Outcome, gives}
 use Rattle.image.specs.Answers.{refused}
+-- Robust's answer
+pub use Rattle.searches.specs.Answers.{decided}
 use Rattle.routes.specs.declared.labelling.Labelled.{Labelled}
 use Rattle.routes.specs.declared.labelling.Labelled.the-variants as label
 use Rattle.routes.specs.declared.finding.Routed.{Routed}
 use Rattle.routes.specs.declared.finding.Routed.the-variants as shortest
 use Rattle.routes.specs.declared.listing.Listed.{Listed}
 use Rattle.routes.specs.declared.listing.Listed.the-variants as rank
-use Rattle.routes.specs.declared.choosing.Decided.{Decided}
-use Rattle.routes.specs.declared.choosing.Decided.the-variants as robust
 use Rattle.routes.specs.declared.measuring.Regretted.{Regretted}
 use Rattle.routes.specs.declared.measuring.Regretted.the-variants as regret
 
@@ -32,9 +32,3 @@ regretted (regret.Refused r) = refused r
 abbrev pub listed : Listed → Outcome
 listed (rank.Paths count) = gives (count ∷ [])
 listed (rank.Refused r) = refused r
-
--- length, figure, worst column, count, state and floor
-abbrev pub decided : Decided → Outcome
-decided (robust.Settled d) = gives (d .length ∷ d .figure ∷ d .worst ∷ d .count ∷ 1 ∷ 0 ∷ [])
-decided (robust.Open d floor) = gives (d .length ∷ d .figure ∷ d .worst ∷ d .count ∷ 2 ∷ floor ∷ [])
-decided (robust.Refused r) = refused r

@@ -1,6 +1,1 @@
-pub mod Calls
 pub mod Answers
-pub mod Decoded
-pub mod Labels
-pub mod Lists
-pub mod Demands

@@ -1,7 +1,7 @@
 // Label: for each node the least cost to the goal.
-use super::columns::label_column;
-use super::rows::check_costs;
-use super::rows::is_column;
+use calls::label_column;
+use calls::check_costs;
+use calls::is_column;
 use image::Checked;
 use image::Refusal;
 use image::check;
@@ -16,9 +16,9 @@ ghost use Rattle.image.specs.Layout.{netOf};
 ghost use Rattle.image.specs.Calls.{sizes};
 ghost use Rattle.image.specs.Answers.{checked};
 ghost use Rattle.routes.specs.Answers.{labelled};
-ghost use Rattle.routes.specs.Calls.{label-fault, label-outcome, labels-of};
-ghost use Rattle.routes.specs.Decoded.{Node, InColumn};
-ghost use Rattle.routes.specs.Labels.{Narrow, narrowed};
+ghost use Rattle.calls.specs.Calls.{label-fault, label-outcome, labels-of};
+ghost use Rattle.calls.specs.Decoded.{Node, InColumn};
+ghost use Rattle.calls.specs.Labels.{Narrow, narrowed};
 
 // Label's answer.
 pub enum Labelled {

@@ -1,10 +1,10 @@
 // Regret: the figure and the worst column of a path.
-use super::columns::column_best;
-use super::columns::column_cost;
-use super::lists::NodeList;
-use super::lists::check_list;
-use super::rows::check_costs;
-use super::rows::check_ends;
+use calls::column_best;
+use calls::column_cost;
+use calls::NodeList;
+use calls::check_list;
+use calls::check_costs;
+use calls::check_ends;
 use image::Checked;
 use image::Refusal;
 ghost use mathlib.Core.Path.{_≡_};
@@ -16,8 +16,8 @@ ghost use Rattle.image.specs.Layout.{netOf};
 ghost use Rattle.image.specs.Calls.{sizes};
 ghost use Rattle.image.specs.Answers.{checked};
 ghost use Rattle.routes.specs.Answers.{regretted};
-ghost use Rattle.routes.specs.Calls.{regret-fault, regret-outcome};
-ghost use Rattle.routes.specs.Decoded.{Accepted, Node, InColumn};
+ghost use Rattle.calls.specs.Calls.{regret-fault, regret-outcome};
+ghost use Rattle.calls.specs.Decoded.{Accepted, Node, InColumn};
 
 // A path's greatest regret, and the lowest-numbered column that has it.
 pub struct Measure {

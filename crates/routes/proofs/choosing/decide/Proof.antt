@@ -4,10 +4,10 @@ use Rattle.image.specs.Outcome.{outcome, after}
 use Rattle.image.specs.Answers.{checked}
 use Rattle.image.proofs.NetworkLaws.{accepted-network}
 use Rattle.image.proofs.OutcomeLaws.{outcome-sound}
-use Rattle.routes.specs.Calls.{robust-of, chosen, robust-values, cleared}
-use Rattle.routes.proofs.CostLaws.{bound-row-sound}
-use Rattle.routes.proofs.RowLaws.{never, node-bounds}
-use Rattle.routes.proofs.ChoiceLaws.{choice-rows-are}
+use Rattle.calls.specs.Calls.{robust-of, chosen, robust-values, cleared}
+use Rattle.calls.proofs.CostLaws.{bound-row-sound}
+use Rattle.calls.proofs.RowLaws.{never, node-bounds}
+use Rattle.calls.proofs.ChoiceLaws.{choice-rows-are}
 use borrow.Author.Needs.{needs}
 use Rattle.routes.proofs.choosing.decide.Statement.{statement}
 use Rattle.routes.proofs.choosing.decide.Tie as tie

@@ -5,11 +5,11 @@ use Rattle.image.specs.Answers.{checked, refused}
 use Rattle.image.specs.Outcome.{sound, outcome, after}
 use Rattle.image.specs.Calls.{sizes}
 use Rattle.image.proofs.OutcomeLaws.{then-fault, then-next, outcome-fault, after-fault, refuses-fault}
-use Rattle.routes.specs.Calls.{choice-rows, robust-rows, robust-fault, robust-of, chosen, robust-values, robust-outcome, cleared}
-use Rattle.routes.specs.Decoded.{Accepted}
-use Rattle.routes.proofs.RowLaws.{given-sizes}
-use Rattle.routes.proofs.RankLaws.{cleared-not}
-use Rattle.routes.proofs.ChoiceLaws.{robust-sound, choice-slices, kept-3}
+use Rattle.calls.specs.Calls.{choice-rows, robust-rows, robust-fault, robust-of, chosen, robust-values, robust-outcome, cleared}
+use Rattle.calls.specs.Decoded.{Accepted}
+use Rattle.calls.proofs.RowLaws.{given-sizes}
+use Rattle.calls.proofs.RankLaws.{cleared-not}
+use Rattle.calls.proofs.ChoiceLaws.{robust-sound, choice-slices, kept-3}
 use borrow.Author.Needs.{needs}
 use Rattle.routes.proofs.choosing.robust.Statement.{statement}
 use Rattle.routes.proofs.choosing.robust.Tie as tie

@@ -5,9 +5,9 @@ use Rattle.image.specs.Outcome.{gives, sound}
 use Rattle.image.specs.Answers.{checked}
 use Rattle.image.specs.Calls.{sizes}
 use Rattle.image.proofs.OutcomeLaws.{then-fault, then-next, outcome-fault, outcome-sound, refuses-fault}
-use Rattle.routes.specs.Calls.{search-rows, shortest-rows}
-use Rattle.routes.specs.Decoded.{Accepted}
-use Rattle.routes.proofs.RowLaws.{given-sizes, sizes-of, search-sound, too-short, long-enough}
+use Rattle.calls.specs.Calls.{search-rows, shortest-rows}
+use Rattle.calls.specs.Decoded.{Accepted}
+use Rattle.calls.proofs.RowLaws.{given-sizes, sizes-of, search-sound, too-short, long-enough}
 use borrow.Author.Needs.{needs}
 use Rattle.routes.proofs.finding.check_shortest.Statement.{statement}
 use Rattle.routes.proofs.finding.check_shortest.Tie as tie

@@ -5,10 +5,10 @@ use Rattle.image.specs.Answers.{checked, refused}
 use Rattle.image.specs.Outcome.{sound, outcome, after}
 use Rattle.image.specs.Calls.{sizes}
 use Rattle.image.proofs.OutcomeLaws.{then-fault, then-next, outcome-fault, after-fault, refuses-fault}
-use Rattle.routes.specs.Calls.{shortest-rows, path-rows, shortest-fault, shortest-of, shortest-values, shortest-outcome}
-use Rattle.routes.specs.Decoded.{Accepted}
-use Rattle.routes.proofs.RowLaws.{given-sizes}
-use Rattle.routes.proofs.ShortestLaws.{ShortestSound, shortest-sound}
+use Rattle.calls.specs.Calls.{shortest-rows, path-rows, shortest-fault, shortest-of, shortest-values, shortest-outcome}
+use Rattle.calls.specs.Decoded.{Accepted}
+use Rattle.calls.proofs.RowLaws.{given-sizes}
+use Rattle.calls.proofs.ShortestLaws.{ShortestSound, shortest-sound}
 use borrow.Author.Needs.{needs}
 use Rattle.routes.proofs.finding.shortest.Statement.{statement}
 use Rattle.routes.proofs.finding.shortest.Tie as tie

@@ -12,10 +12,10 @@ use Rattle.image.specs.Layout.{netOf}
 use Rattle.image.specs.Outcome.{gives}
 use Rattle.image.specs.Answers.{checked}
 use Rattle.image.proofs.OutcomeLaws.{outcome-fault, outcome-sound, after-fault}
-use Rattle.routes.proofs.CostLaws.{bound-row-sound}
-use Rattle.routes.proofs.DecodeLaws.{few-nodes}
-use Rattle.routes.proofs.ShortestLaws.{path-none, path-some, path-cost, rest-is, values-are, written-is}
-use Rattle.routes.proofs.RowLaws.{never}
+use Rattle.calls.proofs.CostLaws.{bound-row-sound}
+use Rattle.calls.proofs.DecodeLaws.{few-nodes}
+use Rattle.calls.proofs.ShortestLaws.{path-none, path-some, path-cost, rest-is, values-are, written-is}
+use Rattle.calls.proofs.RowLaws.{never}
 use borrow.Author.Needs.{needs}
 use Rattle.routes.proofs.finding.write_first.Statement.{statement}
 use Rattle.routes.proofs.finding.write_first.Tie as tie

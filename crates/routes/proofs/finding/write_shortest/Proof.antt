@@ -2,7 +2,7 @@
 use Prim.Native.Nat.{_≤_}
 use native.Mathlib.Omega.{arith}
 use mathlib.Core.Path.{sym, _∙_}
-use Rattle.routes.proofs.DecodeLaws.{few-nodes}
+use Rattle.calls.proofs.DecodeLaws.{few-nodes}
 use Rattle.terms.proofs.RoomLaws.{part-long}
 use borrow.Author.Needs.{needs}
 use Rattle.routes.proofs.finding.write_shortest.Statement.{statement}

@@ -8,10 +8,10 @@ use Rattle.image.specs.Outcome.{outcome}
 use Rattle.image.specs.Rows.{is-node}
 use Rattle.image.specs.Answers.{checked}
 use Rattle.image.proofs.OutcomeLaws.{outcome-fault}
-use Rattle.routes.specs.Calls.{label-fault}
-use Rattle.routes.specs.Decoded.{Accepted}
-use Rattle.routes.proofs.CostLaws.{bound-row-sound}
-use Rattle.routes.proofs.RowLaws.{refused-first, given-network, sizes-of, node-bounds, no-goal, no-column, no-room, label-passes}
+use Rattle.calls.specs.Calls.{label-fault}
+use Rattle.calls.specs.Decoded.{Accepted}
+use Rattle.calls.proofs.CostLaws.{bound-row-sound}
+use Rattle.calls.proofs.RowLaws.{refused-first, given-network, sizes-of, node-bounds, no-goal, no-column, no-room, label-passes}
 use Rattle.routes.proofs.labelling.check_label.Statement.{statement}
 use Rattle.routes.proofs.labelling.check_label.Tie as tie
 

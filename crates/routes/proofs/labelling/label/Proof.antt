@@ -9,10 +9,10 @@ use Rattle.image.specs.Outcome.{sound}
 use Rattle.image.specs.Calls.{sizes}
 use Rattle.image.specs.Answers.{checked, refused}
 use Rattle.image.proofs.OutcomeLaws.{refuses-fault, outcome-fault, outcome-sound, after-fault, after-sound}
-use Rattle.routes.specs.Calls.{label-fault, label-outcome, labels-of}
-use Rattle.routes.specs.Decoded.{Accepted}
-use Rattle.routes.proofs.LabelLaws.{length-labels}
-use Rattle.routes.proofs.RowLaws.{given-sizes, LabelSound, label-sound}
+use Rattle.calls.specs.Calls.{label-fault, label-outcome, labels-of}
+use Rattle.calls.specs.Decoded.{Accepted}
+use Rattle.calls.proofs.LabelLaws.{length-labels}
+use Rattle.calls.proofs.RowLaws.{given-sizes, LabelSound, label-sound}
 use Rattle.routes.proofs.labelling.label.Statement.{statement}
 use Rattle.routes.proofs.labelling.label.Tie as tie
 

@@ -1,7 +1,7 @@
 -- `labelling::narrow`: a label that is not the mark is small. Assumes nothing.
 use native.Mathlib.Omega.{arith}
 use mathlib.Core.Path.{sym}
-use Rattle.routes.proofs.LabelLaws.{narrowed-far, narrowed-near, narrow-fits}
+use Rattle.calls.proofs.LabelLaws.{narrowed-far, narrowed-near, narrow-fits}
 use Rattle.routes.proofs.labelling.narrow.Statement.{statement}
 use Rattle.routes.proofs.labelling.narrow.Tie as tie
 

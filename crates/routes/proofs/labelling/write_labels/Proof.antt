@@ -5,8 +5,8 @@ use mathlib.Core.Path.{sym, _∙_, ap}
 use mathlib.Core.List.{_++_}
 use lib.ListN.{drop}
 use borrow.Author.Needs.{needs}
-use Rattle.routes.specs.Calls.{labels-of}
-use Rattle.routes.proofs.DecodeLaws.{few-nodes}
+use Rattle.calls.specs.Calls.{labels-of}
+use Rattle.calls.proofs.DecodeLaws.{few-nodes}
 use Rattle.terms.proofs.RoomLaws.{part-long}
 use Rattle.routes.proofs.labelling.write_labels.Statement.{statement}
 use Rattle.routes.proofs.labelling.write_labels.Tie as tie

@@ -8,8 +8,8 @@ use lib.ListN.{length, drop}
 use borrow.Author.Needs.{needs}
 use Rattle.image.specs.Layout.{netOf}
 use Rattle.image.proofs.NetworkLaws.{accepted-network}
-use Rattle.routes.specs.Calls.{labels-of}
-use Rattle.routes.proofs.LabelLaws.{narrow-at, labels-are}
+use Rattle.calls.specs.Calls.{labels-of}
+use Rattle.calls.proofs.LabelLaws.{narrow-at, labels-are}
 use Rattle.routes.proofs.labelling.write_labels_in.Statement.{statement}
 use Rattle.routes.proofs.labelling.write_labels_in.Tie as tie
 

@@ -6,8 +6,8 @@ use mathlib.Core.List.{_++_, map}
 use lib.ListN.{length, getD, take, drop, length-set}
 use lib.Seq.{take-all}
 use Rattle.image.proofs.SliceLaws.{copy-more}
-use Rattle.routes.specs.Labels.{narrowed}
-use Rattle.routes.proofs.LabelLaws.{narrowed-at, length-narrowed}
+use Rattle.calls.specs.Labels.{narrowed}
+use Rattle.calls.proofs.LabelLaws.{narrowed-at, length-narrowed}
 use Rattle.routes.proofs.labelling.write_narrow.Statement.{statement}
 use Rattle.routes.proofs.labelling.write_narrow.Tie as tie
 

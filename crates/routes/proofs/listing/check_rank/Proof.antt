@@ -6,10 +6,10 @@ use Rattle.image.specs.Outcome.{gives, sound}
 use Rattle.image.specs.Answers.{checked}
 use Rattle.image.specs.Calls.{sizes}
 use Rattle.image.proofs.OutcomeLaws.{then-fault, outcome-fault, outcome-sound, refuses-fault}
-use Rattle.routes.specs.Calls.{ranking-rows, rank-rows}
-use Rattle.routes.specs.Decoded.{Accepted}
-use Rattle.routes.proofs.RowLaws.{given-sizes, sizes-of, node-bounds, ranking-sound}
-use Rattle.routes.proofs.RankLaws.{rows-short, costs-short, slices-long}
+use Rattle.calls.specs.Calls.{ranking-rows, rank-rows}
+use Rattle.calls.specs.Decoded.{Accepted}
+use Rattle.calls.proofs.RowLaws.{given-sizes, sizes-of, node-bounds, ranking-sound}
+use Rattle.calls.proofs.RankLaws.{rows-short, costs-short, slices-long}
 use borrow.Author.Needs.{needs}
 use Rattle.routes.proofs.listing.check_rank.Statement.{statement}
 use Rattle.routes.proofs.listing.check_rank.Tie as tie

@@ -6,10 +6,10 @@ use Rattle.image.specs.Answers.{checked, refused}
 use Rattle.image.specs.Outcome.{sound, outcome, after}
 use Rattle.image.specs.Calls.{sizes}
 use Rattle.image.proofs.OutcomeLaws.{then-fault, then-next, outcome-fault, after-fault, refuses-fault}
-use Rattle.routes.specs.Calls.{path-rows, rank-rows, rank-fault, rank-of, rank-rows-of, rank-costs-of, rank-outcome, cleared}
-use Rattle.routes.specs.Decoded.{Accepted}
-use Rattle.routes.proofs.RowLaws.{given-sizes}
-use Rattle.routes.proofs.RankLaws.{rank-sound, rank-slices, cleared-not}
+use Rattle.calls.specs.Calls.{path-rows, rank-rows, rank-fault, rank-of, rank-rows-of, rank-costs-of, rank-outcome, cleared}
+use Rattle.calls.specs.Decoded.{Accepted}
+use Rattle.calls.proofs.RowLaws.{given-sizes}
+use Rattle.calls.proofs.RankLaws.{rank-sound, rank-slices, cleared-not}
 use borrow.Author.Needs.{needs}
 use Rattle.routes.proofs.listing.rank.Statement.{statement}
 use Rattle.routes.proofs.listing.rank.Tie as tie

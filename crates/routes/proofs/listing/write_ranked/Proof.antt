@@ -6,11 +6,11 @@ use mathlib.Core.List.{List, [], _∷_}
 use Rattle.image.specs.Outcome.{gives, after}
 use Rattle.image.specs.Answers.{checked}
 use Rattle.image.proofs.OutcomeLaws.{outcome-fault, outcome-sound, after-fault}
-use Rattle.routes.specs.Calls.{rank-rows-of, rank-costs-of, cleared}
-use Rattle.routes.proofs.CostLaws.{bound-row-sound}
-use Rattle.routes.proofs.DecodeLaws.{few-nodes}
-use Rattle.routes.proofs.RankLaws.{none-listed, some-listed, few-listed, no-rows, no-costs, work-unused, work-emptied, cleared-is, cleared-not}
-use Rattle.routes.proofs.RowLaws.{never}
+use Rattle.calls.specs.Calls.{rank-rows-of, rank-costs-of, cleared}
+use Rattle.calls.proofs.CostLaws.{bound-row-sound}
+use Rattle.calls.proofs.DecodeLaws.{few-nodes}
+use Rattle.calls.proofs.RankLaws.{none-listed, some-listed, few-listed, no-rows, no-costs, work-unused, work-emptied, cleared-is, cleared-not}
+use Rattle.calls.proofs.RowLaws.{never}
 use borrow.Author.Needs.{needs}
 use Rattle.routes.proofs.listing.write_ranked.Statement.{statement}
 use Rattle.routes.proofs.listing.write_ranked.Tie as tie

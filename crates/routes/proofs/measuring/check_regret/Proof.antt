@@ -7,11 +7,11 @@ use Rattle.image.specs.Layout.{netOf}
 use Rattle.image.specs.Calls.{image-fault, sizes}
 use Rattle.image.specs.Answers.{checked}
 use Rattle.image.proofs.OutcomeLaws.{then-sound, refuses-fault, outcome-fault}
-use Rattle.routes.specs.Calls.{ends-row}
-use Rattle.routes.specs.Decoded.{Accepted}
-use Rattle.routes.specs.Lists.{list-fault}
-use Rattle.routes.proofs.CostLaws.{bound-row-sound}
-use Rattle.routes.proofs.RowLaws.{given-sizes, sizes-of, node-bounds, column-bounds, in-column, ends-sound, first-rows, no-path-at, regret-passes}
+use Rattle.calls.specs.Calls.{ends-row}
+use Rattle.calls.specs.Decoded.{Accepted}
+use Rattle.calls.specs.Lists.{list-fault}
+use Rattle.calls.proofs.CostLaws.{bound-row-sound}
+use Rattle.calls.proofs.RowLaws.{given-sizes, sizes-of, node-bounds, column-bounds, in-column, ends-sound, first-rows, no-path-at, regret-passes}
 use Rattle.routes.proofs.measuring.check_regret.Statement.{statement}
 use Rattle.routes.proofs.measuring.check_regret.Tie as tie
 

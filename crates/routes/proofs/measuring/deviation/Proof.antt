@@ -2,7 +2,7 @@
 use Prim.Native.Nat.{ℕ, _-_}
 use native.Mathlib.Omega.{arith}
 use mathlib.Core.Path.{_∙_, ap₂}
-use Rattle.routes.proofs.RegretLaws.{few-steps, cost-to, best-to, deviation-is}
+use Rattle.calls.proofs.RegretLaws.{few-steps, cost-to, best-to, deviation-is}
 use Rattle.routes.proofs.measuring.deviation.Statement.{statement}
 use Rattle.routes.proofs.measuring.deviation.Tie as tie
 

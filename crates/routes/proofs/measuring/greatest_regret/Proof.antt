@@ -6,8 +6,8 @@ use mathlib.Core.Logic.{⊎-elim}
 use Rattle.terms.specs.Regret.{deviation}
 use Rattle.image.specs.Layout.{netOf}
 use Rattle.terms.proofs.LargestLaws.{SoFar, none-so-far, raised, kept}
-use Rattle.routes.proofs.RegretLaws.{greatest-deviation}
-use Rattle.routes.proofs.RowLaws.{column-bounds, in-column}
+use Rattle.calls.proofs.RegretLaws.{greatest-deviation}
+use Rattle.calls.proofs.RowLaws.{column-bounds, in-column}
 use Rattle.routes.proofs.measuring.greatest_regret.Statement.{statement}
 use Rattle.routes.proofs.measuring.greatest_regret.Tie as tie
 

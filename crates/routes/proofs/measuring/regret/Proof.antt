@@ -7,9 +7,9 @@ use Rattle.image.specs.Outcome.{sound, gives}
 use Rattle.image.specs.Calls.{sizes}
 use Rattle.image.specs.Answers.{checked, refused}
 use Rattle.image.proofs.OutcomeLaws.{refuses-fault, outcome-fault, outcome-sound}
-use Rattle.routes.specs.Calls.{regret-fault, regret-outcome}
-use Rattle.routes.specs.Decoded.{Accepted}
-use Rattle.routes.proofs.RowLaws.{given-sizes, RegretSound, regret-sound}
+use Rattle.calls.specs.Calls.{regret-fault, regret-outcome}
+use Rattle.calls.specs.Decoded.{Accepted}
+use Rattle.calls.proofs.RowLaws.{given-sizes, RegretSound, regret-sound}
 use Rattle.routes.proofs.measuring.regret.Statement.{statement}
 use Rattle.routes.proofs.measuring.regret.Tie as tie
 

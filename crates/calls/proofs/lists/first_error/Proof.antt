@@ -1,0 +1,133 @@
+-- `lists::first_error` stops at the first error. The outer loop: each node before position at goes on; the inner one: none of the first i nodes is the node at it. Assumes nothing.
+use Prim.Native.Nat.{ℕ, _-_, _≤_, _<_}
+use native.Mathlib.Omega.{arith}
+use mathlib.Core.Path.{_≡_}
+use lib.ListN.{length, getD}
+use borrow.Author.Count.{below-none, below-more}
+use borrow.Author.Needs.{needs}
+use Rattle.calls.specs.Lists.{GoesOn}
+use Rattle.calls.proofs.ArcLaws.{at-found, none-found}
+use Rattle.calls.proofs.lists.first_error.Statement.{statement}
+use Rattle.calls.proofs.lists.first_error.Tie as tie
+
+abbrev Inv-loop : tie.InvT-loop
+Inv-loop tails heads nodes at i₀ i = (i ≤ at) × ((j : ℕ) → j < i → getD nodes j 0 ≡ getD nodes at 0 → ⊥)
+
+abbrev μ-loop : tie.MeasureT-loop
+μ-loop tails heads nodes at i₀ i = at - i
+
+abbrev Inv-search : tie.InvT-search
+Inv-search tails heads nodes at₀ at = (1 ≤ at) × (at ≤ length nodes) × ((i : ℕ) → i < at → 1 ≤ i → GoesOn tails heads nodes i)
+
+abbrev μ-search : tie.MeasureT-search
+μ-search tails heads nodes at₀ at = length nodes - at
+
+search-holds : tie.Need-search-holds Inv-loop μ-loop Inv-search μ-search
+search-holds c = (omega arith, omega arith, λ i h k. absurd (omega arith))
+
+sub-find-arc : tie.Need-sub-find-arc Inv-loop μ-loop Inv-search μ-search
+sub-find-arc c = omega arith
+
+mul-find-arc : tie.Need-mul-find-arc Inv-loop μ-loop Inv-search μ-search
+mul-find-arc c = omega arith
+
+shared-slice-read-find-arc : tie.Need-shared-slice-read-find-arc Inv-loop μ-loop Inv-search μ-search
+shared-slice-read-find-arc c = omega arith
+
+mul-find-arc-2 : tie.Need-mul-find-arc-2 Inv-loop μ-loop Inv-search μ-search
+mul-find-arc-2 c = omega arith
+
+shared-slice-read-find-arc-2 : tie.Need-shared-slice-read-find-arc-2 Inv-loop μ-loop Inv-search μ-search
+shared-slice-read-find-arc-2 c = omega arith
+
+find-arc-requires : tie.Need-find-arc-requires Inv-loop μ-loop Inv-search μ-search
+find-arc-requires c κs = omega arith
+
+enum-told : tie.Need-enum-told Inv-loop μ-loop Inv-search μ-search
+enum-told c = search needs
+
+enum-told-2 : tie.Need-enum-told-2 Inv-loop μ-loop Inv-search μ-search
+enum-told-2 c = search needs
+
+loop-holds : tie.Need-loop-holds Inv-loop μ-loop Inv-search μ-search
+loop-holds c = (omega arith, below-none _)
+
+mul-if1 : tie.Need-mul-if1 Inv-loop μ-loop Inv-search μ-search
+mul-if1 c = omega arith
+
+shared-slice-read-if1 : tie.Need-shared-slice-read-if1 Inv-loop μ-loop Inv-search μ-search
+shared-slice-read-if1 c = omega arith
+
+mul-if1-2 : tie.Need-mul-if1-2 Inv-loop μ-loop Inv-search μ-search
+mul-if1-2 c = omega arith
+
+shared-slice-read-if1-2 : tie.Need-shared-slice-read-if1-2 Inv-loop μ-loop Inv-search μ-search
+shared-slice-read-if1-2 c = omega arith
+
+add-i : tie.Need-add-i Inv-loop μ-loop Inv-search μ-search
+add-i c = omega arith
+
+loop-less : tie.Need-loop-less Inv-loop μ-loop Inv-search μ-search
+loop-less c = omega arith
+
+loop-again : tie.Need-loop-again Inv-loop μ-loop Inv-search μ-search
+loop-again c = let l = c .before .before .before .before in
+    (omega arith, below-more _ (l .loop .i) (l .loop .inv .1) (c .if1 .left))
+
+add-at : tie.Need-add-at Inv-loop μ-loop Inv-search μ-search
+add-at c = omega arith
+
+search-less : tie.Need-search-less Inv-loop μ-loop Inv-search μ-search
+search-less c = omega arith
+
+search-again : tie.Need-search-again Inv-loop μ-loop Inv-search μ-search
+search-again c = let l = c .before in
+    let f = l .before .before .before in
+    let s = f .before .before .before .before in
+    (omega arith, omega arith, below-more _ (s .search .at) (s .search .inv .2) (λ _. record { arc = (_, at-found (f .find-arc .ensures) (l .before .enum-told .given .1)); new = λ j h. l .loop .inv .1 j (omega arith) }))
+
+returns : tie.Need-returns Inv-loop μ-loop Inv-search μ-search
+returns c = let i = c .before .search .inv in
+    record { after-first = i .0; upto = i .1; right-before = i .2; wrong-here = λ h _. absurd (omega arith) }
+
+returns-2 : tie.Need-returns-2 Inv-loop μ-loop Inv-search μ-search
+returns-2 c = let f = c .before .before in
+    let i = f .before .before .before .before .search .inv in
+    record { after-first = i .0; upto = i .1; right-before = i .2; wrong-here = λ _ o. none-found (f .find-arc .ensures) (c .enum-told2 .given .1) (o .arc .0) (o .arc .1) }
+
+returns-3 : tie.Need-returns-3 Inv-loop μ-loop Inv-search μ-search
+returns-3 c = let l = c .before .before .before in
+    let i = l .before .before .before .before .before .before .before .before .search .inv in
+    record { after-first = i .0; upto = i .1; right-before = i .2; wrong-here = λ _ o. o .new _ (l .loop-test .taken) (c .if1 .taken) }
+
+pub first-error-spec : {M : Type 1} → statement M
+first-error-spec =
+    tie.close
+    (tie.spec
+    Inv-loop
+    μ-loop
+    Inv-search
+    μ-search
+    search-holds
+    sub-find-arc
+    mul-find-arc
+    shared-slice-read-find-arc
+    mul-find-arc-2
+    shared-slice-read-find-arc-2
+    find-arc-requires
+    enum-told
+    enum-told-2
+    loop-holds
+    mul-if1
+    shared-slice-read-if1
+    mul-if1-2
+    shared-slice-read-if1-2
+    add-i
+    loop-less
+    loop-again
+    add-at
+    search-less
+    search-again
+    returns
+    returns-2
+    returns-3)

@@ -1,0 +1,5 @@
+pub mod Calls
+pub mod Decoded
+pub mod Labels
+pub mod Lists
+pub mod Demands

@@ -1,0 +1,25 @@
+// One column of an accepted image as a graph in three arrays: arc i goes from tails[i] to heads[i]
+// and costs weights[i].
+use image::read_arcs;
+use image::read_column;
+ghost use mathlib.Core.Path.{_≡_};
+ghost use lib.ListN.{length};
+ghost use Rattle.image.specs.Layout.{netOf};
+ghost use Rattle.calls.specs.Decoded.{InColumn, Decoded};
+
+// Reads the image's m arcs, and their costs in column u.
+pub fn decode(
+    image: &[u8],
+    m: u32,
+    u: u32,
+    tails: &mut [u16],
+    heads: &mut [u16],
+    weights: &mut [u32],
+)
+    requires { ⌜ InColumn (now image) m u ⌝ }
+    requires { ⌜ (length (now tails) ≡ m) × (length (now heads) ≡ m) × (length (now weights) ≡ m) ⌝ }
+    ensures { λ _. ⌜ Decoded (netOf (now (image .entry))) u (now (tails .exit)) (now (heads .exit)) (now (weights .exit)) ⌝ }
+{
+    read_arcs(image, m as usize, tails, heads);
+    read_column(image, m, u, weights);
+}

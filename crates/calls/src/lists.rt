@@ -1,0 +1,94 @@
+// Node lists: whether one is a path, and where it fails.
+use super::arcs::Found;
+use super::arcs::find_arc;
+use image::read_arcs;
+ghost use mathlib.Core.Path.{_≡_};
+ghost use Prim.Native.Nat.{_≤_};
+ghost use lib.ListN.{length};
+ghost use Rattle.terms.specs.Network.{column};
+ghost use Rattle.terms.specs.Regret.{fault};
+ghost use Rattle.image.specs.Layout.{netOf};
+ghost use Rattle.calls.specs.Decoded.{Node, InColumn};
+ghost use Rattle.calls.specs.Lists.{FirstError, list-fault};
+
+// What the check of a node list finds: a path, or the place of row 14.
+pub enum NodeList {
+    Path,
+    Fault(u32),
+}
+
+// The first position after the first whose node repeats or has no arc from the node before; the
+// length if there is none.
+fn first_error(tails: &[u16], heads: &[u16], nodes: &[u16]) -> usize
+    requires { ⌜ (length (now heads) ≡ length (now tails)) × (1 ≤ length (now nodes)) ⌝ }
+    ensures { λ r. ⌜ FirstError (now (tails .entry)) (now (heads .entry)) (now (nodes .entry)) r ⌝ }
+{
+    let mut at = 1;
+    'search: while at < nodes.len() {
+        let found = find_arc(tails, heads, nodes[at - 1], nodes[at]);
+        let Found::At(_) = found else {
+            break 'search;
+        };
+        let mut i = 0;
+        while i < at {
+            if nodes[i] == nodes[at] {
+                break 'search;
+            }
+            i += 1;
+        }
+        at += 1;
+    }
+    at
+}
+
+// Whether a node list is a path from start to goal, with room for the arcs.
+fn check_list_in(
+    image: &[u8],
+    m: u32,
+    start: u32,
+    goal: u32,
+    nodes: &[u16],
+    tails: &mut [u16],
+    heads: &mut [u16],
+) -> NodeList
+    requires { ⌜ InColumn (now image) m 1 ⌝ }
+    requires { ⌜ Node (netOf (now image) .nodes) start ⌝ }
+    requires { ⌜ (length (now tails) ≡ m) × (length (now heads) ≡ m) ⌝ }
+    ensures { λ r. ⌜ list-fault r ≡ fault (column (netOf (now (image .entry))) 1) start goal (now (nodes .entry)) ⌝ }
+{
+    if nodes.len() == 0 {
+        return NodeList::Fault(0);
+    }
+    if nodes[0] as u32 != start {
+        return NodeList::Fault(0);
+    }
+    read_arcs(image, m as usize, tails, heads);
+    let at = first_error(tails, heads, nodes);
+    if at < nodes.len() {
+        return NodeList::Fault(at as u32);
+    }
+    if nodes[at - 1] as u32 != goal {
+        return NodeList::Fault(at as u32);
+    }
+    NodeList::Path
+}
+
+// Whether a node list is a path from start to goal: row 14. Every column has the same arcs.
+pub fn check_list(image: &[u8], m: u32, start: u32, goal: u32, nodes: &[u16]) -> NodeList
+    requires { ⌜ InColumn (now image) m 1 ⌝ }
+    requires { ⌜ Node (netOf (now image) .nodes) start ⌝ }
+    ensures { λ r. ⌜ list-fault r ≡ fault (column (netOf (now (image .entry))) 1) start goal (now (nodes .entry)) ⌝ }
+{
+    let mut tails = [0u16; 1000];
+    let mut heads = [0u16; 1000];
+    let arcs = m as usize;
+    check_list_in(
+        image,
+        m,
+        start,
+        goal,
+        nodes,
+        &mut tails[..arcs],
+        &mut heads[..arcs],
+    )
+}

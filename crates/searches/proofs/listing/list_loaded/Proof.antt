@@ -1,0 +1,56 @@
+-- `routes::listing::list_loaded` meets its contract. Assumes nothing.
+use Prim.Native.Nat.{ℕ}
+use native.Mathlib.Omega.{arith}
+use mathlib.Core.Path.{_∙_, ap}
+use lib.ListN.{replicate}
+use Rattle.candidates.proofs.EntryLaws.{kept-readable}
+use Rattle.ranking.proofs.ResultLaws.{ranked-count}
+use Rattle.calls.proofs.RankLaws.{entry-costs, entry-room, entry-rows, entry-costs-out}
+use borrow.Author.Needs.{needs}
+use Rattle.searches.proofs.listing.list_loaded.Statement.{statement}
+use Rattle.searches.proofs.listing.list_loaded.Tie as tie
+
+abbrev start : tie.After-rank-paths → tie.Start
+start c = c .before .before .before .before .before .before .before .before .before .before .before .before
+
+rank-paths-requires : tie.Need-rank-paths-requires
+rank-paths-requires c κs = let p = c .before .before .before .before .before .before .before .before .before .before .before .pre in
+    let S = p .1 .0 in
+    (p .0, record { some = S .wanted-from; few = omega (arith, S .wanted-to); room = S .slots-long })
+
+write-rows-requires : tie.Need-write-rows-requires
+write-rows-requires c κs = let r = c .before .before .before .before .before in
+    let R = r .rank-paths .ensures in
+    let p = start r .pre in
+    ((kept-readable (R .kept), R .entered .family), (entry-room R (p .1 .0), entry-costs R (p .1 .1)))
+
+clear-requires : tie.Need-clear-requires
+clear-requires c κs = search needs
+
+same-length : tie.Need-same-length
+same-length c = search needs
+
+same-length-2 : tie.Need-same-length-2
+same-length-2 c = search needs
+
+same-length-3 : tie.Need-same-length-3
+same-length-3 c = search needs
+
+returns : tie.Need-returns
+returns c = let r = c .before .before .before .before .before .before .before .before .before .before .before .before .before .before in
+    let R = r .rank-paths .ensures in
+    let p = start r .pre in
+    let w = c .before .before .before .before .before .before .before .before .write-rows in
+    (ranked-count R, (entry-rows R _ (entry-room R (p .1 .0) .0) (w .kept .1 .1 .1 .1 .0) (w .ensures .0), (entry-costs-out R _ (w .ensures .1), c .before .before .clear .ensures ∙ ap (λ (k : ℕ). replicate k 0) (r .rank-paths .kept .1 .1 .1 .1 .1 .1 .1 .1 .1 .0))))
+
+pub list-loaded-spec : {M : Type 1} → statement M
+list-loaded-spec =
+    tie.close
+    (tie.spec
+    rank-paths-requires
+    write-rows-requires
+    clear-requires
+    same-length
+    same-length-2
+    same-length-3
+    returns)
