@@ -15,9 +15,9 @@ use Rattle.terms.proofs.PathLaws.{column-within, path-listed, listed-path}
 use Rattle.image.specs.Outcome.{sound, fault, row, _then_, after}
 use Rattle.image.specs.Layout.{netOf}
 use Rattle.image.proofs.OutcomeLaws.{then-fault, then-next, then-sound, after-sound}
-use Rattle.ranking.specs.Branches.{everything, First, In}
-use Rattle.ranking.proofs.AllLaws.{first-ranked, cost-start}
-use Rattle.ranking.proofs.BranchLaws.{in-everything}
+use Rattle.branching.specs.Branches.{everything, First, In}
+use Rattle.branching.proofs.AllLaws.{first-ranked, cost-start}
+use Rattle.branching.proofs.BranchLaws.{in-everything}
 use Rattle.image.proofs.NetworkLaws.{accepted-network}
 use Rattle.calls.specs.Calls.{no-path-row, shortest-rows, path-rows, shortest-of, shortest-values}
 use Rattle.calls.specs.Decoded.{InColumn, Ends}

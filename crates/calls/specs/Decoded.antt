@@ -11,7 +11,7 @@ use Rattle.image.specs.Calls.{image-fault}
 use Rattle.labels.specs.Arcs.{graph, Arcs}
 use Rattle.labels.specs.Chains.{Chains}
 use Rattle.labels.specs.Labels.{Least}
-use Rattle.ranking.specs.Star.{Network}
+use Rattle.branching.specs.Star.{Network}
 use Rattle.regret.specs.Columns.{network, column-costs}
 use Rattle.robust.specs.Counting.{Priced}
 

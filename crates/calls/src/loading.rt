@@ -3,7 +3,7 @@
 use super::decoding::decode;
 use labels::chain;
 use labels::least;
-use ranking::star;
+use branching::star;
 ghost use mathlib.Core.Path.{_≡_};
 ghost use Prim.Native.Nat.{ℕ, _+_};
 ghost use lib.ListN.{length, getD};

@@ -9,26 +9,18 @@ use lib.ListN.{length, take, getD}
 use lib.Seq.{append-snoc, take-take, getD-take}
 use Rattle.terms.specs.Network.{Graph, linked, weight}
 use Rattle.terms.specs.Paths.{Route, ByArcs, single, along, cost, cost-from}
+use Rattle.terms.proofs.PathLaws.{arcs-linked}
 use Rattle.terms.proofs.PrefixLaws.{cost-append}
 use Rattle.candidates.specs.Slots.{Entry, none, entries}
 use Rattle.candidates.specs.Routes.{routes, size}
 use Rattle.candidates.proofs.FamilyLaws.{route-length}
-use Rattle.ranking.specs.Laid.{Laid}
+use Rattle.branching.specs.Laid.{Laid}
 use Rattle.ranking.specs.Ranking.{Filled, Restored, Changed, Settled, Along, Emptied}
 use Rattle.ranking.specs.State.{branch-of, Entered, Searching, taking-over, waiting-to}
 use Rattle.ranking.proofs.DeviateLaws.{changed-filled, same-entry}
 use Rattle.ranking.proofs.EnterLaws.{unchanged}
-use Rattle.ranking.proofs.LaidLaws.{take-last, laid-kept}
+use Rattle.branching.proofs.LaidLaws.{take-last, laid-kept}
 use Rattle.ranking.proofs.StateLaws.{route-same, waiting-next, waiting-none, waiting-same}
-
--- ---- arcs of a path
-pub arcs-linked : {g : Graph} (i : ℕ) {p : Route} → ByArcs g p → i + 1 < length p → linked g (getD p i 0) (getD p (i + 1) 0) ≡ true
-arcs-linked zero single h = absurd (omega arith)
-arcs-linked zero (along l a) h = l
-arcs-linked (suc i) single h = absurd (omega arith)
-arcs-linked {g} (suc i) (along {v} {h = y} {p} l a) h =
-    let z : suc i + 1 ≡ suc (i + 1) = omega arith in
-    ap (λ k. linked g (getD (y ∷ p) i 0) (getD (v ∷ y ∷ p) k 0)) z ∙ arcs-linked i a (omega arith)
 
 -- one node more costs the arc to it
 cost-last : (g : Graph) (p : Route) (d : ℕ) → 1 ≤ d → d < length p → cost g (take (d + 1) p) ≡ cost g (take d p) + weight g (getD p (d - 1) 0) (getD p d 0)

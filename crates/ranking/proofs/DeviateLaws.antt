@@ -22,30 +22,13 @@ use Rattle.candidates.proofs.RouteLaws.{beginning-parent}
 use Rattle.candidates.proofs.FamilyLaws.{route-length}
 use Rattle.candidates.proofs.RootedLaws.{family-rooted}
 use Rattle.candidates.proofs.BarLaws.{bars-take, bars-nodes, barred-child, length-marked, marked-outside, marked-inside}
-use Rattle.ranking.specs.Flags.{Flagged, Fresh}
-use Rattle.ranking.specs.Laid.{Laid}
+use Rattle.branching.specs.Flags.{Flagged, Fresh}
+use Rattle.branching.specs.Laid.{Laid}
 use Rattle.ranking.specs.Ranking.{Filled, Deviation, Changed, Along, Markable}
-use Rattle.ranking.specs.Star.{Star}
+use Rattle.branching.specs.Star.{Star}
 use Rattle.ranking.specs.State.{taking-over}
-use Rattle.ranking.proofs.BranchLaws.{loopless-take, beginning-path}
-use Rattle.ranking.proofs.LaidLaws.{take-last, loopless-last, laid-none, laid-more}
-
--- ---- an arc and its weight
-module _ {n : ℕ} {ts hs ws first : List ℕ} (arcs : Arcs n ts hs ws) (star : Star n ts hs first) (v y : ℕ) (l : linked (graph ts hs ws) v y ≡ true) where
-  node : v ≤ n
-  node = tail-within arcs v y l .1
-
-  pub arc-at : (i : ℕ) → getD first v 0 ≤ i → i < getD first (v + 1) 0 → getD hs i 0 ≡ y → At ts hs v y i
-  arc-at i lo hi e = record { below = omega (arith, star .within (v + 1) (omega (arith, node))); tail-is = star .out-of v i node lo hi; head-is = e }
-
-  pub arc-found : (i : ℕ) → getD first v 0 ≤ i → i < getD first (v + 1) 0 → getD hs i 0 ≡ y → getD ws i 0 ≡ weight (graph ts hs ws) v y
-  arc-found i lo hi e = sym (at-weight arcs (arc-at i lo hi e))
-
-  pub arc-there : ((i : ℕ) → getD first v 0 ≤ i → i < getD first (v + 1) 0 → getD hs i 0 ≡ y → ⊥) → ⊥
-  arc-there none =
-      let a = linked-at arcs v y l in
-      let b = star .out v (a .0) node (a .1 .below) (a .1 .tail-is) in
-      none (a .0) (b .0) (b .1) (a .1 .head-is)
+use Rattle.branching.proofs.BranchLaws.{loopless-take, beginning-path}
+use Rattle.branching.proofs.LaidLaws.{take-last, loopless-last, laid-none, laid-more}
 
 -- ---- flags
 pub mark-start : {k len : ℕ} {used path : List ℕ} → Markable k used path len → Laid k used path 0

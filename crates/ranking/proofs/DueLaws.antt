@@ -15,13 +15,13 @@ use Rattle.candidates.specs.Routes.{routes, size, route-at, Rooted}
 use Rattle.candidates.proofs.EntryLaws.{kept-readable, readable-less, length-entries, entries-at}
 use Rattle.candidates.proofs.FamilyLaws.{route-length}
 use Rattle.candidates.proofs.RootedLaws.{family-rooted, route-at-entries}
-use Rattle.ranking.specs.Flags.{Flagged}
-use Rattle.ranking.specs.Found.{Idle}
-use Rattle.ranking.specs.Laid.{Laid}
+use Rattle.branching.specs.Flags.{Flagged}
+use Rattle.branching.specs.Found.{Idle}
+use Rattle.branching.specs.Laid.{Laid}
 use Rattle.ranking.specs.Ranking.{Problem, Filled, Along, Markable, Due}
 use Rattle.ranking.specs.State.{Searching, waiting-to}
 use Rattle.ranking.proofs.EnterLaws.{problem-within, path-nodes, path-small}
-use Rattle.ranking.proofs.FlagLaws.{flags-same}
+use Rattle.branching.proofs.FlagLaws.{flags-same}
 use Rattle.ranking.proofs.StateLaws.{entry-cost, entered-rank, next-is-path, search-rank, waiting-all}
 
 -- no flag is set

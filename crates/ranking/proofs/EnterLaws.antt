@@ -20,20 +20,20 @@ use Rattle.candidates.specs.Keeping.{inserted, put-in, Inserted}
 use Rattle.candidates.specs.Routes.{beginning, route, routes, Fits}
 use Rattle.candidates.specs.Bars.{barred}
 use Rattle.candidates.specs.Placing.{Placed}
-use Rattle.ranking.specs.Branches.{Branch, branch, In, First}
-use Rattle.ranking.specs.Exits.{Unmarked}
-use Rattle.ranking.specs.Found.{Ahead, Extent, FirstFound}
+use Rattle.branching.specs.Branches.{Branch, branch, In, First}
+use Rattle.branching.specs.Exits.{Unmarked}
+use Rattle.branching.specs.Found.{Ahead, Extent, FirstFound}
 use Rattle.ranking.specs.Pool.{Candidate}
 use Rattle.ranking.specs.Ranking.{Problem, Filled, Deviation, Changed, Settled, TooDear}
-use Rattle.ranking.specs.Star.{longest}
+use Rattle.branching.specs.Star.{longest}
 use Rattle.ranking.specs.State.{branch-of, Beyond, Entered, Searching, taking-over}
-use Rattle.ranking.specs.Walks.{Consistent, Exit, Choice}
-use Rattle.ranking.specs.declared.first.Found.{Found}
-use Rattle.ranking.specs.declared.first.Found.the-variants.{Tail, Empty}
-use Rattle.ranking.proofs.FirstLaws.{branch-empty, branch-floor}
+use Rattle.branching.specs.Walks.{Consistent, Exit, Choice}
+use Rattle.branching.specs.declared.first.Found.{Found}
+use Rattle.branching.specs.declared.first.Found.the-variants.{Tail, Empty}
+use Rattle.branching.proofs.FirstLaws.{branch-empty, branch-floor}
 use Rattle.ranking.proofs.SearchLaws.{none-found, all-lost, too-dear}
 use Rattle.ranking.proofs.StateLaws.{entry-cost, length-done, length-candidates, last-candidate, entered-put, ranked-kept, search-put}
-use Rattle.ranking.proofs.WalkLaws.{consistent-more}
+use Rattle.branching.proofs.WalkLaws.{consistent-more}
 
 -- a new last entry falls out of a full house at once
 put-in-full : {A : Type 0} (M : ℕ) (x : A) (l : List A) → length l ≡ M → put-in M M x l ≡ l

@@ -17,7 +17,7 @@ use Rattle.terms.proofs.ListLaws.{clash, mem-place, getD-mem}
 use Rattle.terms.proofs.RankingLaws.{Rising, none-left, first, before-trans, before-or-no-later}
 use Rattle.candidates.specs.Keeping.{inserted, put-in}
 use Rattle.candidates.proofs.InsertedLaws.{take-inserted}
-use Rattle.ranking.specs.Branches.{Branch, branch}
+use Rattle.branching.specs.Branches.{Branch, branch}
 use Rattle.ranking.specs.Pool.{Candidate, routes, put}
 use Rattle.ranking.proofs.PoolLaws.{take-map, put-at}
 

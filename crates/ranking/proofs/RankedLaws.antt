@@ -19,18 +19,18 @@ use Rattle.candidates.specs.Routes.{routes, routes-onto}
 use Rattle.candidates.proofs.EntryLaws.{length-entries}
 use Rattle.candidates.proofs.RouteLaws.{beginning-start, length-routes}
 use Rattle.candidates.proofs.BarLaws.{barred-start}
-use Rattle.ranking.specs.Branches.{Branch, branch, In, everything}
-use Rattle.ranking.specs.Flags.{Flagged}
-use Rattle.ranking.specs.Found.{Idle, Ends}
+use Rattle.branching.specs.Branches.{Branch, branch, In, everything}
+use Rattle.branching.specs.Flags.{Flagged}
+use Rattle.branching.specs.Found.{Idle, Ends}
 use Rattle.ranking.specs.Ranking.{Problem, Filled, Deviation, Changed, Settled, Due, Space, Blank, Begins, Stage, Ranked}
 use Rattle.ranking.specs.Search.{Search}
 use Rattle.ranking.specs.State.{branch-of, candidate, candidates-from, Beyond, Entered, Searching, parts-of, taking-over}
-use Rattle.ranking.proofs.AllLaws.{start-begun, start-path, start-cleared, cost-start}
+use Rattle.branching.proofs.AllLaws.{start-begun, start-path, start-cleared, cost-start}
 use Rattle.ranking.proofs.DueLaws.{flags-none}
 use Rattle.ranking.proofs.EnterLaws.{problem-within, path-small}
 use Rattle.ranking.proofs.PoolLaws.{lose}
 use Rattle.ranking.proofs.StateLaws.{entry-cost, entered-rank, next-is-path, search-rank, length-done}
-use Rattle.ranking.proofs.BranchLaws as branches
+use Rattle.branching.proofs.BranchLaws as branches
 use Rattle.ranking.proofs.SearchLaws as search
 
 -- with a smaller limit more paths need not be ranked

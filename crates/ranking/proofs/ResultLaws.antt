@@ -20,15 +20,15 @@ use Rattle.candidates.specs.Routes.{routes, route-at, Rooted}
 use Rattle.candidates.proofs.EntryLaws.{kept-readable, length-entries, entries-at}
 use Rattle.candidates.proofs.RootedLaws.{family-rooted, route-at-entries}
 use Rattle.candidates.proofs.RouteLaws.{length-routes}
-use Rattle.ranking.specs.Branches.{Branch}
-use Rattle.ranking.specs.Found.{Ends}
+use Rattle.branching.specs.Branches.{Branch}
+use Rattle.branching.specs.Found.{Ends}
 use Rattle.ranking.specs.Ranking.{Problem, Ranked}
 use Rattle.ranking.specs.Search.{Search}
-use Rattle.ranking.specs.Star.{Network}
+use Rattle.branching.specs.Star.{Network}
 use Rattle.ranking.specs.State.{candidate, candidates-from, Beyond, Entered, Searching}
 use Rattle.ranking.proofs.DueLaws.{flags-none}
 use Rattle.ranking.proofs.EnterLaws.{problem-within}
-use Rattle.ranking.proofs.NetworkLaws.{network-small, network-exact}
+use Rattle.branching.proofs.NetworkLaws.{network-small, network-exact}
 use Rattle.ranking.proofs.SearchLaws.{others-lost, rest-ranked}
 use Rattle.ranking.proofs.StateLaws.{entry-cost, entry-route, length-done, in-front, search-rank}
 

@@ -16,12 +16,12 @@ use Rattle.terms.specs.Ranking.{before, ranked}
 use Rattle.terms.proofs.ListLaws.{take-mem}
 use Rattle.terms.proofs.PathLaws.{Within}
 use Rattle.terms.proofs.RankingLaws.{NoLater, before-cost, by-first-lt, rising-unique, ranked-rising, ranked-path, path-ranked}
-use Rattle.ranking.specs.Branches.{Branch, In, First, everything}
-use Rattle.ranking.specs.Parts.{parts}
+use Rattle.branching.specs.Branches.{Branch, In, First, everything}
+use Rattle.branching.specs.Parts.{parts}
 use Rattle.ranking.specs.Pool.{Candidate, put}
 use Rattle.ranking.specs.Search.{Search}
-use Rattle.ranking.proofs.BranchLaws.{in-everything}
-use Rattle.ranking.proofs.PartLaws.{split-reverse}
+use Rattle.branching.proofs.BranchLaws.{in-everything}
+use Rattle.branching.proofs.PartLaws.{split-reverse}
 use Rattle.ranking.proofs.SplitLaws.{parts-split}
 use Rattle.ranking.proofs.PoolLaws.{rising-take, start, skip, offer, next, rest-lost, no-more, rank}
 

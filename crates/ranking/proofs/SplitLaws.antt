@@ -15,9 +15,9 @@ use Rattle.terms.specs.Paths.{Route, Path}
 use Rattle.terms.proofs.ListLaws.{split, clash, or-false}
 use Rattle.terms.proofs.PathLaws.{of-path}
 use Rattle.terms.proofs.PrefixLaws.{begins, no-beginning}
-use Rattle.ranking.specs.Branches.{clear, Branch, branch, In}
-use Rattle.ranking.specs.Parts.{Apart, alone, beside, Split, splits, parts}
-use Rattle.ranking.proofs.BranchLaws.{nothing-barred, cancel}
+use Rattle.branching.specs.Branches.{clear, Branch, branch, In}
+use Rattle.branching.specs.Parts.{Apart, alone, beside, Split, splits, parts}
+use Rattle.branching.proofs.BranchLaws.{nothing-barred, cancel}
 
 -- ---- one barred node more
 clear-fewer : (y : ℕ) (F : List ℕ) (r : Route) → clear (y ∷ F) r ≡ true → clear F r ≡ true

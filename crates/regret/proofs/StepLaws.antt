@@ -15,8 +15,8 @@ use Rattle.terms.proofs.ListLaws.{getD-mem, map-numbers}
 use Rattle.labels.specs.Arcs.{graph, Arcs}
 use Rattle.labels.proofs.ArcLaws.{At, at-weight, tail-within, later-within}
 use Rattle.labels.proofs.Stores.{set-each}
-use Rattle.ranking.specs.Star.{Star}
-use Rattle.ranking.proofs.BackLaws.{arcs-linked}
+use Rattle.branching.specs.Star.{Star}
+use Rattle.terms.proofs.PathLaws.{arcs-linked}
 use Rattle.regret.specs.Columns.{Columns, network, column-costs, over}
 use Rattle.regret.specs.Steps.{Starred, Steps, sum-of, excess, excesses, Summed}
 use Rattle.regret.proofs.ColumnLaws.{length-columns, held-column}

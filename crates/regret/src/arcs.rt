@@ -8,7 +8,7 @@ ghost use Rattle.terms.specs.Network.{linked};
 ghost use Rattle.terms.specs.Paths.{ByArcs};
 ghost use Rattle.labels.specs.Arcs.{graph, Arcs};
 ghost use Rattle.labels.proofs.ArcLaws.{At};
-ghost use Rattle.ranking.specs.Star.{Star};
+ghost use Rattle.branching.specs.Star.{Star};
 ghost use Rattle.regret.specs.Steps.{Starred, Steps};
 
 // The index of the arc from v to y.

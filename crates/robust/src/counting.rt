@@ -7,7 +7,7 @@ ghost use Rattle.terms.specs.Paths.{Path};
 ghost use Rattle.candidates.specs.Slots.{entry-at};
 ghost use Rattle.candidates.specs.Keeping.{Readable};
 ghost use Rattle.candidates.specs.Routes.{route-at, Rooted};
-ghost use Rattle.ranking.specs.Found.{Ends};
+ghost use Rattle.branching.specs.Found.{Ends};
 ghost use Rattle.regret.specs.Columns.{network};
 ghost use Rattle.robust.specs.Counting.{Priced, Counted, Outlook};
 use candidates::cost_at;

@@ -4,7 +4,7 @@ use calls::check_search;
 use image::Checked;
 use image::Refusal;
 use image::Sizes;
-use ranking::Found;
+use branching::Found;
 use searches::find;
 ghost use mathlib.Core.Path.{_≡_};
 ghost use mathlib.Core.List.{_++_};

@@ -17,7 +17,7 @@ ghost use Rattle.terms.specs.Ranking.{ranked};
 ghost use Rattle.terms.specs.Robust.{robust};
 ghost use Rattle.labels.specs.Arcs.{graph};
 ghost use Rattle.ranking.specs.Ranking.{Problem, Space};
-ghost use Rattle.ranking.specs.Star.{Star};
+ghost use Rattle.branching.specs.Star.{Star};
 ghost use Rattle.regret.specs.Columns.{network};
 ghost use Rattle.robust.specs.Answers.{chosen-length, answered};
 ghost use Rattle.robust.specs.Counting.{Priced};

@@ -1,13 +1,13 @@
 // The first path of the ranking order in one column of an accepted image.
 use calls::load;
-use ranking::Found;
-use ranking::shortest as first_path;
+use branching::Found;
+use branching::shortest as first_path;
 ghost use mathlib.Core.Path.{_≡_};
 ghost use Prim.Native.Nat.{_+_};
 ghost use lib.ListN.{length};
 ghost use Rattle.terms.specs.Network.{column};
-ghost use Rattle.ranking.specs.Branches.{everything};
-ghost use Rattle.ranking.specs.Found.{Extent, FirstFound};
+ghost use Rattle.branching.specs.Branches.{everything};
+ghost use Rattle.branching.specs.Found.{Extent, FirstFound};
 ghost use Rattle.image.specs.Layout.{netOf};
 ghost use Rattle.calls.specs.Decoded.{InColumn, ArcRoom, NodeRoom, Ends};
 

@@ -1,5 +1,5 @@
 -- `paths n g s t` has the loopless paths from s to t and nothing else; row 14's check passes exactly these. Assumes nothing.
-use Prim.Native.Nat.{ℕ, zero, suc, _-_, _≤_, _<_}
+use Prim.Native.Nat.{ℕ, zero, suc, _+_, _-_, _≤_, _<_}
 use native.Mathlib.Omega.{arith}
 use mathlib.Core.Path.{_≡_, refl, sym, _∙_, ap, subst}
 use mathlib.Core.Bool.{Bool, true, false, not, _&&_, _||_, cond}
@@ -252,3 +252,12 @@ no-fault-path g s t (x ∷ p) e =
 pub path-no-fault : {g : Graph} {s t : ℕ} {p : Route} → Path g s t p → fault g s t p ≡ none
 unfolding fault
 path-no-fault {s} r = rw (r .from-start) (rw (eq-eqb s s refl) (fault-after-complete (of-path r) 1))
+
+-- each node of a path has an arc to the next
+pub arcs-linked : {g : Graph} (i : ℕ) {p : Route} → ByArcs g p → i + 1 < length p → linked g (getD p i 0) (getD p (i + 1) 0) ≡ true
+arcs-linked zero single h = absurd (omega arith)
+arcs-linked zero (along l a) h = l
+arcs-linked (suc i) single h = absurd (omega arith)
+arcs-linked {g} (suc i) (along {v} {h = y} {p} l a) h =
+    let z : suc i + 1 ≡ suc (i + 1) = omega arith in
+    ap (λ k. linked g (getD (y ∷ p) i 0) (getD (v ∷ y ∷ p) k 0)) z ∙ arcs-linked i a (omega arith)

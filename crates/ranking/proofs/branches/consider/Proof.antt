@@ -8,13 +8,13 @@ use Rattle.terms.specs.Network.{Graph}
 use Rattle.labels.specs.Arcs.{graph}
 use Rattle.candidates.specs.Slots.{Entry, entries}
 use Rattle.candidates.proofs.EntryLaws.{length-entries}
-use Rattle.ranking.specs.Exits.{Unmarked}
+use Rattle.branching.specs.Exits.{Unmarked}
 use Rattle.ranking.specs.Ranking.{Problem, Filled, Deviation}
-use Rattle.ranking.specs.Walks.{Choice}
+use Rattle.branching.specs.Walks.{Choice}
 use Rattle.ranking.proofs.EnterLaws.{dear-facts, unchanged, choice-small, settled-none, settled-beyond, settled-dear}
-use Rattle.ranking.proofs.ExitLaws.{chosen-node, chosen-nothing}
-use Rattle.ranking.proofs.LaidLaws.{laid-place}
-use Rattle.ranking.proofs.NetworkLaws.{network-heads, network-starts}
+use Rattle.branching.proofs.ExitLaws.{chosen-node, chosen-nothing}
+use Rattle.branching.proofs.LaidLaws.{laid-place}
+use Rattle.branching.proofs.NetworkLaws.{network-heads, network-starts}
 use borrow.Author.Needs.{needs}
 use Rattle.ranking.proofs.branches.consider.Statement.{statement}
 use Rattle.ranking.proofs.branches.consider.Tie as tie

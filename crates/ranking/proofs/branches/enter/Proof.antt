@@ -11,8 +11,8 @@ use Rattle.labels.specs.Arcs.{graph}
 use Rattle.candidates.specs.Slots.{Entry, entries}
 use Rattle.candidates.specs.Bars.{barred}
 use Rattle.candidates.proofs.EntryLaws.{kept-readable, length-entries}
-use Rattle.ranking.specs.Branches.{branch, First}
-use Rattle.ranking.specs.Found.{FirstFound}
+use Rattle.branching.specs.Branches.{branch, First}
+use Rattle.branching.specs.Found.{FirstFound}
 use Rattle.ranking.specs.Ranking.{Problem, Filled, Deviation, Restored}
 use Rattle.ranking.specs.State.{taking-over}
 use Rattle.ranking.proofs.EnterLaws.{extent-tail, found-tail, found-empty, unchanged, path-small, still-consistent, goal-ahead, rest-short, settled-empty, settled-found, entered-found, same-found, settled-out, changed-put, settled-put}

@@ -4,7 +4,7 @@ use native.Mathlib.Omega.{arith}
 use mathlib.Core.Path.{sym}
 use borrow.Author.Needs.{needs}
 use Rattle.terms.proofs.RoomLaws.{part-long, part-zero}
-use Rattle.ranking.proofs.NetworkLaws.{problem-few}
+use Rattle.ranking.proofs.ProblemLaws.{problem-few}
 use Rattle.ranking.proofs.ranking.rank_paths.Statement.{statement}
 use Rattle.ranking.proofs.ranking.rank_paths.Tie as tie
 

@@ -3,8 +3,8 @@ use native.Mathlib.Omega.{arith}
 use Prim.Native.Nat.{ℕ, _+_, _-_, _≤_, _<_}
 use mathlib.Core.Path.{_≡_}
 use lib.ListN.{getD}
-use Rattle.ranking.proofs.DeviateLaws.{arc-found, arc-there}
-use Rattle.ranking.proofs.ExitLaws.{up-to}
+use Rattle.branching.proofs.StarLaws.{arc-found, arc-there}
+use Rattle.branching.proofs.ExitLaws.{up-to}
 use Rattle.ranking.proofs.splitting.arc_weight.Statement.{statement}
 use Rattle.ranking.proofs.splitting.arc_weight.Tie as tie
 

@@ -9,7 +9,7 @@ use Rattle.labels.specs.Arcs.{graph}
 use Rattle.candidates.specs.Slots.{Entry, none, entries}
 use Rattle.ranking.specs.Ranking.{Filled, Along}
 use Rattle.ranking.proofs.BackLaws.{Going, back-some, back-linked, back-le, along-back, going-start, going-filled, going-shared, going-next, going-end}
-use Rattle.ranking.proofs.NetworkLaws.{network-heads, network-starts}
+use Rattle.branching.proofs.NetworkLaws.{network-heads, network-starts}
 use Rattle.ranking.proofs.splitting.deviations.Statement.{statement}
 use Rattle.ranking.proofs.splitting.deviations.Tie as tie
 

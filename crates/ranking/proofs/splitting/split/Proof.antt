@@ -8,8 +8,8 @@ use Rattle.terms.specs.Network.{Graph}
 use Rattle.labels.specs.Arcs.{graph}
 use Rattle.candidates.specs.Slots.{Entry, none, entries}
 use Rattle.candidates.specs.Routes.{size}
-use Rattle.ranking.specs.Found.{Idle}
-use Rattle.ranking.specs.Laid.{Laid}
+use Rattle.branching.specs.Found.{Idle}
+use Rattle.branching.specs.Laid.{Laid}
 use Rattle.ranking.specs.Ranking.{Problem, Filled, Along, Due}
 use Rattle.ranking.proofs.DueLaws.{due-filled, due-readable, due-rooted, due-entry, due-short, due-some, due-waiting, due-markable, due-along, flags-cleared}
 use borrow.Author.Needs.{needs}

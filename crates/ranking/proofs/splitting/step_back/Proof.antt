@@ -3,7 +3,7 @@ use Prim.Native.Nat.{_+_, _-_, _<_}
 use native.Mathlib.Omega.{arith}
 use mathlib.Core.Path.{refl}
 use lib.ListN.{length, getD}
-use Rattle.ranking.proofs.LaidLaws.{laid-place, laid-less}
+use Rattle.branching.proofs.LaidLaws.{laid-place, laid-less}
 use borrow.Author.Needs.{needs}
 use Rattle.ranking.proofs.splitting.step_back.Statement.{statement}
 use Rattle.ranking.proofs.splitting.step_back.Tie as tie

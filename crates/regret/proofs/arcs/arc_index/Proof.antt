@@ -3,8 +3,8 @@ use native.Mathlib.Omega.{arith}
 use Prim.Native.Nat.{ℕ, _+_, _-_, _≤_, _<_}
 use mathlib.Core.Path.{_≡_}
 use lib.ListN.{getD}
-use Rattle.ranking.proofs.DeviateLaws.{arc-at, arc-there}
-use Rattle.ranking.proofs.ExitLaws.{up-to}
+use Rattle.branching.proofs.StarLaws.{arc-at, arc-there}
+use Rattle.branching.proofs.ExitLaws.{up-to}
 use Rattle.regret.proofs.arcs.arc_index.Statement.{statement}
 use Rattle.regret.proofs.arcs.arc_index.Tie as tie
 

@@ -4,7 +4,7 @@ use native.Mathlib.Omega.{arith}
 use mathlib.Core.Path.{sym}
 use borrow.Author.Needs.{needs}
 use Rattle.terms.proofs.RoomLaws.{part-long, part-zero}
-use Rattle.ranking.proofs.NetworkLaws.{problem-few}
+use Rattle.ranking.proofs.ProblemLaws.{problem-few}
 use Rattle.robust.proofs.searching.search.Statement.{statement}
 use Rattle.robust.proofs.searching.search.Tie as tie
 

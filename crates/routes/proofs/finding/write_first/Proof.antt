@@ -6,8 +6,8 @@ use mathlib.Core.List.{List, [], _∷_}
 use lib.ListN.{length, take}
 use Rattle.terms.specs.Network.{column}
 use Rattle.terms.specs.Paths.{cost}
-use Rattle.ranking.specs.Branches.{everything, First}
-use Rattle.ranking.proofs.FirstLaws.{found-tail, found-empty, extent-tail}
+use Rattle.branching.specs.Branches.{everything, First}
+use Rattle.branching.proofs.FirstLaws.{found-tail, found-empty, extent-tail}
 use Rattle.image.specs.Layout.{netOf}
 use Rattle.image.specs.Outcome.{gives}
 use Rattle.image.specs.Answers.{checked}

@@ -1,0 +1,237 @@
+// The first path of a branch: by a walk along labels that are at hand, or else along labels with the
+// beginning barred, or else step by step.
+ghost use mathlib.Core.Path.{_≡_};
+ghost use mathlib.Core.List.{List, [], _∷_, _++_};
+ghost use Prim.Native.Nat.{ℕ, _-_, _≤_, _<_};
+ghost use lib.ListN.{length, take, getD};
+ghost use Rattle.terms.specs.Paths.{Route};
+ghost use Rattle.labels.specs.Arcs.{graph};
+ghost use Rattle.branching.specs.Branches.{branch, In, First, Beginning};
+ghost use Rattle.branching.specs.Exits.{Unmarked};
+ghost use Rattle.branching.specs.Flags.{Flagged, Fresh};
+ghost use Rattle.branching.specs.Found.{Ahead, Begun, Kept, FirstFound};
+ghost use Rattle.branching.specs.Laid.{Laid, Longer, Tried};
+ghost use Rattle.branching.specs.Star.{Network};
+ghost use Rattle.branching.specs.Walks.{Consistent, Choice};
+use crate::exits::Next;
+use crate::exits::least_exit;
+use crate::walk::attempt;
+use crate::walk::unmark;
+use labels::least;
+
+pub enum Found {
+    // The length of the path, and what its tail costs, from the end of the beginning on.
+    Tail(usize, u64),
+    // The branch has no path.
+    Empty,
+}
+
+// From path[at - 1], each step to the node that labels made anew show to be the next.
+fn steps(
+    tails: &[u16],
+    heads: &[u16],
+    weights: &[u32],
+    first_out: &[u16],
+    first_in: &[u16],
+    next_in: &[u16],
+    goal: usize,
+    used: &mut [u8],
+    path: &mut [u16],
+    at: usize,
+    labels: &mut [u64],
+) -> usize
+    requires { ⌜ Network (length (now used)) (now tails) (now heads) (now weights) (now «first_out») (now «first_in») (now «next_in») ⌝ }
+    requires { ⌜ Laid (length (now used)) (now used) (now path) at × (1 ≤ at) ⌝ }
+    requires { ⌜ (goal < length (now used)) × ((getD (now path) (at - 1) 0 ≡ goal → ⊥) → getD (now used) goal 0 ≡ 0) ⌝ }
+    requires { ⌜ length (now labels) ≡ length (now used) ⌝ }
+    ensures { λ r. ⌜ Longer (length (now (used .entry))) (now (path .entry)) at (now (used .exit)) (now (path .exit)) r ⌝ }
+    ensures { λ r. ⌜ ((s : ℕ) (p : Route) → In (graph (now (tails .entry)) (now (heads .entry)) (now (weights .entry))) s goal (branch (take at (now (path .entry))) []) p → First (graph (now (tails .entry)) (now (heads .entry)) (now (weights .entry))) s goal (branch (take at (now (path .entry))) []) (take r (now (path .exit)))) ⌝ }
+{
+    let mut len = at;
+    let mut x = path[at - 1] as usize;
+    while x != goal {
+        least(tails, weights, first_in, next_in, used, goal, labels);
+        let Next::Node(y, _) = least_exit(heads, weights, first_out, x, labels, used, used) else {
+            return len;
+        };
+        path[len] = y;
+        x = y as usize;
+        used[x] = 1;
+        len += 1;
+    }
+    len
+}
+
+// The first of the paths that go on from path[..d] with y, step by step. The flags are then as before.
+fn by_steps(
+    tails: &[u16],
+    heads: &[u16],
+    weights: &[u32],
+    first_out: &[u16],
+    first_in: &[u16],
+    next_in: &[u16],
+    goal: usize,
+    used: &mut [u8],
+    path: &mut [u16],
+    d: usize,
+    y: u16,
+    labels: &mut [u64],
+) -> usize
+    requires { ⌜ Network (length (now used)) (now tails) (now heads) (now weights) (now «first_out») (now «first_in») (now «next_in») ⌝ }
+    requires { ⌜ Laid (length (now used)) (now used) (now path) d × Fresh (length (now used)) (now used) y ⌝ }
+    requires { ⌜ Ahead (length (now used)) goal (now used) ⌝ }
+    requires { ⌜ length (now labels) ≡ length (now used) ⌝ }
+    ensures { λ r. ⌜ Tried (now (used .entry)) (now (path .entry)) d (now (used .exit)) (now (path .exit)) r ⌝ }
+    ensures { λ r. ⌜ ((s : ℕ) (p : Route) → In (graph (now (tails .entry)) (now (heads .entry)) (now (weights .entry))) s goal (branch (take d (now (path .entry)) ++ (y ∷ [])) []) p → First (graph (now (tails .entry)) (now (heads .entry)) (now (weights .entry))) s goal (branch (take d (now (path .entry)) ++ (y ∷ [])) []) (take r (now (path .exit)))) ⌝ }
+{
+    path[d] = y;
+    used[y as usize] = 1;
+    let len = steps(
+        tails,
+        heads,
+        weights,
+        first_out,
+        first_in,
+        next_in,
+        goal,
+        used,
+        path,
+        d + 1,
+        labels,
+    );
+    unmark(path, d, len, used);
+    len
+}
+
+// The first path of the branch of path[..d], whose next node is not barred, by labels with the nodes
+// of path[..d] barred. labels have a place for each node.
+fn by_labels(
+    tails: &[u16],
+    heads: &[u16],
+    weights: &[u32],
+    first_out: &[u16],
+    first_in: &[u16],
+    next_in: &[u16],
+    goal: usize,
+    used: &mut [u8],
+    barred: &[u8],
+    path: &mut [u16],
+    d: usize,
+    labels: &mut [u64],
+) -> Found
+    requires { ⌜ Network (length (now used)) (now tails) (now heads) (now weights) (now «first_out») (now «first_in») (now «next_in») ⌝ }
+    requires { ⌜ Begun (length (now used)) (now used) (now barred) (now path) d ⌝ }
+    requires { ⌜ Ahead (length (now used)) goal (now used) ⌝ }
+    requires { ⌜ length (now labels) ≡ length (now used) ⌝ }
+    ensures { λ r. ⌜ Kept (now (used .entry)) (now (path .entry)) d (now (used .exit)) (now (path .exit)) r ⌝ }
+    ensures { λ r. ⌜ ((s : ℕ) (F : List ℕ) → Beginning (graph (now (tails .entry)) (now (heads .entry)) (now (weights .entry))) s goal (take d (now (path .entry))) → Flagged (now (barred .entry)) F → FirstFound (graph (now (tails .entry)) (now (heads .entry)) (now (weights .entry))) s goal (branch (take d (now (path .entry))) F) (now (path .exit)) r) ⌝ }
+{
+    least(tails, weights, first_in, next_in, used, goal, labels);
+    let v = path[d - 1] as usize;
+    let Next::Node(y, l) = least_exit(heads, weights, first_out, v, labels, used, barred) else {
+        return Found::Empty;
+    };
+    let end = attempt(heads, weights, first_out, goal, labels, used, path, d, y);
+    if end.arrived {
+        return Found::Tail(end.len, l);
+    }
+    let len = by_steps(
+        tails,
+        heads,
+        weights,
+        first_out,
+        first_in,
+        next_in,
+        goal,
+        used,
+        path,
+        d,
+        y,
+        labels,
+    );
+    Found::Tail(len, l)
+}
+
+// The same, with room made for the labels.
+fn exact_path(
+    tails: &[u16],
+    heads: &[u16],
+    weights: &[u32],
+    first_out: &[u16],
+    first_in: &[u16],
+    next_in: &[u16],
+    goal: usize,
+    used: &mut [u8],
+    barred: &[u8],
+    path: &mut [u16],
+    d: usize,
+) -> Found
+    requires { ⌜ Network (length (now used)) (now tails) (now heads) (now weights) (now «first_out») (now «first_in») (now «next_in») ⌝ }
+    requires { ⌜ Begun (length (now used)) (now used) (now barred) (now path) d ⌝ }
+    requires { ⌜ Ahead (length (now used)) goal (now used) ⌝ }
+    ensures { λ r. ⌜ Kept (now (used .entry)) (now (path .entry)) d (now (used .exit)) (now (path .exit)) r ⌝ }
+    ensures { λ r. ⌜ ((s : ℕ) (F : List ℕ) → Beginning (graph (now (tails .entry)) (now (heads .entry)) (now (weights .entry))) s goal (take d (now (path .entry))) → Flagged (now (barred .entry)) F → FirstFound (graph (now (tails .entry)) (now (heads .entry)) (now (weights .entry))) s goal (branch (take d (now (path .entry))) F) (now (path .exit)) r) ⌝ }
+{
+    let mut labels = [0u64; 201];
+    let places = used.len();
+    by_labels(
+        tails,
+        heads,
+        weights,
+        first_out,
+        first_in,
+        next_in,
+        goal,
+        used,
+        barred,
+        path,
+        d,
+        &mut labels[..places],
+    )
+}
+
+// The first path of the branch of path[..d], whose next node is not barred. y and l are its least exit
+// by the labels `overall`, which may be those of the whole network: the walk along these arrives
+// mostly, and the branch is searched by labels of its own where it does not.
+pub fn first_path(
+    tails: &[u16],
+    heads: &[u16],
+    weights: &[u32],
+    first_out: &[u16],
+    first_in: &[u16],
+    next_in: &[u16],
+    goal: usize,
+    overall: &[u64],
+    used: &mut [u8],
+    barred: &[u8],
+    path: &mut [u16],
+    d: usize,
+    y: u16,
+    l: u64,
+) -> Found
+    requires { ⌜ Network (length (now used)) (now tails) (now heads) (now weights) (now «first_out») (now «first_in») (now «next_in») ⌝ }
+    requires { ⌜ Begun (length (now used)) (now used) (now barred) (now path) d ⌝ }
+    requires { ⌜ Ahead (length (now used)) goal (now used) ⌝ }
+    requires { ⌜ Consistent (graph (now tails) (now heads) (now weights)) goal (now overall) (take d (now path)) × (length (now overall) ≡ length (now used)) ⌝ }
+    requires { ⌜ Choice (graph (now tails) (now heads) (now weights)) (now overall) (Unmarked (now used) (now barred)) (getD (now path) (d - 1) 0) l y ⌝ }
+    ensures { λ r. ⌜ Kept (now (used .entry)) (now (path .entry)) d (now (used .exit)) (now (path .exit)) r ⌝ }
+    ensures { λ r. ⌜ ((s : ℕ) (F : List ℕ) → Beginning (graph (now (tails .entry)) (now (heads .entry)) (now (weights .entry))) s goal (take d (now (path .entry))) → Flagged (now (barred .entry)) F → FirstFound (graph (now (tails .entry)) (now (heads .entry)) (now (weights .entry))) s goal (branch (take d (now (path .entry))) F) (now (path .exit)) r) ⌝ }
+{
+    let end = attempt(heads, weights, first_out, goal, overall, used, path, d, y);
+    if end.arrived {
+        return Found::Tail(end.len, l);
+    }
+    exact_path(
+        tails,
+        heads,
+        weights,
+        first_out,
+        first_in,
+        next_in,
+        goal,
+        used,
+        barred,
+        path,
+        d,
+    )
+}
