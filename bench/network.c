@@ -2,12 +2,17 @@
 
 #include <string.h>
 
-const char *const shape_names[SHAPES] = {"grid", "sparse", "dense", "layered", "ladder"};
+const char *const shape_names[SHAPES] = {"grid", "sparse", "dense", "layered", "ladder", "grid of 25", "grid of 50", "grid of 100", "grid of 200"};
+const char *const likeness_names[LIKENESSES] = {"within 10 %", "within 50 %", "independent"};
 
 // xorshift64*
 static uint64_t state;
 
-static uint32_t draw(uint32_t below) {
+void seed(uint32_t number) {
+    state = 88172645463325252u + number;
+}
+
+uint32_t draw(uint32_t below) {
     state ^= state >> 12;
     state ^= state << 25;
     state ^= state >> 27;
@@ -78,42 +83,72 @@ static void put(uint8_t *at, unsigned bytes, uint32_t x) {
 }
 
 static void write_image(struct network *net) {
-    unsigned m = net->m;
+    unsigned m = net->m, k = net->k;
     uint8_t *b = net->image;
-    net->image_length = VIHROLOM_IMAGE_LENGTH(m, 1);
+    net->image_length = VIHROLOM_IMAGE_LENGTH(m, k);
     put(b, 2, 1);
     put(b + 2, 2, net->n);
     put(b + 4, 2, m);
-    put(b + 6, 2, 1);
+    put(b + 6, 2, k);
     put(b + 8, 4, 24);
     put(b + 12, 4, 24 + 4 * m);
-    put(b + 16, 4, 24 + 8 * m);
+    put(b + 16, 4, 24 + 4 * m + 4 * m * k);
     put(b + 20, 4, 0);
     for (unsigned i = 0; i < m; i++) {
         put(b + 24 + 4 * i, 2, net->tail[i]);
         put(b + 26 + 4 * i, 2, net->head[i]);
-        put(b + 24 + 4 * m + 4 * i, 4, net->cost[i]);
+        for (unsigned u = 0; u < k; u++)
+            put(b + 24 + 4 * m + 4 * m * u + 4 * i, 4, net->cost[u][i]);
     }
 }
 
-void make_network(struct network *net, unsigned shape, uint32_t top) {
-    state = 88172645463325252u + shape;
+static unsigned draw_arcs(enum shape shape) {
     memset(arc, 0, sizeof arc);
     switch (shape) {
-    case 0: net->n = lattice(14, 14); break;
-    case 1: net->n = sparse(200, 1000); break;
-    case 2: net->n = dense(32); break;
-    case 3: net->n = layered(18, 11, 5); break;
-    default: net->n = lattice(2, 100); break;
+    case GRID: return lattice(14, 14);
+    case SPARSE: return sparse(200, 1000);
+    case DENSE: return dense(32);
+    case LAYERED: return layered(18, 11, 5);
+    case LADDER: return lattice(2, 100);
+    case GRID_25: return lattice(5, 5);
+    case GRID_50: return lattice(5, 10);
+    case GRID_100: return lattice(10, 10);
+    default: return lattice(10, 20);
     }
+}
+
+static void list_arcs(struct network *net) {
     net->m = 0;
     for (unsigned a = 1; a <= net->n; a++)
         for (unsigned b = 1; b <= net->n; b++)
             if (arc[a][b]) {
                 net->tail[net->m] = (uint16_t)a;
                 net->head[net->m] = (uint16_t)b;
-                net->cost[net->m] = 1 + draw(top);
                 net->m++;
             }
+}
+
+// A cost that differs from the base by at most `spread` thousandths.
+static uint32_t near(uint32_t base, uint32_t spread) {
+    return (uint32_t)((uint64_t)base * (1000 - spread + draw(2 * spread + 1)) / 1000);
+}
+
+static void draw_costs(struct network *net, enum likeness likeness, uint32_t top) {
+    static uint32_t base[VIHROLOM_MOST_ARCS];
+    if (likeness != INDEPENDENT)
+        for (unsigned i = 0; i < net->m; i++)
+            base[i] = 1 + draw(top);
+    for (unsigned u = 0; u < net->k; u++)
+        for (unsigned i = 0; i < net->m; i++)
+            net->cost[u][i] = likeness == INDEPENDENT ? 1 + draw(top) : near(base[i], likeness == WITHIN_10 ? 100 : 500);
+}
+
+void make_network(struct network *net, enum shape shape, unsigned k, enum likeness likeness, uint32_t top) {
+    seed(shape);
+    net->shape = shape;
+    net->n = draw_arcs(shape);
+    net->k = k;
+    list_arcs(net);
+    draw_costs(net, likeness, top);
     write_image(net);
 }

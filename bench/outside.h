@@ -1,0 +1,14 @@
+// Numbers that other programs find: networkx, and callgrind.
+#ifndef OUTSIDE_H
+#define OUTSIDE_H
+
+#include "calls.h"
+
+// The time of networkx's ranking, whose costs are held to those of the library; NAN where python3 has no networkx.
+double time_networkx(const struct question *q);
+
+// The instructions of one call of Rank with start 1 and goal n on the network of one column: `engine` is
+// library or plain (see count.c).
+double instructions(const struct question *q, uint32_t top, const char *engine);
+
+#endif

@@ -1,0 +1,25 @@
+#include "timing.h"
+
+#include <stdlib.h>
+
+static int by_size(const void *a, const void *b) {
+    double x = *(const double *)a, y = *(const double *)b;
+    return (x > y) - (x < y);
+}
+
+double median(double *times, unsigned count) {
+    qsort(times, count, sizeof *times, by_size);
+    return times[count / 2];
+}
+
+void median_times(const struct question *q, unsigned calls, timed_call *const *call, struct effort effort, double *medians) {
+    static double times[MOST_BY_TURNS][MOST_TURNS];
+    unsigned turns = 0;
+    for (double spent = 0; turns < effort.most && (turns < effort.least || spent < effort.budget); turns++)
+        for (unsigned c = 0; c < calls; c++) {
+            times[c][turns] = call[c](q);
+            spent += times[c][turns];
+        }
+    for (unsigned c = 0; c < calls; c++)
+        medians[c] = median(times[c], turns);
+}
