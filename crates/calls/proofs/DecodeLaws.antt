@@ -14,7 +14,7 @@ use Rattle.terms.specs.Lists.{_∈_}
 use Rattle.terms.specs.Network.{Net, weigh, column, below, RisingFrom, no-more, next, ArcOf, Admitted}
 use Rattle.terms.proofs.ListLaws.{or-cases, and-both, getD-mem, le-or-lt}
 use Rattle.image.specs.Layout.{arc-count, column-count, netOf}
-use Rattle.image.proofs.PartLaws.{length-arcs}
+use Rattle.parts.proofs.PartLaws.{length-arcs}
 use Rattle.image.proofs.NetworkLaws.{accepted-network, length-columns}
 use Rattle.labels.specs.Arcs.{graph, Arcs}
 use Rattle.calls.specs.Decoded.{InColumn, Decoded}

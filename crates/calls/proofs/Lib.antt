@@ -1,8 +1,6 @@
 pub mod DecodeLaws
 pub mod CostLaws
 pub mod LabelLaws
-pub mod RankLaws
-pub mod ChoiceLaws
 pub mod RowLaws
 pub mod ArcLaws
 pub mod ListLaws

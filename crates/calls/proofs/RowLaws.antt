@@ -19,7 +19,7 @@ use Rattle.image.specs.Layout.{netOf}
 use Rattle.image.specs.Calls.{image-fault, sizes, check-outcome}
 use Rattle.image.proofs.OutcomeLaws.{outcome-fault, then-fault, then-next, then-sound, row-sound, gives-sound}
 use Rattle.image.proofs.CheckLaws.{sized, same-sizes, rejected}
-use Rattle.image.proofs.PartLaws.{length-arcs}
+use Rattle.parts.proofs.PartLaws.{length-arcs}
 use Rattle.image.proofs.NetworkLaws.{accepted-network, length-columns}
 use Rattle.calls.specs.Calls.{ends-row, goal-row, column-row, room-row, list-row, cost-row, count-row, workspace, search-rows, ranking-rows, dearest-anywhere, label-fault, regret-fault}
 use Rattle.calls.specs.Decoded.{Accepted, Node, InColumn, Ends}

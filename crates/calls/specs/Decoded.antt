@@ -1,10 +1,9 @@
 -- An accepted image as the path layer reads it: its network's sizes, and one column as a graph in three arrays. Assumes nothing.
-use Prim.Native.Nat.{ℕ, _+_, _*_, _-_, _≤_, _<_}
+use Prim.Native.Nat.{ℕ, _+_, _-_, _≤_, _<_}
 use mathlib.Core.Path.{_≡_}
 use mathlib.Core.List.{List, [], map}
-use lib.ListN.{length, getD, replicate}
+use lib.ListN.{length, getD}
 use Rattle.terms.specs.Network.{Net, column}
-use Rattle.terms.specs.Paths.{Route, Path}
 use Rattle.image.specs.Outcome.{sound}
 use Rattle.image.specs.Layout.{netOf}
 use Rattle.image.specs.Calls.{image-fault}
@@ -12,8 +11,6 @@ use Rattle.labels.specs.Arcs.{graph, Arcs}
 use Rattle.labels.specs.Chains.{Chains}
 use Rattle.labels.specs.Labels.{Least}
 use Rattle.branching.specs.Star.{Network}
-use Rattle.regret.specs.Columns.{network, column-costs}
-use Rattle.robust.specs.Counting.{Priced}
 
 -- image b is accepted, and its network has n nodes, m arcs and k columns
 pub record Accepted (b : List ℕ) (n m k : ℕ) : Type 0 where
@@ -65,54 +62,9 @@ pub record NodeRoom (n : ℕ) (outs ins ls : List ℕ) : Type 0 where
   pub ins-long : length ins ≡ n + 1
   pub labels-long : length ls ≡ n + 1
 
--- slices long enough for K paths: K rows, K costs and the workspace's slots
-pub record ListSlices (n K : ℕ) (rows costs work : List ℕ) : Type 0 where
-  pub wanted-from : 1 ≤ K
-  pub wanted-to : K ≤ 256
-  pub rows-long : K * n ≤ length rows
-  pub costs-long : K ≤ length costs
-  pub slots-long : K * (n + 16) ≤ length work
-
--- the workspace after r paths were listed: untouched if there are none, all 0 otherwise
-pub data ListedWork (r : ℕ) (work work′ : List ℕ) : Type 0 where
-  unused : r ≡ 0 → work′ ≡ work → ListedWork r work work′
-  emptied : 1 ≤ r → work′ ≡ replicate (length work) 0 → ListedWork r work work′
-
 -- the arrays hold column u, the arcs out of and into each node, and the labels to t of the whole network
 pub record Loaded (net : Net) (u t : ℕ) (ts hs ws outs ins nexts ls : List ℕ) : Type 0 where
   pub column-is : Decoded net u ts hs ws
   pub network : (k : ℕ) → k ≡ net .nodes + 1 → Network k ts hs ws outs ins nexts
   pub least : Least (graph ts hs ws) [] t ls
   pub labels-long : length ls ≡ net .nodes + 1
-
--- ---- all columns
--- the arrays hold the arcs, and chains of those into each node; in some column a path goes from s to t
-pub record Reached (net : Net) (s t : ℕ) (ts hs ins nexts : List ℕ) : Type 0 where
-  pub tails-are : ts ≡ map (λ a. a .0) (net .arcs)
-  pub heads-are : hs ≡ map (λ a. a .1) (net .arcs)
-  pub chains : Chains hs ins nexts
-  pub ins-long : length ins ≡ net .nodes + 1
-  pub ends : Ends (net .nodes) s t
-  pub in-column : ℕ
-  pub from : 1 ≤ in-column
-  pub upto : in-column ≤ length (net .columns)
-  pub route : Route
-  pub path : Path (column net in-column) s t route
-
--- the arrays hold the arcs and all columns, one after the other, and best(u) for each column u
-pub record Held (net : Net) (s t : ℕ) (ts hs outs costs bests : List ℕ) : Type 0 where
-  pub network-is : network (net .nodes) (length bests) ts hs costs ≡ net
-  pub costs-of : (u : ℕ) → 1 ≤ u → u ≤ length bests → column-costs (length ts) costs u ≡ getD (net .columns) (u - 1) []
-  pub priced : Priced (net .nodes) s t ts hs outs costs bests
-
--- room for k columns of m arcs
-pub record ChoiceRoom (m k : ℕ) (costs bests : List ℕ) : Type 0 where
-  pub costs-long : length costs ≡ m * k
-  pub bests-long : length bests ≡ k
-
--- slices long enough for one path, and for a workspace of K + 1 slots
-pub record ChoiceSlices (n K : ℕ) (path work : List ℕ) : Type 0 where
-  pub wanted-from : 1 ≤ K
-  pub wanted-to : K ≤ 256
-  pub path-long : n ≤ length path
-  pub slots-long : (K + 1) * (n + 16) ≤ length work

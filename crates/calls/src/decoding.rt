@@ -1,7 +1,7 @@
 // One column of an accepted image as a graph in three arrays: arc i goes from tails[i] to heads[i]
 // and costs weights[i].
-use image::read_arcs;
-use image::read_column;
+use parts::read_arcs;
+use parts::read_column;
 ghost use mathlib.Core.Path.{_≡_};
 ghost use lib.ListN.{length};
 ghost use Rattle.image.specs.Layout.{netOf};

@@ -1,7 +1,7 @@
 // Node lists: whether one is a path, and where it fails.
 use super::arcs::Found;
 use super::arcs::find_arc;
-use image::read_arcs;
+use parts::read_arcs;
 ghost use mathlib.Core.Path.{_≡_};
 ghost use Prim.Native.Nat.{_≤_};
 ghost use lib.ListN.{length};

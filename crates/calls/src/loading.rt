@@ -1,9 +1,9 @@
 // One column of an accepted image made ready for the search of paths: its arcs in arrays, the arcs
 // out of and into each node, and the labels of the whole network.
 use super::decoding::decode;
+use branching::star;
 use labels::chain;
 use labels::least;
-use branching::star;
 ghost use mathlib.Core.Path.{_≡_};
 ghost use Prim.Native.Nat.{ℕ, _+_};
 ghost use lib.ListN.{length, getD};

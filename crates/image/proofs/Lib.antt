@@ -5,6 +5,5 @@ pub mod RowLaws
 pub mod CheckLaws
 pub mod UnpackLaws
 pub mod BuildLaws
-pub mod PartLaws
 pub mod NetworkLaws
 pub mod RoundTripLaws

@@ -3,7 +3,7 @@ use mathlib.Core.List.{[], _∷_}
 use Rattle.image.specs.Outcome.{Outcome, gives}
 use Rattle.image.specs.Answers.{refused}
 -- Robust's answer
-pub use Rattle.searches.specs.Answers.{decided}
+pub use Rattle.choices.specs.Answers.{decided}
 use Rattle.routes.specs.declared.labelling.Labelled.{Labelled}
 use Rattle.routes.specs.declared.labelling.Labelled.the-variants as label
 use Rattle.routes.specs.declared.finding.Routed.{Routed}

@@ -1,11 +1,11 @@
 // Robust: the path whose greatest regret is least.
 use calls::check_costs;
 use calls::check_ranking;
+use choices::Decided;
+use choices::choose;
 use image::Checked;
 use image::Refusal;
 use image::Sizes;
-use searches::choose;
-use searches::Decided;
 ghost use mathlib.Core.Path.{_≡_};
 ghost use lib.ListN.{length};
 ghost use Rattle.image.specs.Outcome.{outcome, after};
@@ -14,7 +14,8 @@ ghost use Rattle.image.specs.Calls.{sizes};
 ghost use Rattle.image.specs.Answers.{checked};
 ghost use Rattle.routes.specs.Answers.{decided};
 ghost use Rattle.calls.specs.Calls.{choice-rows, robust-rows, robust-fault, robust-of, chosen, robust-values, robust-outcome, cleared};
-ghost use Rattle.calls.specs.Decoded.{Accepted, InColumn, Ends, ChoiceSlices};
+ghost use Rattle.calls.specs.Decoded.{Accepted, InColumn, Ends};
+ghost use Rattle.choices.specs.Held.{ChoiceSlices};
 ghost use Rattle.calls.specs.Demands.{Kept3};
 
 // Robust's rows before 15, for slices of these lengths.

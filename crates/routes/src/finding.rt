@@ -1,10 +1,10 @@
 // Shortest: the first path of the ranking order.
+use branching::Found;
 use calls::check_costs;
 use calls::check_search;
 use image::Checked;
 use image::Refusal;
 use image::Sizes;
-use branching::Found;
 use searches::find;
 ghost use mathlib.Core.Path.{_≡_};
 ghost use mathlib.Core.List.{_++_};

@@ -1,7 +1,7 @@
 // Label: for each node the least cost to the goal.
-use calls::label_column;
 use calls::check_costs;
 use calls::is_column;
+use calls::label_column;
 use image::Checked;
 use image::Refusal;
 use image::check;

@@ -6,6 +6,8 @@ mod labelling;
 mod listing;
 mod measuring;
 
+pub use choices::Decided;
+pub use choices::Decision;
 pub use choosing::robust;
 pub use finding::Routed;
 pub use finding::shortest;
@@ -16,5 +18,3 @@ pub use listing::rank;
 pub use measuring::Measure;
 pub use measuring::Regretted;
 pub use measuring::regret;
-pub use searches::Decided;
-pub use searches::Decision;

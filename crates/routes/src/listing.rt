@@ -14,7 +14,8 @@ ghost use Rattle.image.specs.Calls.{sizes};
 ghost use Rattle.image.specs.Answers.{checked};
 ghost use Rattle.routes.specs.Answers.{listed};
 ghost use Rattle.calls.specs.Calls.{path-rows, rank-rows, rank-fault, rank-of, rank-rows-of, rank-costs-of, rank-outcome, cleared};
-ghost use Rattle.calls.specs.Decoded.{InColumn, Ends, ListSlices};
+ghost use Rattle.calls.specs.Decoded.{InColumn, Ends};
+ghost use Rattle.searches.specs.Slices.{ListSlices};
 
 // Rank's answer.
 pub enum Listed {

@@ -1,10 +1,10 @@
 // Regret: the figure and the worst column of a path.
-use calls::column_best;
-use calls::column_cost;
 use calls::NodeList;
-use calls::check_list;
 use calls::check_costs;
 use calls::check_ends;
+use calls::check_list;
+use calls::column_best;
+use calls::column_cost;
 use image::Checked;
 use image::Refusal;
 ghost use mathlib.Core.Path.{_≡_};

@@ -1,7 +1,7 @@
 // The first path of the ranking order in one column of an accepted image.
-use calls::load;
 use branching::Found;
 use branching::shortest as first_path;
+use calls::load;
 ghost use mathlib.Core.Path.{_≡_};
 ghost use Prim.Native.Nat.{_+_};
 ghost use lib.ListN.{length};

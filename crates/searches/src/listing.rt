@@ -18,7 +18,8 @@ ghost use Rattle.image.specs.Outcome.{sound, after};
 ghost use Rattle.image.specs.Layout.{netOf};
 ghost use Rattle.image.specs.Calls.{sizes};
 ghost use Rattle.calls.specs.Calls.{rank-of, rank-rows-of, rank-costs-of, cleared};
-ghost use Rattle.calls.specs.Decoded.{InColumn, ArcRoom, NodeRoom, Ends, ListSlices, ListedWork};
+ghost use Rattle.calls.specs.Decoded.{InColumn, ArcRoom, NodeRoom, Ends};
+ghost use Rattle.searches.specs.Slices.{ListSlices, ListedWork};
 
 // Writes the first paths from start to goal in a loaded column, as many as are wanted or all, and
 // returns their number. The workspace is cleared.

@@ -22,8 +22,8 @@ use Rattle.image.proofs.OutcomeLaws.{gives-sound, refuses-fault, after-sound}
 use Rattle.image.proofs.NetworkLaws.{accepted-network}
 use Rattle.calls.specs.Calls.{room-row, workspace, search-rows, ranking-rows, robust-rows, robust-fault, robust-of, chosen, robust-values, robust-outcome}
 use Rattle.routes.specs.Answers.{decided}
-use Rattle.searches.specs.declared.choosing.Decided.{Decided}
-use Rattle.searches.specs.declared.choosing.Decided.the-variants as robust
+use Rattle.choices.specs.declared.choosing.Decided.{Decided}
+use Rattle.choices.specs.declared.choosing.Decided.the-variants as robust
 use Rattle.sheet.specs.Sheet.{answer-text, refused-line, sheet-of, program-fault, program-answer, sheet}
 use Rattle.sheet.specs.Answers.{nodes-of, decided-text, Printable, sheet-fault, sheet-outcome}
 

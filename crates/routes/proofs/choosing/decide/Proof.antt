@@ -7,7 +7,7 @@ use Rattle.image.proofs.OutcomeLaws.{outcome-sound}
 use Rattle.calls.specs.Calls.{robust-of, chosen, robust-values, cleared}
 use Rattle.calls.proofs.CostLaws.{bound-row-sound}
 use Rattle.calls.proofs.RowLaws.{never, node-bounds}
-use Rattle.calls.proofs.ChoiceLaws.{choice-rows-are}
+use Rattle.choices.proofs.ChoiceLaws.{choice-rows-are}
 use borrow.Author.Needs.{needs}
 use Rattle.routes.proofs.choosing.decide.Statement.{statement}
 use Rattle.routes.proofs.choosing.decide.Tie as tie

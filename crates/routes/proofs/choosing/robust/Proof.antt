@@ -8,8 +8,8 @@ use Rattle.image.proofs.OutcomeLaws.{then-fault, then-next, outcome-fault, afte
 use Rattle.calls.specs.Calls.{choice-rows, robust-rows, robust-fault, robust-of, chosen, robust-values, robust-outcome, cleared}
 use Rattle.calls.specs.Decoded.{Accepted}
 use Rattle.calls.proofs.RowLaws.{given-sizes}
-use Rattle.calls.proofs.RankLaws.{cleared-not}
-use Rattle.calls.proofs.ChoiceLaws.{robust-sound, choice-slices, kept-3}
+use Rattle.searches.proofs.RankLaws.{cleared-not}
+use Rattle.choices.proofs.ChoiceLaws.{robust-sound, choice-slices, kept-3}
 use borrow.Author.Needs.{needs}
 use Rattle.routes.proofs.choosing.robust.Statement.{statement}
 use Rattle.routes.proofs.choosing.robust.Tie as tie

@@ -9,7 +9,7 @@ use Rattle.image.proofs.OutcomeLaws.{then-fault, outcome-fault, outcome-sound, 
 use Rattle.calls.specs.Calls.{ranking-rows, rank-rows}
 use Rattle.calls.specs.Decoded.{Accepted}
 use Rattle.calls.proofs.RowLaws.{given-sizes, sizes-of, node-bounds, ranking-sound}
-use Rattle.calls.proofs.RankLaws.{rows-short, costs-short, slices-long}
+use Rattle.searches.proofs.RankLaws.{rows-short, costs-short, slices-long}
 use borrow.Author.Needs.{needs}
 use Rattle.routes.proofs.listing.check_rank.Statement.{statement}
 use Rattle.routes.proofs.listing.check_rank.Tie as tie

@@ -9,7 +9,7 @@ use Rattle.image.proofs.OutcomeLaws.{then-fault, then-next, outcome-fault, afte
 use Rattle.calls.specs.Calls.{path-rows, rank-rows, rank-fault, rank-of, rank-rows-of, rank-costs-of, rank-outcome, cleared}
 use Rattle.calls.specs.Decoded.{Accepted}
 use Rattle.calls.proofs.RowLaws.{given-sizes}
-use Rattle.calls.proofs.RankLaws.{rank-sound, rank-slices, cleared-not}
+use Rattle.searches.proofs.RankLaws.{rank-sound, rank-slices, cleared-not}
 use borrow.Author.Needs.{needs}
 use Rattle.routes.proofs.listing.rank.Statement.{statement}
 use Rattle.routes.proofs.listing.rank.Tie as tie

@@ -9,7 +9,7 @@ use Rattle.image.proofs.OutcomeLaws.{outcome-fault, outcome-sound, after-fault}
 use Rattle.calls.specs.Calls.{rank-rows-of, rank-costs-of, cleared}
 use Rattle.calls.proofs.CostLaws.{bound-row-sound}
 use Rattle.calls.proofs.DecodeLaws.{few-nodes}
-use Rattle.calls.proofs.RankLaws.{none-listed, some-listed, few-listed, no-rows, no-costs, work-unused, work-emptied, cleared-is, cleared-not}
+use Rattle.searches.proofs.RankLaws.{none-listed, some-listed, few-listed, no-rows, no-costs, work-unused, work-emptied, cleared-is, cleared-not}
 use Rattle.calls.proofs.RowLaws.{never}
 use borrow.Author.Needs.{needs}
 use Rattle.routes.proofs.listing.write_ranked.Statement.{statement}

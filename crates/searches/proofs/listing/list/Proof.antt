@@ -86,8 +86,7 @@ list-in-requires c κs =
     let e = c .before .before .before .before .before .before .before .before .before .before in
     let p = entry e .pre in
     let m = part-long 1000 _ (arcs-fit e) in
-    let long = part-long 201 _ (places-fit e) ∙ ap (λ n. n + 1) (p .1 .0) in
-    (
+    let long = part-long 201 _ (places-fit e) ∙ ap (λ n. n + 1) (p .1 .0) in (
       p .0,
       (
         record { tails-long = m; heads-long = m; weights-long = m; nexts-long = m },

@@ -4,9 +4,9 @@ use native.Mathlib.Omega.{arith}
 use mathlib.Core.Path.{_≡_, refl, sym, _∙_, ap}
 use lib.ListN.{length}
 use Rattle.image.specs.Layout.{netOf}
-use Rattle.calls.specs.Decoded.{ListedWork}
+use Rattle.searches.specs.Slices.{ListedWork}
 use Rattle.calls.proofs.DecodeLaws.{few-nodes}
-use Rattle.calls.proofs.RankLaws.{slices-for, none-reached, some-reached, no-rows, no-costs, rank-problem, light-paths, column-count, column-rows, column-costs}
+use Rattle.searches.proofs.RankLaws.{slices-for, none-reached, some-reached, no-rows, no-costs, rank-problem, light-paths, column-count, column-rows, column-costs}
 use borrow.Author.Needs.{needs}
 use Rattle.searches.proofs.listing.list_in.Statement.{statement}
 use Rattle.searches.proofs.listing.list_in.Tie as tie

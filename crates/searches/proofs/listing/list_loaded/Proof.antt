@@ -5,7 +5,7 @@ use mathlib.Core.Path.{_∙_, ap}
 use lib.ListN.{replicate}
 use Rattle.candidates.proofs.EntryLaws.{kept-readable}
 use Rattle.ranking.proofs.ResultLaws.{ranked-count}
-use Rattle.calls.proofs.RankLaws.{entry-costs, entry-room, entry-rows, entry-costs-out}
+use Rattle.searches.proofs.RankLaws.{entry-costs, entry-room, entry-rows, entry-costs-out}
 use borrow.Author.Needs.{needs}
 use Rattle.searches.proofs.listing.list_loaded.Statement.{statement}
 use Rattle.searches.proofs.listing.list_loaded.Tie as tie

@@ -1,0 +1,48 @@
+-- `routes::choosing::choose_priced` meets its contract. Assumes nothing.
+use Prim.Native.Nat.{ℕ, _≤_}
+use native.Mathlib.Omega.{arith}
+use mathlib.Core.Path.{_∙_, ap}
+use lib.ListN.{length, replicate}
+use Rattle.robust.specs.Answers.{chosen-length}
+use Rattle.image.specs.Outcome.{gives}
+use Rattle.calls.specs.Calls.{robust-values}
+use Rattle.choices.proofs.ChoiceLaws.{chosen-long, chosen-written}
+use borrow.Author.Needs.{needs}
+use Rattle.choices.proofs.choosing.choose_priced.Statement.{statement}
+use Rattle.choices.proofs.choosing.choose_priced.Tie as tie
+
+least-regret-requires : tie.Need-least-regret-requires
+least-regret-requires c κs = let p = c .before .before .before .before .before .before .before .before .before .before .before .before .before .pre in
+    (p .0, (p .1 .0, (p .1 .1 .0 .0, (p .1 .1 .0 .1, ((p .1 .1 .1 .0, p .1 .1 .1 .1), p .1 .1 .1 .2)))))
+
+clear-requires : tie.Need-clear-requires
+clear-requires c κs = search needs
+
+state-requires : tie.Need-state-requires
+state-requires c κs = search needs
+
+same-length : tie.Need-same-length
+same-length c = search needs
+
+same-length-2 : tie.Need-same-length-2
+same-length-2 c = search needs
+
+returns : tie.Need-returns
+returns c = let l = c .before .before .before .before .before .before .before .before .before .least-regret in
+    let s = c .before .before .before .before .before .before .before .before .before .before .before .before .before .before .before .before .before .before .before .before .before .before .before in
+    let e = l .ensures .1 in
+    let fits : chosen-length (l .result) ≤ length (l .last .1 .1 .1 .1 .1 .1 .1 .1 .1 .1 .1 .1 .1 .1 .1 .0) = omega (arith, e .1 .1, l .kept .1 .1 .1 .1 .1 .1 .1 .1 .1 .1 .1 .1 .1 .1 .1 .0, s .pre .1 .1 .1 .2) in (
+      c .state .ensures _ (chosen-long (l .result) (s .args .path .now) (e .0) (e .1 .0) fits) ∙ ap (λ a. gives (robust-values a)) (e .0),
+      (chosen-written (l .result) (s .args .path .now) (e .0) (e .1 .0) fits, c .before .before .before .clear .ensures ∙ ap (λ (k : ℕ). replicate k 0) (l .kept .1 .1 .1 .1 .1 .1 .1 .1 .1 .1 .1 .0)),
+    )
+
+pub choose-priced-spec : {M : Type 1} → statement M
+choose-priced-spec =
+    tie.close
+    (tie.spec
+    least-regret-requires
+    clear-requires
+    state-requires
+    same-length
+    same-length-2
+    returns)

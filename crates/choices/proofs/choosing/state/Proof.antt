@@ -1,0 +1,26 @@
+-- `routes::choosing::state`: each case with its values. Assumes nothing.
+use Rattle.choices.proofs.ChoiceLaws.{state-settled, state-open}
+use borrow.Author.Needs.{needs}
+use Rattle.choices.proofs.choosing.state.Statement.{statement}
+use Rattle.choices.proofs.choosing.state.Tie as tie
+
+enum-known-answer : tie.Need-enum-known-answer
+enum-known-answer c = search needs
+
+enum-known-answer-2 : tie.Need-enum-known-answer-2
+enum-known-answer-2 c = search needs
+
+returns : tie.Need-returns
+returns c = state-settled _ _ _ (c .before .answer .given .1)
+
+returns-2 : tie.Need-returns-2
+returns-2 c = state-open _ _ _ _ (c .before .answer2 .given .1)
+
+pub state-spec : {M : Type 1} → statement M
+state-spec =
+    tie.close
+    (tie.spec
+    enum-known-answer
+    enum-known-answer-2
+    returns
+    returns-2)
