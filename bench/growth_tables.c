@@ -5,32 +5,30 @@
 
 enum { PAIRS = 20, COLUMNS = 4, WANTED = 48 };
 
-static struct medians medians_on(enum shape shape, unsigned k, enum likeness likeness, uint32_t wanted, unsigned *settled) {
+static struct medians medians_on(enum shape shape, unsigned k, enum likeness likeness, uint32_t wanted) {
     static struct network net;
     static struct pair pairs[PAIRS];
     static struct measured measured[PAIRS];
     make_network(&net, shape, k, likeness, MOST_BASE);
     draw_pairs(&net, pairs, PAIRS);
     measure_pairs(&net, pairs, PAIRS, wanted, measured);
-    *settled = medians_of(measured, PAIRS, true, false).pairs;
     return medians_of(measured, PAIRS, true, true);
 }
 
-static void robust_cells(const struct medians *m, unsigned settled) {
-    time_cell(m->robust);
-    cell("%u", settled);
-    cell("%.0f", m->counted);
+static void robust_cells(struct medians m) {
+    time_cell(m.robust);
+    cell("%u", m.settled);
+    cell("%.0f", m.counted);
 }
 
 static void row(unsigned grown, enum shape shape, unsigned k, uint32_t wanted) {
-    unsigned close_settled, apart_settled;
-    struct medians close = medians_on(shape, k, WITHIN_50, wanted, &close_settled);
-    struct medians apart = medians_on(shape, k, INDEPENDENT, wanted, &apart_settled);
+    struct medians close = medians_on(shape, k, WITHIN_50, wanted);
+    struct medians apart = medians_on(shape, k, INDEPENDENT, wanted);
     cell("%u", grown);
     time_cell(close.igraph);
     time_cell(close.rank);
-    robust_cells(&close, close_settled);
-    robust_cells(&apart, apart_settled);
+    robust_cells(close);
+    robust_cells(apart);
     end_row();
 }
 

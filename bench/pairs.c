@@ -5,7 +5,7 @@
 #include "yen.h"
 
 void draw_pairs(const struct network *net, struct pair *pairs, unsigned count) {
-    seed(net->shape);
+    seed(SHAPES + net->shape);
     while (count > 0) {
         struct question q = {net, 1, 1 + draw(net->n), 1 + draw(net->n), VIHROLOM_MOST_PATHS};
         time_rank(&q);
@@ -37,15 +37,16 @@ void measure_pairs(const struct network *net, const struct pair *pairs, unsigned
 
 struct medians medians_of(const struct measured *measured, unsigned count, bool settled, bool open) {
     double rank[MOST_PAIRS], robust[MOST_PAIRS], igraph[MOST_PAIRS], counted[MOST_PAIRS];
-    unsigned pairs = 0;
+    unsigned pairs = 0, all_settled = 0;
     for (unsigned i = 0; i < count; i++)
         if (measured[i].settled ? settled : open) {
             rank[pairs] = measured[i].rank;
             robust[pairs] = measured[i].robust;
             igraph[pairs] = measured[i].igraph;
             counted[pairs++] = measured[i].counted;
+            all_settled += measured[i].settled;
         }
     if (pairs == 0)
         return (struct medians){0};
-    return (struct medians){pairs, median(rank, pairs), median(robust, pairs), median(igraph, pairs), median(counted, pairs)};
+    return (struct medians){pairs, all_settled, median(rank, pairs), median(robust, pairs), median(igraph, pairs), median(counted, pairs)};
 }

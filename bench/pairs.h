@@ -20,9 +20,9 @@ struct measured {
     bool settled;
 };
 
-// Medians over some pairs, and how many these are.
+// Medians over some pairs, how many these are, and how many of them have settled answers.
 struct medians {
-    unsigned pairs;
+    unsigned pairs, settled;
     double rank, robust, igraph, counted;
 };
 
