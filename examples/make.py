@@ -1,8 +1,9 @@
-"""Writes the example images, and for each the sheet that the program has to print for it.
+"""Writes the example images, and for each the sheet that the program has to print for it; and the
+images and sheets that the test program `trial_sheet` is held to.
 
     python3 examples/make.py
 
-S is network S of document 01. The other two are grids of 10 times 10 nodes with arcs between
+S is network S of document 01. Two more examples are grids of 10 times 10 nodes with arcs between
 neighbours, both ways, and 4 columns of costs. In `close` the columns differ little, and the
 stopping rule needs few paths; in `apart` they differ much, and 48 paths are not enough.
 
@@ -13,7 +14,8 @@ import heapq
 import os
 import struct
 
-FOLDER = os.path.dirname(os.path.abspath(__file__))
+EXAMPLES = os.path.dirname(os.path.abspath(__file__))
+TRIAL = os.path.join(os.path.dirname(EXAMPLES), "crates", "trial_sheet")
 
 
 def image(n, arcs, columns):
@@ -78,12 +80,17 @@ def ranked(n, costs, start, goal, count):
     return found
 
 
+def refused(number, place):
+    """The sheet of a refusal."""
+    return f"refused {number} at {place}\n"
+
+
 def sheet(n, arcs, columns, most=48):
     """The sheet, as text: Robust with column 1, start 1, goal n."""
     costs = [dict(zip(arcs, column)) for column in columns]
     paths = ranked(n, costs[0], 1, n, most + 1)
     if not paths:
-        return "refused 15 at 0\n"
+        return refused(15, 0)
     best = [labels(n, column, n, set())[1] for column in costs]
 
     def deviations(path):
@@ -121,18 +128,98 @@ def grid(side, spread, seed):
     return side * side, arcs, columns
 
 
-EXAMPLES = {
-    "S": (
-        4,
-        [(1, 2), (1, 3), (2, 3), (2, 4), (3, 4)],
-        [[2, 5, 1, 6, 2], [4, 1, 2, 1, 7]],
-    ),
-    "close": grid(10, 300, 3),
-    "apart": grid(10, 1000, 1),
+def line(n):
+    """The nodes in a line, with arcs of the largest cost. For 200 nodes no route is longer."""
+    return n, [(v, v + 1) for v in range(1, n)], [[1000000] * (n - 1)]
+
+
+def fan(count):
+    """So many paths, each from 1 by one more node to n, and the stopping rule needs them all.
+
+    In column 1 each costs 1 more than the one before; in column 2 the last is cheapest by far.
+    """
+    n, between = count + 2, range(2, count + 2)
+    arcs = [(1, v) for v in between] + [(v, n) for v in between]
+    rising = list(between) + [1] * count
+    last_cheap = [1000] * (count - 1) + [1] + [1] * count
+    return n, arcs, [rising, last_cheap]
+
+
+S = (
+    4,
+    [(1, 2), (1, 3), (2, 3), (2, 4), (3, 4)],
+    [[2, 5, 1, 6, 2], [4, 1, 2, 1, 7]],
+)
+S_BACKWARD = (4, [(2, 1), (3, 1), (3, 2), (4, 2), (4, 3)], S[2])
+NO_ARCS = (2, [], [[]])
+
+
+def solved(network):
+    """The image of a network, and its sheet."""
+    return image(*network), sheet(*network)
+
+
+def s_with(offset, width, number):
+    """The image of S with another number, of so many bytes, at an offset."""
+    whole = image(*S)
+    return whole[:offset] + number.to_bytes(width, "little") + whole[offset + width :]
+
+
+def s_with_head(arc, head):
+    return s_with(24 + 4 * arc + 2, 2, head)
+
+
+def s_with_cost(index, cost):
+    return s_with(24 + 4 * len(S[1]) + 4 * index, 4, cost)
+
+
+# Each image with its sheet, in the order of the test program. A refusal's number and place are
+# those of document 01's table.
+CASES = {
+    # settled
+    "S": solved(S),
+    "close": solved(grid(10, 300, 3)),
+    "line": solved(line(200)),
+    "fan48": solved(fan(48)),
+    # open
+    "apart": solved(grid(10, 1000, 1)),
+    "fan49": solved(fan(49)),
+    # refused
+    "empty": (b"", refused(1, 0)),
+    "header_cut": (image(*S)[:23], refused(1, 0)),
+    "edition": (s_with(0, 2, 7), refused(2, 0)),
+    "one_node": (s_with(2, 2, 1), refused(3, 0)),
+    "reserved": (s_with(20, 4, 1), refused(4, 0)),
+    "byte_added": (image(*S) + b"\0", refused(5, 0)),
+    "head_outside": (s_with_head(3, 5), refused(6, 3)),
+    "arc_to_itself": (s_with_head(4, 3), refused(7, 4)),
+    "arc_twice": (s_with_head(1, 2), refused(8, 1)),
+    "cost_too_large": (s_with_cost(7, 1000001), refused(9, 7)),
+    "no_arcs": solved(NO_ARCS),
+    "backward": solved(S_BACKWARD),
 }
 
-for name, network in EXAMPLES.items():
-    with open(os.path.join(FOLDER, name + ".image"), "wb") as out:
-        out.write(image(*network))
-    with open(os.path.join(FOLDER, name + ".sheet"), "w") as out:
-        out.write(sheet(*network))
+# The test program lends the places that a sheet needs, and then fewer for the sheet of S.
+PLACES = 1024
+FEWER = [1023, 0]
+
+
+def trial_text():
+    """What the test program has to print."""
+    parts = [f"{name}.image in {PLACES} places\n{text}" for name, (_, text) in CASES.items()]
+    parts += [f"S.image in {places} places\ntoo short\n" for places in FEWER]
+    return "".join(parts)
+
+
+def write(folder, name, content):
+    os.makedirs(folder, exist_ok=True)
+    with open(os.path.join(folder, name), "wb") as out:
+        out.write(content)
+
+
+for name in ["S", "close", "apart"]:
+    write(EXAMPLES, name + ".image", CASES[name][0])
+    write(EXAMPLES, name + ".sheet", CASES[name][1].encode())
+for name in CASES:
+    write(os.path.join(TRIAL, "data"), name + ".image", CASES[name][0])
+write(TRIAL, "stdout", trial_text().encode())

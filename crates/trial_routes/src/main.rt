@@ -3,31 +3,25 @@
 //
 // The files path_*.rt test Label, Shortest and Regret, rank_*.rt Rank and robust_*.rt Robust. The
 // answers come from document 01, from networks whose paths are known, or from the crate enumerate,
-// which is written apart from the library. Images that every call refuses are tested by the program
-// trial.
+// which is written apart from the library. Images and numbers that the calls refuse are tested by the
+// program trial.
 
 mod path_cases;
 mod path_lists;
 mod path_random;
-mod path_refusals;
 mod random_networks;
 mod rank_cases;
 mod rank_ladder;
 mod rank_random;
-mod rank_refusals;
 mod robust_cases;
 mod robust_ladder;
 mod robust_random;
-mod robust_refusals;
 
 fn main() {
     path_cases::run();
-    path_refusals::run();
     rank_cases::run();
     rank_ladder::run();
-    rank_refusals::run();
     robust_cases::run();
     robust_ladder::run();
-    robust_refusals::run();
     random_networks::run();
 }

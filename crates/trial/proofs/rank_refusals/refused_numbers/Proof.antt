@@ -1,8 +1,8 @@
 -- `trial_routes::rank_refusals::refused_numbers` is safe and ends.
 use Prim.Native.Nat.{_-_}
 use borrow.Author.Needs.{needs}
-use Rattle.trial_routes.proofs.rank_refusals.refused_numbers.Statement.{statement}
-use Rattle.trial_routes.proofs.rank_refusals.refused_numbers.Tie as tie
+use Rattle.trial.proofs.rank_refusals.refused_numbers.Statement.{statement}
+use Rattle.trial.proofs.rank_refusals.refused_numbers.Tie as tie
 
 abbrev Inv-loop : tie.InvT-loop
 Inv-loop image rows report₀ i₀ i-end report i = Unit
