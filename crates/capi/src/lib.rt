@@ -4,7 +4,6 @@
 
 mod images;
 mod paths;
-mod replies;
 
 pub use images::vihrolom_build;
 pub use images::vihrolom_check;

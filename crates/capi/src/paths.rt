@@ -1,10 +1,10 @@
 // The calls of the path layer: Label, Shortest, Regret, Rank and Robust.
-use super::replies::Reply;
-use super::replies::of_decided;
-use super::replies::of_labelled;
-use super::replies::of_listed;
-use super::replies::of_regretted;
-use super::replies::of_routed;
+use replies::Reply;
+use replies::of_decided;
+use replies::of_labelled;
+use replies::of_listed;
+use replies::of_regretted;
+use replies::of_routed;
 use routes::label;
 use routes::rank;
 use routes::regret;
@@ -15,7 +15,7 @@ ghost use lib.ListN.{length};
 ghost use Rattle.image.specs.Outcome.{after};
 ghost use Rattle.calls.specs.Calls.{cleared, label-fault, label-outcome, labels-of, shortest-fault, shortest-outcome, shortest-of, regret-outcome, rank-fault, rank-outcome, rank-rows-of, rank-costs-of, robust-fault, robust-outcome, robust-of, chosen};
 ghost use Rattle.calls.specs.Demands.{Kept3};
-ghost use Rattle.capi.specs.Replies.{numbers, reply-of};
+ghost use Rattle.replies.specs.Replies.{numbers, reply-of};
 
 // Document 01, call 2. No values.
 #[no_mangle]

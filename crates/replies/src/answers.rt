@@ -15,7 +15,7 @@ ghost use mathlib.Core.Path.{_≡_};
 ghost use mathlib.Core.List.{[], _∷_};
 ghost use Rattle.image.specs.Answers.{refused, checked, built, unpacked};
 ghost use Rattle.routes.specs.Answers.{labelled, routed, regretted, listed, decided};
-ghost use Rattle.capi.specs.Replies.{numbers, reply-of};
+ghost use Rattle.replies.specs.Replies.{numbers, reply-of};
 
 // refusal is 0 for a result, and v0 to v5 are then its values; it is else the number of the refusal, and
 // place is its place. What is not used is 0.

@@ -1,10 +1,10 @@
--- `capi::replies::of_listed` meets its contract. Assumes nothing.
+-- `capi::replies::of_routed` meets its contract. Assumes nothing.
 use mathlib.Core.Path.{sym, ap, _∙_}
 use borrow.Author.Needs.{needs}
-use Rattle.routes.specs.Answers.{listed}
-use Rattle.capi.specs.Replies.{reply-of}
-use Rattle.capi.proofs.replies.of_listed.Statement.{statement}
-use Rattle.capi.proofs.replies.of_listed.Tie as tie
+use Rattle.routes.specs.Answers.{routed}
+use Rattle.replies.specs.Replies.{reply-of}
+use Rattle.replies.proofs.answers.of_routed.Statement.{statement}
+use Rattle.replies.proofs.answers.of_routed.Tie as tie
 
 enum-known-answer : tie.Need-enum-known-answer
 enum-known-answer c = search needs
@@ -19,13 +19,13 @@ of-refusal-requires : tie.Need-of-refusal-requires
 of-refusal-requires c κs = search needs
 
 returns : tie.Need-returns
-returns c = c .result .ensures ∙ ap (λ x. reply-of (listed x)) (sym (c .before .before .answer .given .1))
+returns c = c .result .ensures ∙ ap (λ x. reply-of (routed x)) (sym (c .before .before .answer .given .1))
 
 returns-2 : tie.Need-returns-2
-returns-2 c = c .of-refusal .ensures ∙ ap (λ x. reply-of (listed x)) (sym (c .before .before .answer2 .given .1))
+returns-2 c = c .of-refusal .ensures ∙ ap (λ x. reply-of (routed x)) (sym (c .before .before .answer2 .given .1))
 
-pub of-listed-spec : {M : Type 1} → statement M
-of-listed-spec =
+pub of-routed-spec : {M : Type 1} → statement M
+of-routed-spec =
     tie.close
     (tie.spec
     enum-known-answer

@@ -2,9 +2,9 @@
 use mathlib.Core.Path.{sym, ap, _∙_}
 use borrow.Author.Needs.{needs}
 use Rattle.routes.specs.Answers.{decided}
-use Rattle.capi.specs.Replies.{reply-of}
-use Rattle.capi.proofs.replies.of_decided.Statement.{statement}
-use Rattle.capi.proofs.replies.of_decided.Tie as tie
+use Rattle.replies.specs.Replies.{reply-of}
+use Rattle.replies.proofs.answers.of_decided.Statement.{statement}
+use Rattle.replies.proofs.answers.of_decided.Tie as tie
 
 enum-known-answer : tie.Need-enum-known-answer
 enum-known-answer c = search needs

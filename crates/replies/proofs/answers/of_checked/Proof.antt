@@ -1,10 +1,10 @@
--- `capi::replies::of_regretted` meets its contract. Assumes nothing.
+-- `capi::replies::of_checked` meets its contract. Assumes nothing.
 use mathlib.Core.Path.{sym, ap, _∙_}
 use borrow.Author.Needs.{needs}
-use Rattle.routes.specs.Answers.{regretted}
-use Rattle.capi.specs.Replies.{reply-of}
-use Rattle.capi.proofs.replies.of_regretted.Statement.{statement}
-use Rattle.capi.proofs.replies.of_regretted.Tie as tie
+use Rattle.image.specs.Answers.{checked}
+use Rattle.replies.specs.Replies.{reply-of}
+use Rattle.replies.proofs.answers.of_checked.Statement.{statement}
+use Rattle.replies.proofs.answers.of_checked.Tie as tie
 
 enum-known-answer : tie.Need-enum-known-answer
 enum-known-answer c = search needs
@@ -19,13 +19,13 @@ of-refusal-requires : tie.Need-of-refusal-requires
 of-refusal-requires c κs = search needs
 
 returns : tie.Need-returns
-returns c = c .result .ensures ∙ ap (λ x. reply-of (regretted x)) (sym (c .before .before .answer .given .1))
+returns c = c .result .ensures ∙ ap (λ x. reply-of (checked x)) (sym (c .before .before .answer .given .1))
 
 returns-2 : tie.Need-returns-2
-returns-2 c = c .of-refusal .ensures ∙ ap (λ x. reply-of (regretted x)) (sym (c .before .before .answer2 .given .1))
+returns-2 c = c .of-refusal .ensures ∙ ap (λ x. reply-of (checked x)) (sym (c .before .before .answer2 .given .1))
 
-pub of-regretted-spec : {M : Type 1} → statement M
-of-regretted-spec =
+pub of-checked-spec : {M : Type 1} → statement M
+of-checked-spec =
     tie.close
     (tie.spec
     enum-known-answer

@@ -2,9 +2,9 @@
 use mathlib.Core.Path.{sym, ap, _∙_}
 use borrow.Author.Needs.{needs}
 use Rattle.routes.specs.Answers.{labelled}
-use Rattle.capi.specs.Replies.{reply-of}
-use Rattle.capi.proofs.replies.of_labelled.Statement.{statement}
-use Rattle.capi.proofs.replies.of_labelled.Tie as tie
+use Rattle.replies.specs.Replies.{reply-of}
+use Rattle.replies.proofs.answers.of_labelled.Statement.{statement}
+use Rattle.replies.proofs.answers.of_labelled.Tie as tie
 
 enum-told : tie.Need-enum-told
 enum-told c = search needs

@@ -2,9 +2,9 @@
 use mathlib.Core.Path.{sym, ap, _∙_}
 use borrow.Author.Needs.{needs}
 use Rattle.image.specs.Answers.{built}
-use Rattle.capi.specs.Replies.{reply-of}
-use Rattle.capi.proofs.replies.of_built.Statement.{statement}
-use Rattle.capi.proofs.replies.of_built.Tie as tie
+use Rattle.replies.specs.Replies.{reply-of}
+use Rattle.replies.proofs.answers.of_built.Statement.{statement}
+use Rattle.replies.proofs.answers.of_built.Tie as tie
 
 enum-known-answer : tie.Need-enum-known-answer
 enum-known-answer c = search needs

@@ -3,7 +3,7 @@ use Prim.Native.Nat.{ℕ, _-_}
 use mathlib.Core.List.{List, [], _∷_, _++_}
 use lib.ListN.{length, replicate}
 use Rattle.image.specs.Outcome.{Outcome, gives, refuses}
-use Rattle.capi.specs.declared.replies.Reply.{Reply}
+use Rattle.replies.specs.declared.answers.Reply.{Reply}
 
 abbrev pub numbers : Reply → List ℕ
 numbers r = r .refusal ∷ r .place ∷ r .v0 ∷ r .v1 ∷ r .v2 ∷ r .v3 ∷ r .v4 ∷ r .v5 ∷ []
