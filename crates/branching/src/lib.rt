@@ -14,4 +14,3 @@ pub use exits::least_exit;
 pub use first::Found;
 pub use first::first_path;
 pub use outs::star;
-pub use walk::unmark;

@@ -15,22 +15,13 @@ use Rattle.candidates.specs.Routes.{routes, size, route-at, Rooted}
 use Rattle.candidates.proofs.EntryLaws.{kept-readable, readable-less, length-entries, entries-at}
 use Rattle.candidates.proofs.FamilyLaws.{route-length}
 use Rattle.candidates.proofs.RootedLaws.{family-rooted, route-at-entries}
-use Rattle.branching.specs.Flags.{Flagged}
 use Rattle.branching.specs.Found.{Idle}
 use Rattle.branching.specs.Laid.{Laid}
 use Rattle.ranking.specs.Ranking.{Problem, Filled, Along, Markable, Due}
 use Rattle.ranking.specs.State.{Searching, waiting-to}
 use Rattle.ranking.proofs.EnterLaws.{problem-within, path-nodes, path-small}
-use Rattle.branching.proofs.FlagLaws.{flags-same}
+use Rattle.branching.proofs.FlagLaws.{flags-none}
 use Rattle.ranking.proofs.StateLaws.{entry-cost, entered-rank, next-is-path, search-rank, waiting-all}
-
--- no flag is set
-pub flags-none : {flags : List ℕ} → ((x : ℕ) → getD flags x 0 ≡ 0) → Flagged flags []
-flags-none h = record { inside = λ x m. elim m [ ]; outside = λ x e. h x }
-
--- with no node laid out the flags are as they were when none was set
-pub flags-cleared : {k : ℕ} {flags flags′ path : List ℕ} → ((x : ℕ) → getD flags x 0 ≡ 0) → length flags ≡ k → Laid k flags′ path 0 → flags′ ≡ flags
-flags-cleared h long l = flags-same (l .flagged) (flags-none h) (l .flags-long ∙ sym long)
 
 module _ {n s t : ℕ} {ts hs ws outs ins nexts overall : List ℕ} (P : Problem n s t ts hs ws outs ins nexts overall) {M r limit : ℕ} {w : List ℕ} {count : ℕ}
     (F : Filled n M (graph ts hs ws) s r w count) (Q : Due n (graph ts hs ws) s t M limit (entries n w count) r) where

@@ -25,8 +25,8 @@ use Rattle.branching.specs.Found.{Idle, Ends}
 use Rattle.ranking.specs.Ranking.{Problem, Filled, Deviation, Changed, Settled, Due, Space, Blank, Begins, Stage, Ranked}
 use Rattle.ranking.specs.Search.{Search}
 use Rattle.ranking.specs.State.{branch-of, candidate, candidates-from, Beyond, Entered, Searching, parts-of, taking-over}
-use Rattle.branching.proofs.AllLaws.{start-begun, start-path, start-cleared, cost-start}
-use Rattle.ranking.proofs.DueLaws.{flags-none}
+use Rattle.branching.proofs.AllLaws.{start-begun, start-path, cost-start}
+use Rattle.branching.proofs.FlagLaws.{flags-none}
 use Rattle.ranking.proofs.EnterLaws.{problem-within, path-small}
 use Rattle.ranking.proofs.PoolLaws.{lose}
 use Rattle.ranking.proofs.StateLaws.{entry-cost, entered-rank, next-is-path, search-rank, length-done}
@@ -101,9 +101,6 @@ module _ {n s t : ℕ} {ts hs ws outs ins nexts overall : List ℕ} (P : Problem
       costs = sym (ap (cost g) (start-path path room idle places) ∙ cost-start g s);
       small = omega arith;
     }
-
-    pub first-cleared : {used′ : List ℕ} → used′ ≡ set used s 1 → set used′ s 0 ≡ used
-    first-cleared e = ap (λ l. set l s 0) e ∙ start-cleared path room idle places
 
   pub begun : {M count′ : ℕ} {w w₁ w′ : List ℕ} → Space n M w → Kept n M w₁ 0 → drop (M * (n + 16)) w₁ ≡ drop (M * (n + 16)) w → Changed n M g s 0 w₁ 0 w′ count′
       → Settled n g s t M far (entries n w₁ 0) 0 (branch-of s (entries n w₁ 0) (taking-over 1 0)) (entries n w′ count′) → Begins n M g s t w w′ count′

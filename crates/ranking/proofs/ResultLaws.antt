@@ -26,7 +26,7 @@ use Rattle.ranking.specs.Ranking.{Problem, Ranked}
 use Rattle.ranking.specs.Search.{Search}
 use Rattle.branching.specs.Star.{Network}
 use Rattle.ranking.specs.State.{candidate, candidates-from, Beyond, Entered, Searching}
-use Rattle.ranking.proofs.DueLaws.{flags-none}
+use Rattle.branching.proofs.FlagLaws.{flags-none}
 use Rattle.ranking.proofs.EnterLaws.{problem-within}
 use Rattle.branching.proofs.NetworkLaws.{network-small, network-exact}
 use Rattle.ranking.proofs.SearchLaws.{others-lost, rest-ranked}

@@ -13,9 +13,8 @@ use crate::splitting::split;
 use candidates::reset;
 use labels::FAR;
 
-// Frees all slots, and puts in the first of all paths, if there is one. Returns how many entries there
-// are then. No node is flagged, before and after.
-pub fn begin(
+// The same as below, with room for the flags and for a path, in which no node is flagged yet.
+fn begin_in(
     tails: &[u16],
     heads: &[u16],
     weights: &[u32],
@@ -35,14 +34,12 @@ pub fn begin(
     requires { ⌜ Problem n start goal (now tails) (now heads) (now weights) (now «first_out») (now «first_in») (now «next_in») (now overall) ⌝ }
     requires { ⌜ Space n slots (now work) ⌝ }
     requires { ⌜ Blank n (now used) (now barred) (now path) ⌝ }
-    ensures { λ _. ⌜ now (used .exit) ≡ now (used .entry) ⌝ }
     ensures { λ r. ⌜ Begins n slots (graph (now (tails .entry)) (now (heads .entry)) (now (weights .entry))) start goal (now (work .entry)) (now (work .exit)) r ⌝ }
 {
-    let s = start as usize;
     reset(work, n, slots);
     path[0] = start;
-    used[s] = 1;
-    let count = consider(
+    used[start as usize] = 1;
+    consider(
         tails,
         heads,
         weights,
@@ -64,9 +61,50 @@ pub fn begin(
         0,
         1,
         0,
-    );
-    used[s] = 0;
-    count
+    )
+}
+
+// Frees all slots, and puts in the first of all paths, if there is one. Returns how many entries there
+// are then.
+pub fn begin(
+    tails: &[u16],
+    heads: &[u16],
+    weights: &[u32],
+    first_out: &[u16],
+    first_in: &[u16],
+    next_in: &[u16],
+    start: u16,
+    goal: usize,
+    overall: &[u64],
+    work: &mut [u32],
+    n: usize,
+    slots: usize,
+) -> usize
+    requires { ⌜ Problem n start goal (now tails) (now heads) (now weights) (now «first_out») (now «first_in») (now «next_in») (now overall) ⌝ }
+    requires { ⌜ Space n slots (now work) ⌝ }
+    ensures { λ r. ⌜ Begins n slots (graph (now (tails .entry)) (now (heads .entry)) (now (weights .entry))) start goal (now (work .entry)) (now (work .exit)) r ⌝ }
+{
+    let mut used = [0u8; 201];
+    let barred = [0u8; 201];
+    let mut path = [0u16; 200];
+    let places = n + 1;
+    begin_in(
+        tails,
+        heads,
+        weights,
+        first_out,
+        first_in,
+        next_in,
+        start,
+        goal,
+        overall,
+        &mut used[..places],
+        &barred[..places],
+        &mut path[..n],
+        work,
+        n,
+        slots,
+    )
 }
 
 // Ranks the path at the place `rank`, which is the next. After the last that is wanted no candidates are
@@ -81,9 +119,6 @@ fn advance(
     start: u16,
     goal: usize,
     overall: &[u64],
-    used: &mut [u8],
-    barred: &mut [u8],
-    path: &mut [u16],
     work: &mut [u32],
     n: usize,
     slots: usize,
@@ -92,10 +127,7 @@ fn advance(
 ) -> usize
     requires { ⌜ Problem n start goal (now tails) (now heads) (now weights) (now «first_out») (now «first_in») (now «next_in») (now overall) ⌝ }
     requires { ⌜ Filled n slots (graph (now tails) (now heads) (now weights)) start rank (now work) count ⌝ }
-    requires { ⌜ Blank n (now used) (now barred) (now path) ⌝ }
     requires { ⌜ (rank < count) × Searching n (graph (now tails) (now heads) (now weights)) start goal slots far (entries n (now work) count) rank [] ⌝ }
-    ensures { λ _. ⌜ now (used .exit) ≡ now (used .entry) ⌝ }
-    ensures { λ _. ⌜ now (barred .exit) ≡ now (barred .entry) ⌝ }
     ensures { λ r. ⌜ Changed n slots (graph (now (tails .entry)) (now (heads .entry)) (now (weights .entry))) start (rank + 1) (now (work .entry)) count (now (work .exit)) r ⌝ }
     ensures { λ r. ⌜ Stage n (graph (now (tails .entry)) (now (heads .entry)) (now (weights .entry))) start goal slots (entries n (now (work .exit)) r) (rank + 1) ⌝ }
 {
@@ -112,9 +144,6 @@ fn advance(
         start,
         goal,
         overall,
-        used,
-        barred,
-        path,
         work,
         n,
         slots,
@@ -125,75 +154,7 @@ fn advance(
 }
 
 // Ranks the first paths from start to goal, as many as there are slots or all, and returns their
-// number. No node is flagged, before and after; overall are the labels to the goal.
-fn rank_in(
-    tails: &[u16],
-    heads: &[u16],
-    weights: &[u32],
-    first_out: &[u16],
-    first_in: &[u16],
-    next_in: &[u16],
-    start: u16,
-    goal: usize,
-    overall: &[u64],
-    used: &mut [u8],
-    barred: &mut [u8],
-    path: &mut [u16],
-    work: &mut [u32],
-    n: usize,
-    slots: usize,
-) -> usize
-    requires { ⌜ Problem n start goal (now tails) (now heads) (now weights) (now «first_out») (now «first_in») (now «next_in») (now overall) ⌝ }
-    requires { ⌜ Space n slots (now work) ⌝ }
-    requires { ⌜ Blank n (now used) (now barred) (now path) ⌝ }
-    ensures { λ _. ⌜ now (used .exit) ≡ now (used .entry) ⌝ }
-    ensures { λ _. ⌜ now (barred .exit) ≡ now (barred .entry) ⌝ }
-    ensures { λ r. ⌜ Ranked n slots (graph (now (tails .entry)) (now (heads .entry)) (now (weights .entry))) start goal (now (work .entry)) (now (work .exit)) r ⌝ }
-{
-    let mut count = begin(
-        tails,
-        heads,
-        weights,
-        first_out,
-        first_in,
-        next_in,
-        start,
-        goal,
-        overall,
-        used,
-        barred,
-        path,
-        work,
-        n,
-        slots,
-    );
-    let mut j = 0;
-    while j < count {
-        count = advance(
-            tails,
-            heads,
-            weights,
-            first_out,
-            first_in,
-            next_in,
-            start,
-            goal,
-            overall,
-            used,
-            barred,
-            path,
-            work,
-            n,
-            slots,
-            count,
-            j,
-        );
-        j += 1;
-    }
-    count
-}
-
-// The same, with room made for the flags and for a path.
+// number. overall are the labels to the goal.
 pub fn rank_paths(
     tails: &[u16],
     heads: &[u16],
@@ -212,11 +173,7 @@ pub fn rank_paths(
     requires { ⌜ Space n slots (now work) ⌝ }
     ensures { λ r. ⌜ Ranked n slots (graph (now (tails .entry)) (now (heads .entry)) (now (weights .entry))) start goal (now (work .entry)) (now (work .exit)) r ⌝ }
 {
-    let mut used = [0u8; 201];
-    let mut barred = [0u8; 201];
-    let mut path = [0u16; 200];
-    let places = n + 1;
-    rank_in(
+    let mut count = begin(
         tails,
         heads,
         weights,
@@ -226,11 +183,29 @@ pub fn rank_paths(
         start,
         goal,
         overall,
-        &mut used[..places],
-        &mut barred[..places],
-        &mut path[..n],
         work,
         n,
         slots,
-    )
+    );
+    let mut j = 0;
+    while j < count {
+        count = advance(
+            tails,
+            heads,
+            weights,
+            first_out,
+            first_in,
+            next_in,
+            start,
+            goal,
+            overall,
+            work,
+            n,
+            slots,
+            count,
+            j,
+        );
+        j += 1;
+    }
+    count
 }

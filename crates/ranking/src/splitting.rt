@@ -14,7 +14,6 @@ ghost use Rattle.ranking.specs.Ranking.{Problem, Filled, Restored, Chang
 ghost use Rattle.branching.specs.Star.{Star, Heads, Starts};
 ghost use Rattle.ranking.specs.State.{Searching, branch-of, taking-over, waiting-to};
 use crate::branches::consider;
-use branching::unmark;
 use candidates::cost_at;
 use candidates::lay_out;
 use candidates::set_bars;
@@ -158,8 +157,6 @@ fn deviations(
     requires { ⌜ Filled n slots (graph (now tails) (now heads) (now weights)) start (rank + 1) (now work) count ⌝ }
     requires { ⌜ Along n (graph (now tails) (now heads) (now weights)) start goal (entries n (now work) count) rank (now used) (now barred) (now path) len cost ⌝ }
     requires { ⌜ shared ≡ getD (entries n (now work) count) rank none .shared ⌝ }
-    ensures { λ _. ⌜ Laid (n + 1) (now (used .exit)) (now (path .exit)) shared ⌝ }
-    ensures { λ _. ⌜ now (barred .exit) ≡ now (barred .entry) ⌝ }
     ensures { λ r. ⌜ Changed n slots (graph (now (tails .entry)) (now (heads .entry)) (now (weights .entry))) start (rank + 1) (now (work .entry)) count (now (work .exit)) r ⌝ }
     ensures { λ r. ⌜ Emptied n (graph (now (tails .entry)) (now (heads .entry)) (now (weights .entry))) start goal slots limit (entries n (now (work .entry)) count) (rank + 1) (waiting-to start (entries n (now (work .entry)) count) rank len) (entries n (now (work .exit)) r) ⌝ }
 {
@@ -195,10 +192,8 @@ fn deviations(
     now
 }
 
-// Ranks the path at the place `rank`, which is the next, and costs less than `limit`: the first paths of
-// the parts of its branch are put in their places, but for those that cost `limit` at least. Returns
-// how many entries there are then. No node is flagged, before and after.
-pub fn split(
+// The same as below, with room for the flags and for the path, in which no node is flagged yet.
+fn split_in(
     tails: &[u16],
     heads: &[u16],
     weights: &[u32],
@@ -222,8 +217,6 @@ pub fn split(
     requires { ⌜ Filled n slots (graph (now tails) (now heads) (now weights)) start rank (now work) count ⌝ }
     requires { ⌜ Blank n (now used) (now barred) (now path) ⌝ }
     requires { ⌜ Due n (graph (now tails) (now heads) (now weights)) start goal slots limit (entries n (now work) count) rank ⌝ }
-    ensures { λ _. ⌜ now (used .exit) ≡ now (used .entry) ⌝ }
-    ensures { λ _. ⌜ now (barred .exit) ≡ now (barred .entry) ⌝ }
     ensures { λ r. ⌜ Changed n slots (graph (now (tails .entry)) (now (heads .entry)) (now (weights .entry))) start (rank + 1) (now (work .entry)) count (now (work .exit)) r ⌝ }
     ensures { λ r. ⌜ Searching n (graph (now (tails .entry)) (now (heads .entry)) (now (weights .entry))) start goal slots limit (entries n (now (work .exit)) r) (rank + 1) [] ⌝ }
 {
@@ -232,7 +225,7 @@ pub fn split(
     lay_out(work, n, rank, len, start, path);
     mark(path, len, used);
     let cost = cost_at(work, n, rank);
-    let now = deviations(
+    deviations(
         tails,
         heads,
         weights,
@@ -254,7 +247,57 @@ pub fn split(
         shared,
         len,
         cost,
-    );
-    unmark(path, 0, shared, used);
-    now
+    )
+}
+
+// Ranks the path at the place `rank`, which is the next, and costs less than `limit`: the first paths of
+// the parts of its branch are put in their places, but for those that cost `limit` at least. Returns
+// how many entries there are then.
+pub fn split(
+    tails: &[u16],
+    heads: &[u16],
+    weights: &[u32],
+    first_out: &[u16],
+    first_in: &[u16],
+    next_in: &[u16],
+    start: u16,
+    goal: usize,
+    overall: &[u64],
+    work: &mut [u32],
+    n: usize,
+    slots: usize,
+    count: usize,
+    limit: u64,
+    rank: usize,
+) -> usize
+    requires { ⌜ Problem n start goal (now tails) (now heads) (now weights) (now «first_out») (now «first_in») (now «next_in») (now overall) ⌝ }
+    requires { ⌜ Filled n slots (graph (now tails) (now heads) (now weights)) start rank (now work) count ⌝ }
+    requires { ⌜ Due n (graph (now tails) (now heads) (now weights)) start goal slots limit (entries n (now work) count) rank ⌝ }
+    ensures { λ r. ⌜ Changed n slots (graph (now (tails .entry)) (now (heads .entry)) (now (weights .entry))) start (rank + 1) (now (work .entry)) count (now (work .exit)) r ⌝ }
+    ensures { λ r. ⌜ Searching n (graph (now (tails .entry)) (now (heads .entry)) (now (weights .entry))) start goal slots limit (entries n (now (work .exit)) r) (rank + 1) [] ⌝ }
+{
+    let mut used = [0u8; 201];
+    let mut barred = [0u8; 201];
+    let mut path = [0u16; 200];
+    let places = n + 1;
+    split_in(
+        tails,
+        heads,
+        weights,
+        first_out,
+        first_in,
+        next_in,
+        start,
+        goal,
+        overall,
+        &mut used[..places],
+        &mut barred[..places],
+        &mut path[..n],
+        work,
+        n,
+        slots,
+        count,
+        limit,
+        rank,
+    )
 }

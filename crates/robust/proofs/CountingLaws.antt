@@ -28,7 +28,7 @@ use Rattle.candidates.specs.Routes.{routes, route-at, Rooted}
 use Rattle.candidates.proofs.EntryLaws.{kept-readable, readable-less, length-entries, entries-at}
 use Rattle.candidates.proofs.RootedLaws.{family-rooted, route-at-entries}
 use Rattle.candidates.proofs.RouteLaws.{length-routes}
-use Rattle.ranking.specs.Ranking.{Problem, Due, Changed, Blank, Begins}
+use Rattle.ranking.specs.Ranking.{Problem, Due, Changed, Begins}
 use Rattle.branching.specs.Star.{longest}
 use Rattle.ranking.specs.State.{Beyond, Searching}
 use Rattle.ranking.proofs.DueLaws.{due-rooted}
@@ -39,10 +39,6 @@ use Rattle.ranking.proofs.StateLaws.{entry-cost, length-done, next-is-path, sea
 use Rattle.robust.specs.Leader.{Leads, Leading}
 use Rattle.robust.specs.Counting.{Counting, Outlook, Ended}
 use Rattle.robust.proofs.LeaderLaws.{going-none, going-more, settled-rest, open-answer}
-
--- the places for nodes, with the same flags and a path of the same length
-pub blank-same : {n : ℕ} {used used′ bars bars′ path path′ : List ℕ} → Blank n used bars path → used′ ≡ used → bars′ ≡ bars → length path′ ≡ length path → Blank n used′ bars′ path′
-blank-same B e f z = rw (e, f) (record { idle = B .idle; used-long = B .used-long; path-long = omega (arith, B .path-long) })
 
 -- the last test of whether a path is due
 pub outlook-last : {n count j limit wanted : ℕ} {w : List ℕ} → j < count → entry-at n w j .cost < limit → Outlook n w count j limit wanted (ltb j wanted)

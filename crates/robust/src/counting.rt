@@ -4,6 +4,7 @@ ghost use Prim.Native.Nat.{_+_, _≤_, _<_, max};
 ghost use lib.ListN.{length};
 ghost use Rattle.terms.specs.Network.{column};
 ghost use Rattle.terms.specs.Paths.{Path};
+ghost use Rattle.terms.specs.Regret.{figure, worst};
 ghost use Rattle.candidates.specs.Slots.{entry-at};
 ghost use Rattle.candidates.specs.Keeping.{Readable};
 ghost use Rattle.candidates.specs.Routes.{route-at, Rooted};
@@ -13,6 +14,7 @@ ghost use Rattle.robust.specs.Counting.{Priced, Counted, Outlook};
 use candidates::cost_at;
 use candidates::lay_out;
 use candidates::length_at;
+use regret::Measure;
 use regret::measure;
 
 // The earliest path with the least figure of those counted: its place among the ranked paths, its
@@ -55,8 +57,33 @@ pub fn due(
     place < wanted
 }
 
-// Counts the path at the place `rank`, which is the next: it is laid out and measured, and leads from
-// now on if its figure is smaller than the leader's.
+// The figure and the worst column of the path at the place `rank`, which is laid out in `path`.
+fn measure_at(
+    tails: &[u16],
+    heads: &[u16],
+    first_out: &[u16],
+    costs: &[u32],
+    bests: &[u64],
+    work: &[u32],
+    n: usize,
+    start: u16,
+    goal: usize,
+    rank: usize,
+    path: &mut [u16],
+) -> Measure
+    requires { ⌜ Priced n start goal (now tails) (now heads) (now «first_out») (now costs) (now bests) ⌝ }
+    requires { ⌜ Ends (n + 1) start goal × (n ≤ length (now path)) ⌝ }
+    requires { ⌜ Rooted n (now work) rank × Path (column (network n (length (now bests)) (now tails) (now heads) (now costs)) 1) start goal (route-at start n (now work) rank) ⌝ }
+    ensures { λ r. ⌜ r .figure ≡ figure (network n (length (now (bests .entry))) (now (tails .entry)) (now (heads .entry)) (now (costs .entry))) start goal (route-at start n (now (work .entry)) rank) ⌝ }
+    ensures { λ r. ⌜ r .worst ≡ worst (network n (length (now (bests .entry))) (now (tails .entry)) (now (heads .entry)) (now (costs .entry))) start goal (route-at start n (now (work .entry)) rank) ⌝ }
+{
+    let len = length_at(work, n, rank);
+    lay_out(work, n, rank, len, start, path);
+    measure(tails, heads, first_out, costs, bests, n, &path[..len])
+}
+
+// Counts the path at the place `rank`, which is the next: it is measured, and leads from now on if its
+// figure is smaller than the leader's.
 pub fn count_path(
     tails: &[u16],
     heads: &[u16],
@@ -69,17 +96,26 @@ pub fn count_path(
     goal: usize,
     rank: usize,
     leader: Leader,
-    path: &mut [u16],
-    arcs: &mut [u16],
 ) -> Leader
     requires { ⌜ Priced n start goal (now tails) (now heads) (now «first_out») (now costs) (now bests) ⌝ }
-    requires { ⌜ Ends (n + 1) start goal × (n ≤ length (now path)) × (n ≤ length (now arcs) + 1) ⌝ }
+    requires { ⌜ Ends (n + 1) start goal ⌝ }
     requires { ⌜ Rooted n (now work) rank × Path (column (network n (length (now bests)) (now tails) (now heads) (now costs)) 1) start goal (route-at start n (now work) rank) ⌝ }
     ensures { λ r. ⌜ Counted (network n (length (now (bests .entry))) (now (tails .entry)) (now (heads .entry)) (now (costs .entry))) start goal (route-at start n (now (work .entry)) rank) rank leader r ⌝ }
 {
-    let len = length_at(work, n, rank);
-    lay_out(work, n, rank, len, start, path);
-    let found = measure(tails, heads, first_out, costs, bests, n, &path[..len], arcs);
+    let mut path = [0u16; 200];
+    let found = measure_at(
+        tails,
+        heads,
+        first_out,
+        costs,
+        bests,
+        work,
+        n,
+        start,
+        goal,
+        rank,
+        &mut path,
+    );
     if found.figure < leader.figure {
         return Leader {
             place: rank,

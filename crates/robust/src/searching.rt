@@ -7,7 +7,7 @@ ghost use Rattle.terms.specs.Robust.{robust};
 ghost use Rattle.labels.specs.Arcs.{graph};
 ghost use Rattle.candidates.specs.Slots.{entry-at};
 ghost use Rattle.candidates.specs.Keeping.{Readable};
-ghost use Rattle.ranking.specs.Ranking.{Problem, Space, Blank};
+ghost use Rattle.ranking.specs.Ranking.{Problem, Space};
 ghost use Rattle.regret.specs.Columns.{network};
 ghost use Rattle.robust.specs.Counting.{Priced, InColumn};
 ghost use Rattle.robust.specs.Verdict.{Judged, Decided};
@@ -76,108 +76,7 @@ fn judge(work: &[u32], n: usize, count: usize, counted: usize, best: u64, leader
 
 // Ranks and counts paths in the ranking order of the column until the rule holds, or as many as wanted
 // are counted. What is left out on the way costs too much to count or to be the floor: at least the
-// column's best and the least figure so far. No node is flagged, before and after.
-fn search_in(
-    tails: &[u16],
-    heads: &[u16],
-    weights: &[u32],
-    first_out: &[u16],
-    first_in: &[u16],
-    next_in: &[u16],
-    start: u16,
-    goal: usize,
-    overall: &[u64],
-    used: &mut [u8],
-    barred: &mut [u8],
-    path: &mut [u16],
-    arcs: &mut [u16],
-    costs: &[u32],
-    bests: &[u64],
-    work: &mut [u32],
-    n: usize,
-    column: usize,
-    wanted: usize,
-) -> Verdict
-    requires { ⌜ Problem n start goal (now tails) (now heads) (now weights) (now «first_out») (now «first_in») (now «next_in») (now overall) ⌝ }
-    requires { ⌜ Space n (wanted + 1) (now work) ⌝ }
-    requires { ⌜ Blank n (now used) (now barred) (now path) ⌝ }
-    requires { ⌜ Priced n start goal (now tails) (now heads) (now «first_out») (now costs) (now bests) ⌝ }
-    requires { ⌜ InColumn column (length (now bests)) (now tails) (now weights) (now costs) ⌝ }
-    requires { ⌜ (1 ≤ wanted) × (n ≤ length (now arcs) + 1) × (1 ≤ length (ranked n (graph (now tails) (now heads) (now weights)) start goal)) ⌝ }
-    ensures { λ _. ⌜ (now (used .exit) ≡ now (used .entry)) × (now (barred .exit) ≡ now (barred .entry)) ⌝ }
-    ensures { λ _. ⌜ drop ((wanted + 1) * (n + 16)) (now (work .exit)) ≡ drop ((wanted + 1) * (n + 16)) (now (work .entry)) ⌝ }
-    ensures { λ r. ⌜ Decided n start (now (work .exit)) (robust (network n (length (now (bests .entry))) (now (tails .entry)) (now (heads .entry)) (now (costs .entry))) column start goal wanted) r ⌝ }
-{
-    let best = bests[column - 1];
-    let slots = wanted + 1;
-    let mut count = begin(
-        tails,
-        heads,
-        weights,
-        first_out,
-        first_in,
-        next_in,
-        start,
-        goal,
-        overall,
-        used,
-        barred,
-        path,
-        work,
-        n,
-        slots,
-    );
-    let mut leader = Leader {
-        place: 0,
-        figure: FAR - best,
-        worst: 0,
-    };
-    let mut j = 0;
-    while due(work, n, count, j, best, leader.figure, wanted) {
-        leader = count_path(
-            tails,
-            heads,
-            first_out,
-            costs,
-            bests,
-            work,
-            n,
-            start,
-            goal,
-            j,
-            leader,
-            path,
-            arcs,
-        );
-        // the path that is ranked costs less than the limit, also where its own deviation reaches the
-        // least figure
-        let limit = larger(best + leader.figure, cost_at(work, n, j) + 1);
-        count = split(
-            tails,
-            heads,
-            weights,
-            first_out,
-            first_in,
-            next_in,
-            start,
-            goal,
-            overall,
-            used,
-            barred,
-            path,
-            work,
-            n,
-            slots,
-            count,
-            limit,
-            j,
-        );
-        j += 1;
-    }
-    judge(work, n, count, j, best, leader)
-}
-
-// The same, with room made for the flags, a path and its arcs.
+// column's best and the least figure so far.
 pub fn search(
     tails: &[u16],
     heads: &[u16],
@@ -203,12 +102,9 @@ pub fn search(
     ensures { λ _. ⌜ drop ((wanted + 1) * (n + 16)) (now (work .exit)) ≡ drop ((wanted + 1) * (n + 16)) (now (work .entry)) ⌝ }
     ensures { λ r. ⌜ Decided n start (now (work .exit)) (robust (network n (length (now (bests .entry))) (now (tails .entry)) (now (heads .entry)) (now (costs .entry))) column start goal wanted) r ⌝ }
 {
-    let mut used = [0u8; 201];
-    let mut barred = [0u8; 201];
-    let mut path = [0u16; 200];
-    let mut arcs = [0u16; 200];
-    let places = n + 1;
-    search_in(
+    let best = bests[column - 1];
+    let slots = wanted + 1;
+    let mut count = begin(
         tails,
         heads,
         weights,
@@ -218,15 +114,51 @@ pub fn search(
         start,
         goal,
         overall,
-        &mut used[..places],
-        &mut barred[..places],
-        &mut path[..n],
-        &mut arcs[..n],
-        costs,
-        bests,
         work,
         n,
-        column,
-        wanted,
-    )
+        slots,
+    );
+    let mut leader = Leader {
+        place: 0,
+        figure: FAR - best,
+        worst: 0,
+    };
+    let mut j = 0;
+    while due(work, n, count, j, best, leader.figure, wanted) {
+        leader = count_path(
+            tails,
+            heads,
+            first_out,
+            costs,
+            bests,
+            work,
+            n,
+            start,
+            goal,
+            j,
+            leader,
+        );
+        // the path that is ranked costs less than the limit, also where its own deviation reaches the
+        // least figure
+        let limit = larger(best + leader.figure, cost_at(work, n, j) + 1);
+        count = split(
+            tails,
+            heads,
+            weights,
+            first_out,
+            first_in,
+            next_in,
+            start,
+            goal,
+            overall,
+            work,
+            n,
+            slots,
+            count,
+            limit,
+            j,
+        );
+        j += 1;
+    }
+    judge(work, n, count, j, best, leader)
 }

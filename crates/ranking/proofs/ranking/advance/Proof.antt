@@ -1,5 +1,4 @@
 -- `ranking::advance`: the last path that is wanted is not split. Assumes nothing.
-use mathlib.Core.Path.{refl}
 use mathlib.Core.List.{[]}
 use Rattle.terms.specs.Network.{Graph}
 use Rattle.labels.specs.Arcs.{graph}
@@ -12,8 +11,8 @@ use borrow.Author.Needs.{needs}
 use Rattle.ranking.proofs.ranking.advance.Statement.{statement}
 use Rattle.ranking.proofs.ranking.advance.Tie as tie
 
-abbrev start : tie.After-slice-known4 → tie.Start
-start c = c .before .before .before .before .before .before .before .before .before .before .before
+abbrev start : tie.After-slice-known → tie.Start
+start c = c .before .before .before .before .before .before .before .before
 
 abbrev net : tie.Start → Graph
 net s = graph (s .args .tails .now) (s .args .heads .now) (s .args .weights .now)
@@ -25,7 +24,7 @@ filled : (s : tie.Start) → Filled (s .args .n) (s .args .slots) (net s) (s .ar
 filled s = s .pre .1 .0
 
 searching : (s : tie.Start) → Searching (s .args .n) (net s) (s .args .start) (s .args .goal) (s .args .slots) far (entries (s .args .n) (s .args .work .now) (s .args .count)) (s .args .rank) []
-searching s = s .pre .1 .1 .1 .1
+searching s = s .pre .1 .1 .1
 
 add-if1 : tie.Need-add-if1
 add-if1 c = search needs
@@ -33,27 +32,18 @@ add-if1 c = search needs
 returns : tie.Need-returns
 returns c = let s = start (c .before) in
     let F = filled s in
-    let h = s .pre .1 .1 .1 .0 in
-    (refl, (refl, (last-changed (problem s) F h (searching s), last-stage (problem s) F h (searching s) (c .if1 .taken))))
+    let h = s .pre .1 .1 .0 in
+    (last-changed (problem s) F h (searching s), last-stage (problem s) F h (searching s) (c .if1 .taken))
 
 split-requires : tie.Need-split-requires
-split-requires c κs = let s = start (c .before .before .before .before .before) in
-    (problem s, (filled s, (s .pre .1 .1 .0, due-next (problem s) (filled s) (s .pre .1 .1 .1 .0) (searching s))))
+split-requires c κs = let s = start (c .before .before) in
+    (problem s, (filled s, due-next (problem s) (filled s) (s .pre .1 .1 .0) (searching s)))
 
 same-length : tie.Need-same-length
 same-length c = search needs
 
-same-length-2 : tie.Need-same-length-2
-same-length-2 c = search needs
-
-same-length-3 : tie.Need-same-length-3
-same-length-3 c = search needs
-
-same-length-4 : tie.Need-same-length-4
-same-length-4 c = search needs
-
 returns-2 : tie.Need-returns-2
-returns-2 c = let E = c .before .before .before .before .before .before .before .before .split .ensures in (E .0, (E .1 .0, (E .1 .1 .0, Stage.going (E .1 .1 .1))))
+returns-2 c = let E = c .before .before .split .ensures in (E .0, Stage.going (E .1))
 
 pub advance-spec : {M : Type 1} → statement M
 advance-spec =
@@ -63,7 +53,4 @@ advance-spec =
     returns
     split-requires
     same-length
-    same-length-2
-    same-length-3
-    same-length-4
     returns-2)

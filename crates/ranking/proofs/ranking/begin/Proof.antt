@@ -1,83 +1,65 @@
--- `ranking::begin`: the branch of all paths is looked into, with no entry yet. Assumes nothing.
+-- `ranking::begin` lends parts of local arrays: flags for the nodes, and places for a path. Assumes nothing.
+use Prim.Native.Nat.{_+_, _≤_}
 use native.Mathlib.Omega.{arith}
-use lib.ListN.{length-set}
-use Rattle.ranking.specs.Ranking.{Problem, Space, Blank}
-use Rattle.ranking.proofs.RankedLaws.{filled-none, first-deviation, first-cleared, begun}
+use mathlib.Core.Path.{sym}
 use borrow.Author.Needs.{needs}
+use Rattle.terms.proofs.RoomLaws.{part-long}
+use Rattle.ranking.proofs.ProblemLaws.{problem-few, blank-parts}
 use Rattle.ranking.proofs.ranking.begin.Statement.{statement}
 use Rattle.ranking.proofs.ranking.begin.Tie as tie
 
-abbrev start : tie.After-slice-known3 → tie.Start
-start c = c .before .before .before .before .before .before .before .before .before .before .before
+abbrev entry : tie.After-slice-known → tie.Start
+entry c = c .before .before .before .before .before .before .before .before
 
-abbrev entry : tie.After-reset → tie.Start
-entry c = start (c .before .before)
+few : (c : tie.After-slice-known) → entry c .args .n ≤ 200
+few c = problem-few (entry c .pre .0)
 
-abbrev freed : tie.After-consider → tie.After-reset
-freed c = c .before .before .before .before .before .before
+places : (c : tie.After-slice-known) → entry c .args .n + 1 ≤ 201
+places c = omega (arith, few c)
 
-abbrev looked : tie.After-slice-known7 → tie.After-consider
-looked c = c .before .before .before .before .before .before
+add-places : tie.Need-add-places
+add-places c = omega (arith, few c)
 
-problem : (s : tie.Start) → Problem (s .args .n) (s .args .start) (s .args .goal) (s .args .tails .now) (s .args .heads .now) (s .args .weights .now) (s .args .first-out .now) (s .args .first-in .now) (s .args .next-in .now) (s .args .overall .now)
-problem s = s .pre .0
+array-borrow-prefix-used : tie.Need-array-borrow-prefix-used
+array-borrow-prefix-used c = places c
 
-space : (s : tie.Start) → Space (s .args .n) (s .args .slots) (s .args .work .now)
-space s = s .pre .1 .0
+slice-aggregate-begin-in : tie.Need-slice-aggregate-begin-in
+slice-aggregate-begin-in c = sym (part-long 201 _ (places (c .before)))
 
-blank : (s : tie.Start) → Blank (s .args .n) (s .args .used .now) (s .args .barred .now) (s .args .path .now)
-blank s = s .pre .1 .1
+array-share-prefix-barred : tie.Need-array-share-prefix-barred
+array-share-prefix-barred c = places (c .before)
 
-reset-requires : tie.Need-reset-requires
-reset-requires c κs = search needs
+slice-aggregate-begin-in-2 : tie.Need-slice-aggregate-begin-in-2
+slice-aggregate-begin-in-2 c = sym (part-long 201 _ (places (c .before .before)))
 
-slice-write-path : tie.Need-slice-write-path
-slice-write-path c = search needs
+array-borrow-prefix-path : tie.Need-array-borrow-prefix-path
+array-borrow-prefix-path c = few (c .before .before)
 
-slice-write-used : tie.Need-slice-write-used
-slice-write-used c = search needs
+slice-aggregate-begin-in-3 : tie.Need-slice-aggregate-begin-in-3
+slice-aggregate-begin-in-3 c = sym (part-long 200 _ (few (c .before .before .before)))
 
-consider-requires : tie.Need-consider-requires
-consider-requires c κs = let x = c .before .before .before .before .before in
-    let s = entry x in
-    let P = problem s in
-    (P, (filled-none P (space s) (x .reset .ensures .0), first-deviation P (blank s) (x .reset .last .0)))
-
-slice-write-used-2 : tie.Need-slice-write-used-2
-slice-write-used-2 c = let x = looked c in
-    let s = entry (freed x) in
-    omega (arith, x .consider .kept .1 .1 .1 .1 .1 .1 .1 .1 .1 .0, length-set (s .args .used .now) (s .args .start) 1, blank s .used-long, problem s .start-to)
+begin-in-requires : tie.Need-begin-in-requires
+begin-in-requires c κs = let e = c .before .before .before .before in
+    let p = entry e .pre in
+    (p .0, (p .1, blank-parts (few e)))
 
 same-length : tie.Need-same-length
-same-length c = let x = looked c in
-    let s = entry (freed x) in
-    omega (arith, x .consider .kept .1 .1 .1 .1 .1 .1 .1 .1 .1 .0, length-set (s .args .used .now) (s .args .start) 1, length-set (x .consider .last .1 .1 .1 .1 .1 .1 .1 .1 .1 .0) (s .args .start) 0)
-
-same-length-2 : tie.Need-same-length-2
-same-length-2 c = let x = looked c in
-    let s = entry (freed x) in
-    omega (arith, x .consider .kept .1 .1 .1 .1 .1 .1 .1 .1 .1 .1 .1 .0, length-set (s .args .path .now) 0 (s .args .start))
-
-same-length-3 : tie.Need-same-length-3
-same-length-3 c = search needs
+same-length c = search needs
 
 returns : tie.Need-returns
-returns c = let x = looked c in
-    let y = freed x in
-    let s = entry y in
-    let E = x .consider .ensures in
-    (first-cleared (problem s) (blank s) (E .0 .flags), begun (problem s) (space s) (y .reset .ensures .0) (y .reset .ensures .1) (E .1 .0) (E .1 .1))
+returns c = search needs
 
 pub begin-spec : {M : Type 1} → statement M
 begin-spec =
     tie.close
     (tie.spec
-    reset-requires
-    slice-write-path
-    slice-write-used
-    consider-requires
-    slice-write-used-2
+    add-places
+    array-borrow-prefix-used
+    slice-aggregate-begin-in
+    array-share-prefix-barred
+    slice-aggregate-begin-in-2
+    array-borrow-prefix-path
+    slice-aggregate-begin-in-3
+    begin-in-requires
     same-length
-    same-length-2
-    same-length-3
     returns)

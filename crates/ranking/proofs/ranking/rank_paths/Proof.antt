@@ -1,66 +1,97 @@
--- `ranking::rank_paths` lends parts of local arrays: flags for the nodes, and places for a path. Assumes nothing.
-use Prim.Native.Nat.{_+_, _≤_}
+-- `ranking::rank_paths`. The loop: j paths are ranked, and no branch is waiting, or no more paths are wanted. Assumes nothing.
+use Prim.Native.Nat.{_+_, _-_, _*_}
 use native.Mathlib.Omega.{arith}
-use mathlib.Core.Path.{sym}
+use mathlib.Core.Path.{_≡_, refl, _∙_}
+use lib.ListN.{length, drop}
 use borrow.Author.Needs.{needs}
-use Rattle.terms.proofs.RoomLaws.{part-long, part-zero}
-use Rattle.ranking.proofs.ProblemLaws.{problem-few}
+use Rattle.terms.specs.Network.{Graph}
+use Rattle.labels.specs.Arcs.{graph}
+use Rattle.candidates.specs.Slots.{entries}
+use Rattle.candidates.proofs.EntryLaws.{length-entries}
+use Rattle.ranking.specs.Ranking.{Problem, Filled, Stage}
+use Rattle.ranking.proofs.RankedLaws.{stage-going, all-ranked}
 use Rattle.ranking.proofs.ranking.rank_paths.Statement.{statement}
 use Rattle.ranking.proofs.ranking.rank_paths.Tie as tie
 
-abbrev entry : tie.After-slice-known → tie.Start
-entry c = c .before .before .before .before .before .before .before .before
+abbrev Inv-loop : tie.InvT-loop
+Inv-loop tails heads weights first-out first-in next-in start goal overall work₀ n slots count₀ j₀ work count j =
+    Filled n slots (graph tails heads weights) start j work count × Stage n (graph tails heads weights) start goal slots (entries n work count) j × (drop (slots * (n + 16)) work ≡ drop (slots * (n + 16)) work₀) × (length work ≡ length work₀)
 
-few : (c : tie.After-slice-known) → entry c .args .n ≤ 200
-few c = problem-few (entry c .pre .0)
+abbrev μ-loop : tie.MeasureT-loop
+μ-loop tails heads weights first-out first-in next-in start goal overall work₀ n slots count₀ j₀ work count j =
+    slots - j
 
-places : (c : tie.After-slice-known) → entry c .args .n + 1 ≤ 201
-places c = omega (arith, few c)
+-- the start of the function
+abbrev entry : tie.After-begin Inv-loop μ-loop → tie.Start Inv-loop μ-loop
+entry c = c .before .before .before .before .before .before .before .before .before .before
 
-add-places : tie.Need-add-places
-add-places c = omega (arith, problem-few (c .before .before .before .before .before .before .before .before .pre .0))
+abbrev first : tie.After-slice-known2 Inv-loop μ-loop → tie.After-begin Inv-loop μ-loop
+first c = c .before .before
 
-array-borrow-prefix-used : tie.Need-array-borrow-prefix-used
-array-borrow-prefix-used c = places c
+abbrev net : tie.Start Inv-loop μ-loop → Graph
+net s = graph (s .args .tails .now) (s .args .heads .now) (s .args .weights .now)
 
-slice-aggregate-rank-in : tie.Need-slice-aggregate-rank-in
-slice-aggregate-rank-in c = sym (part-long 201 _ (places (c .before)))
+problem : (s : tie.Start Inv-loop μ-loop) → Problem (s .args .n) (s .args .start) (s .args .goal) (s .args .tails .now) (s .args .heads .now) (s .args .weights .now) (s .args .first-out .now) (s .args .first-in .now) (s .args .next-in .now) (s .args .overall .now)
+problem s = s .pre .0
 
-array-borrow-prefix-barred : tie.Need-array-borrow-prefix-barred
-array-borrow-prefix-barred c = places (c .before)
+begin-requires : tie.Need-begin-requires Inv-loop μ-loop
+begin-requires c κs = search needs
 
-slice-aggregate-rank-in-2 : tie.Need-slice-aggregate-rank-in-2
-slice-aggregate-rank-in-2 c = sym (part-long 201 _ (places (c .before .before)))
+loop-holds : tie.Need-loop-holds Inv-loop μ-loop
+loop-holds c = let G = first c .begin .ensures in (G .filled, Stage.going (G .search), refl, refl)
 
-array-borrow-prefix-path : tie.Need-array-borrow-prefix-path
-array-borrow-prefix-path c = few (c .before .before)
+advance-requires : tie.Need-advance-requires Inv-loop μ-loop
+advance-requires c κs = let i = c .before in
+    let l = i .before in
+    let s = entry (first (l .before)) in
+    let v = l .loop .inv in
+    (problem s, (v .0, (i .loop-test .taken, stage-going (problem s) (v .0) (i .loop-test .taken) (v .1))))
 
-slice-aggregate-rank-in-3 : tie.Need-slice-aggregate-rank-in-3
-slice-aggregate-rank-in-3 c = sym (part-long 200 _ (few (c .before .before .before)))
+-- in the loop
+abbrev inner : tie.After-advance Inv-loop μ-loop → tie.In-loop Inv-loop μ-loop
+inner x = x .before .before
 
-rank-in-requires : tie.Need-rank-in-requires
-rank-in-requires c κs = let e = c .before .before .before .before in
-    let p = entry e .pre in
-    let k = part-long 201 _ (places e) in
-    (p .0, (p .1, record { idle = record { barred-long = k; none-used = part-zero 201 (entry e .args .n + 1); none-barred = part-zero 201 (entry e .args .n + 1) }; used-long = k; path-long = omega (arith, part-long 200 _ (few e)) }))
+add-j : tie.Need-add-j Inv-loop μ-loop
+add-j c = let i = inner (c .before .before) in omega (arith, i .loop-test .taken, i .before .loop .inv .0 .kept .upto, i .before .loop .inv .0 .few)
 
-same-length : tie.Need-same-length
-same-length c = search needs
+loop-less : tie.Need-loop-less Inv-loop μ-loop
+loop-less c = let i = inner (c .before .before) in omega (arith, i .loop-test .taken, i .before .loop .inv .0 .kept .upto)
 
-returns : tie.Need-returns
-returns c = search needs
+loop-again : tie.Need-loop-again Inv-loop μ-loop
+loop-again c = let x = c .before .before in
+    let v = inner x .before .loop .inv in
+    let F = v .0 in
+    let E = x .advance .ensures in
+    let C = E .0 in (
+      record { some = F .some; few = F .few; kept = C .kept; entered = C .entered },
+      E .1,
+      C .beyond ∙ v .2,
+      x .advance .kept .1 .1 .1 .1 .1 .1 .1 .1 .1 .0 ∙ v .3,
+    )
+
+same-length : tie.Need-same-length Inv-loop μ-loop
+same-length c = omega arith
+
+returns : tie.Need-returns Inv-loop μ-loop
+returns c = let l = c .before in
+    let x = first (l .before) in
+    let s = entry x in
+    let v = l .loop .inv in
+    let F = v .0 in
+    let z : l .loop .j ≡ l .loop .count = omega (arith, c .loop-test .left, F .entered .border, length-entries (s .args .n) (l .loop .work) (l .loop .count)) in
+    all-ranked (problem s) F z (v .1) (v .2 ∙ x .begin .ensures .beyond)
 
 pub rank-paths-spec : {M : Type 1} → statement M
 rank-paths-spec =
     tie.close
     (tie.spec
-    add-places
-    array-borrow-prefix-used
-    slice-aggregate-rank-in
-    array-borrow-prefix-barred
-    slice-aggregate-rank-in-2
-    array-borrow-prefix-path
-    slice-aggregate-rank-in-3
-    rank-in-requires
+    Inv-loop
+    μ-loop
+    begin-requires
+    loop-holds
+    advance-requires
+    add-j
+    loop-less
+    loop-again
     same-length
     returns)

@@ -122,7 +122,7 @@ returns c = let l = c .before in
     let s = entry l in
     let G = l .loop .inv .0 in
     let z : s .args .shared ≡ l .loop .d = omega (arith, going-shared (filled s) G, s .pre .1 .1 .1, G .place .lower, c .loop-test .left) in
-    (rw z (place l .laid), (G .bars-same, (G .changed, going-end (filled s) G (sym z ∙ s .pre .1 .1 .1))))
+    (G .changed, going-end (filled s) G (sym z ∙ s .pre .1 .1 .1))
 
 pub deviations-spec : {M : Type 1} → statement M
 deviations-spec =

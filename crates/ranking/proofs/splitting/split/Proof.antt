@@ -1,176 +1,65 @@
--- `splitting::split`: the path is laid out, its parts are looked into, and its flags are cleared. Assumes nothing.
-use Prim.Native.Nat.{ℕ, _+_}
+-- `splitting::split` lends parts of local arrays: flags for the nodes, and places for a path. Assumes nothing.
+use Prim.Native.Nat.{_+_, _≤_}
 use native.Mathlib.Omega.{arith}
-use mathlib.Core.Path.{_≡_, _∙_, ap}
-use mathlib.Core.List.{List}
-use lib.ListN.{length, getD}
-use Rattle.terms.specs.Network.{Graph}
-use Rattle.labels.specs.Arcs.{graph}
-use Rattle.candidates.specs.Slots.{Entry, none, entries}
-use Rattle.candidates.specs.Routes.{size}
-use Rattle.branching.specs.Found.{Idle}
-use Rattle.branching.specs.Laid.{Laid}
-use Rattle.ranking.specs.Ranking.{Problem, Filled, Along, Due}
-use Rattle.ranking.proofs.DueLaws.{due-filled, due-readable, due-rooted, due-entry, due-short, due-some, due-waiting, due-markable, due-along, flags-cleared}
+use mathlib.Core.Path.{sym}
 use borrow.Author.Needs.{needs}
+use Rattle.terms.proofs.RoomLaws.{part-long}
+use Rattle.ranking.proofs.ProblemLaws.{problem-few, blank-parts}
 use Rattle.ranking.proofs.splitting.split.Statement.{statement}
 use Rattle.ranking.proofs.splitting.split.Tie as tie
 
-abbrev start : tie.After-slice-known4 → tie.Start
-start c = c .before .before .before .before .before .before .before .before .before .before .before
+abbrev entry : tie.After-slice-known → tie.Start
+entry c = c .before .before .before .before .before .before .before .before
 
-abbrev entry : tie.After-shared-at → tie.Start
-entry c = start (c .before .before)
+few : (c : tie.After-slice-known) → entry c .args .n ≤ 200
+few c = problem-few (entry c .pre .0)
 
-abbrev first : tie.After-tail-length-at → tie.After-shared-at
-first c = c .before .before
+places : (c : tie.After-slice-known) → entry c .args .n + 1 ≤ 201
+places c = omega (arith, few c)
 
-abbrev measured : tie.After-lay-out → tie.After-tail-length-at
-measured c = c .before .before .before
+add-places : tie.Need-add-places
+add-places c = omega (arith, few c)
 
-abbrev laid : tie.After-mark → tie.After-lay-out
-laid c = c .before .before .before .before .before
+array-borrow-prefix-used : tie.Need-array-borrow-prefix-used
+array-borrow-prefix-used c = places c
 
-abbrev flagged : tie.After-cost-at → tie.After-mark
-flagged c = c .before .before .before .before
+slice-aggregate-split-in : tie.Need-slice-aggregate-split-in
+slice-aggregate-split-in c = sym (part-long 201 _ (places (c .before)))
 
-abbrev counted : tie.After-deviations → tie.After-cost-at
-counted c = c .before .before .before .before .before
+array-borrow-prefix-barred : tie.Need-array-borrow-prefix-barred
+array-borrow-prefix-barred c = places (c .before)
 
-abbrev looked : tie.After-unmark-arg2 → tie.After-deviations
-looked c = c .before .before .before .before .before .before .before .before .before .before
+slice-aggregate-split-in-2 : tie.Need-slice-aggregate-split-in-2
+slice-aggregate-split-in-2 c = sym (part-long 201 _ (places (c .before .before)))
 
--- what is known at the start
-abbrev net : tie.Start → Graph
-net s = graph (s .args .tails .now) (s .args .heads .now) (s .args .weights .now)
+array-borrow-prefix-path : tie.Need-array-borrow-prefix-path
+array-borrow-prefix-path c = few (c .before .before)
 
-abbrev kept-entries : tie.Start → List Entry
-kept-entries s = entries (s .args .n) (s .args .work .now) (s .args .count)
+slice-aggregate-split-in-3 : tie.Need-slice-aggregate-split-in-3
+slice-aggregate-split-in-3 c = sym (part-long 200 _ (few (c .before .before .before)))
 
-abbrev top : tie.Start → Entry
-top s = getD (kept-entries s) (s .args .rank) none
-
-problem : (s : tie.Start) → Problem (s .args .n) (s .args .start) (s .args .goal) (s .args .tails .now) (s .args .heads .now) (s .args .weights .now) (s .args .first-out .now) (s .args .first-in .now) (s .args .next-in .now) (s .args .overall .now)
-problem s = s .pre .0
-
-filled : (s : tie.Start) → Filled (s .args .n) (s .args .slots) (net s) (s .args .start) (s .args .rank) (s .args .work .now) (s .args .count)
-filled s = s .pre .1 .0
-
-idle : (s : tie.Start) → Idle (s .args .n + 1) (s .args .used .now) (s .args .barred .now)
-idle s = s .pre .1 .1 .0 .idle
-
-used-long : (s : tie.Start) → length (s .args .used .now) ≡ s .args .n + 1
-used-long s = s .pre .1 .1 .0 .used-long
-
-due : (s : tie.Start) → Due (s .args .n) (net s) (s .args .start) (s .args .goal) (s .args .slots) (s .args .limit) (kept-entries s) (s .args .rank)
-due s = s .pre .1 .1 .1
-
--- the path's length
-abbrev total : tie.After-tail-length-at → ℕ
-total c = first c .shared-at .result + c .tail-length-at .result
-
-shared-is : (c : tie.After-shared-at) → c .shared-at .result ≡ top (entry c) .shared
-shared-is c = let s = entry c in c .shared-at .ensures ∙ ap (λ (e : Entry). e .shared) (due-entry (problem s) (filled s) (due s))
-
-total-is : (c : tie.After-tail-length-at) → total c ≡ size (top (entry (first c)))
-total-is c =
-    let s = entry (first c) in
-    let z = c .tail-length-at .ensures ∙ ap (λ (e : Entry). length (e .tail)) (due-entry (problem s) (filled s) (due s)) in
-    omega (arith, shared-is (first c))
-
--- the path as it is laid out
-abbrev route : tie.After-lay-out → List ℕ
-route c = c .lay-out .last .1 .1 .1 .1 .1 .0
-
-abbrev marked-flags : tie.After-mark → List ℕ
-marked-flags c = c .mark .last .1 .1 .0
-
-marked-laid : (c : tie.After-mark) → let s = entry (first (measured (laid c))) in Laid (s .args .n + 1) (marked-flags c) (route (laid c)) (total (measured (laid c)))
-marked-laid c = rw (used-long (entry (first (measured (laid c))))) at (c .mark .ensures)
-
-along : (c : tie.After-cost-at) → let m = flagged c in let o = laid m in let s = entry (first (measured o)) in
-    Along (s .args .n) (net s) (s .args .start) (s .args .goal) (kept-entries s) (s .args .rank) (marked-flags m) (s .args .barred .now) (route o) (total (measured o)) (c .cost-at .result)
-along c =
-    let m = flagged c in
-    let o = laid m in
-    let x = measured o in
-    let s = entry (first x) in
-    due-along (problem s) (filled s) (due s) (total x) (s .args .path .now) (route o) (total-is x) (o .lay-out .ensures) (c .cost-at .result) (idle s) (marked-laid m) (c .cost-at .ensures ∙ ap (λ (e : Entry). e .cost) (due-entry (problem s) (filled s) (due s)))
-
-shared-at-requires : tie.Need-shared-at-requires
-shared-at-requires c κs = let s = start (c .before) in due-readable (problem s) (filled s) (due s)
-
-tail-length-at-requires : tie.Need-tail-length-at-requires
-tail-length-at-requires c κs = let s = entry (c .before) in due-readable (problem s) (filled s) (due s)
-
-add-len : tie.Need-add-len
-add-len c = let s = entry (first c) in omega (arith, total-is c, due-short (problem s) (filled s) (due s), filled s .kept .few)
-
-lay-out-requires : tie.Need-lay-out-requires
-lay-out-requires c κs = let x = c .before .before in
-    let s = entry (first x) in
-    let P = problem s in
-    let F = filled s in
-    let Q = due s in
-    (due-rooted P F Q, rw (due-entry P F Q) (omega (arith, total-is x, due-some P F Q), omega (arith, total-is x), omega (arith, total-is x, due-short P F Q, s .pre .1 .1 .0 .path-long)))
-
-mark-requires : tie.Need-mark-requires
-mark-requires c κs = let o = c .before .before .before .before in
-    let x = measured o in
-    let s = entry (first x) in
-    rw (used-long s) (due-markable (problem s) (filled s) (due s) (total x) (s .args .path .now) (route o) (total-is x) (o .lay-out .ensures) (idle s) (used-long s) (omega (arith, o .lay-out .kept .1 .1 .1 .1 .1 .0, s .pre .1 .1 .0 .path-long)))
-
-cost-at-requires : tie.Need-cost-at-requires
-cost-at-requires c κs = let s = entry (first (measured (laid (c .before .before .before)))) in due-readable (problem s) (filled s) (due s)
-
-deviations-requires : tie.Need-deviations-requires
-deviations-requires c κs = let x = c .before .before .before .before in
-    let s = entry (first (measured (laid (flagged x)))) in
-    (problem s, (due-filled (problem s) (filled s) (due s), (along x, shared-is (first (measured (laid (flagged x)))))))
-
-unmark-requires : tie.Need-unmark-requires
-unmark-requires c κs = let l = looked c .deviations .ensures .0 in rw (l .flags-long) (l, omega arith)
+split-in-requires : tie.Need-split-in-requires
+split-in-requires c κs = let e = c .before .before .before .before in
+    let p = entry e .pre in
+    (p .0, (p .1 .0, (blank-parts (few e), p .1 .1)))
 
 same-length : tie.Need-same-length
-same-length c = let u = c .before .before in
-    let d = looked (u .before) in
-    omega (arith, u .unmark .kept .1 .1 .1 .0, d .deviations .kept .1 .1 .1 .1 .1 .1 .1 .1 .1 .0, flagged (counted d) .mark .kept .1 .1 .0)
-
-same-length-2 : tie.Need-same-length-2
-same-length-2 c = search needs
-
-same-length-3 : tie.Need-same-length-3
-same-length-3 c = let u = c .before .before in
-    let d = looked (u .before) in
-    omega (arith, d .deviations .kept .1 .1 .1 .1 .1 .1 .1 .1 .1 .1 .1 .0, laid (flagged (counted d)) .lay-out .kept .1 .1 .1 .1 .1 .0)
-
-same-length-4 : tie.Need-same-length-4
-same-length-4 c = search needs
+same-length c = search needs
 
 returns : tie.Need-returns
-returns c = let u = c .before .before in
-    let d = looked (u .before) in
-    let x = measured (laid (flagged (counted d))) in
-    let s = entry (first x) in
-    let E = d .deviations .ensures in (
-      flags-cleared (idle s .none-used) (used-long s) (rw (E .0 .flags-long) at (u .unmark .ensures)),
-      (E .1 .0, (E .1 .1 .0, E .1 .1 .1 .goes-on (rw (total-is x) (due-waiting (problem s) (filled s) (due s))))),
-    )
+returns c = search needs
 
 pub split-spec : {M : Type 1} → statement M
 split-spec =
     tie.close
     (tie.spec
-    shared-at-requires
-    tail-length-at-requires
-    add-len
-    lay-out-requires
-    mark-requires
-    cost-at-requires
-    deviations-requires
-    unmark-requires
+    add-places
+    array-borrow-prefix-used
+    slice-aggregate-split-in
+    array-borrow-prefix-barred
+    slice-aggregate-split-in-2
+    array-borrow-prefix-path
+    slice-aggregate-split-in-3
+    split-in-requires
     same-length
-    same-length-2
-    same-length-3
-    same-length-4
     returns)

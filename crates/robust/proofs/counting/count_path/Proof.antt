@@ -1,147 +1,42 @@
--- `counting::count_path`: what is laid out is the path, what is measured is its figure and worst column, and the test decides who leads. Assumes nothing.
-use Prim.Native.Nat.{ℕ, suc, _+_, _-_, _≤_}
+-- `counting::count_path` lends a local array for the path, and the test decides who leads. Assumes nothing.
 use native.Mathlib.Omega.{arith}
-use mathlib.Core.Path.{_≡_, sym, _∙_, ap, subst}
-use mathlib.Core.List.{List}
+use mathlib.Core.Path.{sym, _∙_, ap}
 use borrow.Author.Needs.{needs}
-use lib.Dec.{eqb}
-use lib.ListN.{length, take, getD}
-use Rattle.terms.specs.Lists.{largest, index}
-use Rattle.terms.specs.Network.{Net, column}
-use Rattle.terms.specs.Paths.{Route, ByArcs, Path, cost}
+use lib.ListN.{length}
+use Rattle.terms.specs.Network.{Net}
 use Rattle.terms.specs.Regret.{figure, worst}
-use Rattle.candidates.specs.Slots.{entry-at, entries}
-use Rattle.candidates.specs.Routes.{route-at, Fits}
-use Rattle.candidates.proofs.RootedLaws.{rooted-fits, route-size}
-use Rattle.candidates.proofs.LayingLaws.{all-laid}
-use Rattle.regret.specs.Columns.{network, over}
-use Rattle.robust.specs.Counting.{Priced}
+use Rattle.regret.specs.Columns.{network}
 use Rattle.robust.proofs.LeaderLaws.{counted-better, counted-same}
-use Rattle.robust.proofs.PricedLaws.{two-nodes, path-any, best-below, figure-over, worst-over}
 use Rattle.robust.proofs.counting.count_path.Statement.{statement}
 use Rattle.robust.proofs.counting.count_path.Tie as tie
 
-abbrev start : tie.After-length-at → tie.Start
-start c = c .before .before .before .before .before .before .before .before .before
+abbrev start : tie.After-path → tie.Start
+start c = c .before .before .before .before .before .before .before
 
-abbrev sized : tie.After-lay-out → tie.After-length-at
-sized c = c .before .before
+abbrev measured : tie.After-struct-known2 → tie.After-measure-at
+measured c = c .before .before .before
 
-abbrev measured : tie.After-struct-known2 → tie.After-measure
-measured c = c .before .before .before .before
-
-abbrev placed : tie.After-measure → tie.After-lay-out
-placed c = c .before .before .before .before .before
-
--- the network, the path, and the places in which it is laid out
 abbrev net : tie.Start → Net
 net s = network (s .args .n) (length (s .args .bests .now)) (s .args .tails .now) (s .args .heads .now) (s .args .costs .now)
 
-abbrev route : tie.Start → Route
-route s = route-at (s .args .start) (s .args .n) (s .args .work .now) (s .args .rank)
+slice-aggregate-measure-at : tie.Need-slice-aggregate-measure-at
+slice-aggregate-measure-at c = search needs
 
-abbrev places : tie.After-lay-out → List ℕ
-places o = o .lay-out .last .1 .1 .1 .1 .1 .0
-
-priced : (s : tie.Start) → Priced (s .args .n) (s .args .start) (s .args .goal) (s .args .tails .now) (s .args .heads .now) (s .args .first-out .now) (s .args .costs .now) (s .args .bests .now)
-priced s = s .pre .0
-
-is-path : (s : tie.Start) → Path (column (net s) 1) (s .args .start) (s .args .goal) (route s)
-is-path s = s .pre .1 .1 .1
-
-fits : (s : tie.Start) → Fits (s .args .n) (entries (s .args .n) (s .args .work .now) (s .args .rank + 1)) (s .args .rank) (entry-at (s .args .n) (s .args .work .now) (s .args .rank))
-fits s = rooted-fits (s .args .n) (s .args .work .now) (s .args .rank) (s .pre .1 .1 .0)
-
-long : (k : tie.After-length-at) → k .length-at .result ≡ length (route (start k))
-long k = let s = start k in k .length-at .ensures ∙ sym (route-size (s .args .n) (s .args .work .now) (s .args .rank) (s .pre .1 .1 .0) (s .args .start))
-
-short : (k : tie.After-length-at) → k .length-at .result ≤ start k .args .n
-short k = omega (arith, k .length-at .ensures, fits (start k) .short)
-
-laid : (o : tie.After-lay-out) → take (sized o .length-at .result) (places o) ≡ route (start (sized o))
-laid o = let k = sized o in all-laid (k .length-at .result) (route (start k)) (start k .args .path .now) (places o) (long k) (o .lay-out .ensures)
-
-room : (o : tie.After-lay-out) → sized o .length-at .result ≤ length (places o)
-room o = let k = sized o in omega (arith, short k, start k .pre .1 .0 .1, o .lay-out .kept .1 .1 .1 .1 .1 .0)
-
-length-at-requires : tie.Need-length-at-requires
-length-at-requires c κs = search needs
-
-lay-out-requires : tie.Need-lay-out-requires
-lay-out-requires c κs = let k = c .before in
-    let s = start k in
-    (s .pre .1 .1 .0, (omega (arith, k .length-at .ensures, fits s .some), omega (arith, k .length-at .ensures), omega (arith, short k, s .pre .1 .0 .1)))
-
-slice-reshare-prefix-measure : tie.Need-slice-reshare-prefix-measure
-slice-reshare-prefix-measure c = room (c .before .before)
-
-slice-aggregate-measure : tie.Need-slice-aggregate-measure
-slice-aggregate-measure c = let o = c .before .before .before in long (sized o) ∙ ap length (sym (laid o))
-
-measure-requires : tie.Need-measure-requires
-measure-requires c κs = let o = c .before .before .before .before in
-    let k = sized o in
-    let s = start k in
-    let Q = priced s in
-    let p = is-path s in
-    let e = ap length (laid o) in (
-      Q .columns,
-      (
-        subst (ByArcs (column (net s) 1)) (sym (laid o)) (p .by-arcs),
-        (
-          (omega (arith, e, two-nodes (s .pre .1 .0 .0 .apart) p), omega (arith, e, long k, short k, Q .columns .arcs 1 (omega arith) (Q .columns .columns-from) .few-nodes), omega (arith, e, long k, short k, s .pre .1 .0 .2)),
-          λ u lo hi. subst (λ (l : Route). getD (s .args .bests .now) (u - 1) 0 ≤ cost (column (net s) u) l) (sym (laid o))
-              (best-below Q u lo hi (s .pre .1 .0 .0 .start-from) (omega (arith, s .pre .1 .0 .0 .start-place)) (path-any Q 1 u (omega arith) (Q .columns .columns-from) lo hi p)),
-        ),
-      ),
-    )
-
--- what was measured
-figure-is : (m : tie.After-measure) → let s = start (sized (placed m)) in m .measure .result .figure ≡ figure (net s) (s .args .start) (s .args .goal) (route s)
-figure-is m = let o = placed m in
-    let s = start (sized o) in
-    m .measure .ensures .0 ∙ ap (λ (l : Route). largest (over (net s) (s .args .bests .now) l)) (laid o) ∙ figure-over (priced s) (route s)
-
-worst-is : (m : tie.After-measure) → let s = start (sized (placed m)) in m .measure .result .worst ≡ worst (net s) (s .args .start) (s .args .goal) (route s)
-worst-is m = let o = placed m in
-    let s = start (sized o) in
-    let f = m .measure .ensures .0 ∙ ap (λ (l : Route). largest (over (net s) (s .args .bests .now) l)) (laid o) in
-    m .measure .ensures .1 ∙ ap (λ (l : Route). suc (index (eqb (m .measure .result .figure)) (over (net s) (s .args .bests .now) l))) (laid o) ∙ worst-over (priced s) (route s) f
-
-same-length : tie.Need-same-length
-same-length c = search needs
-
-same-length-2 : tie.Need-same-length-2
-same-length-2 c = search needs
+measure-at-requires : tie.Need-measure-at-requires
+measure-at-requires c κs = let p = start c .pre in
+    let Q = p .0 .columns in
+    (p .0, ((p .1 .0, omega (arith, Q .arcs 1 (omega arith) (Q .columns-from) .few-nodes)), p .1 .1))
 
 returns : tie.Need-returns
 returns c = let m = measured (c .before) in
-    let s = start (sized (placed m)) in
-    record { no-more = omega (arith, c .if1 .taken); leads = λ ps h e L. counted-better (s .args .rank) L h (figure-is m ∙ ap (figure (net s) (s .args .start) (s .args .goal)) (sym e)) (worst-is m ∙ ap (worst (net s) (s .args .start) (s .args .goal)) (sym e)) (c .if1 .taken) }
-
-same-length-3 : tie.Need-same-length-3
-same-length-3 c = search needs
-
-same-length-4 : tie.Need-same-length-4
-same-length-4 c = search needs
+    let s = start (m .before) in
+    let E = m .measure-at .ensures in
+    record { no-more = omega (arith, c .if1 .taken); leads = λ ps h e L. counted-better (s .args .rank) L h (E .0 ∙ ap (figure (net s) (s .args .start) (s .args .goal)) (sym e)) (E .1 ∙ ap (worst (net s) (s .args .start) (s .args .goal)) (sym e)) (c .if1 .taken) }
 
 returns-2 : tie.Need-returns-2
 returns-2 c = let m = measured (c .before) in
-    let s = start (sized (placed m)) in
-    record { no-more = omega arith; leads = λ ps h e L. counted-same (s .args .rank) L h (figure-is m ∙ ap (figure (net s) (s .args .start) (s .args .goal)) (sym e)) (c .if1 .left) }
+    let s = start (m .before) in
+    record { no-more = omega arith; leads = λ ps h e L. counted-same (s .args .rank) L h (m .measure-at .ensures .0 ∙ ap (figure (net s) (s .args .start) (s .args .goal)) (sym e)) (c .if1 .left) }
 
 pub count-path-spec : {M : Type 1} → statement M
-count-path-spec =
-    tie.close
-    (tie.spec
-    length-at-requires
-    lay-out-requires
-    slice-reshare-prefix-measure
-    slice-aggregate-measure
-    measure-requires
-    same-length
-    same-length-2
-    returns
-    same-length-3
-    same-length-4
-    returns-2)
+count-path-spec = tie.close (tie.spec slice-aggregate-measure-at measure-at-requires returns returns-2)
