@@ -5,7 +5,7 @@ use mathlib.Core.Path.{_≡_, refl, sym, _∙_, ap}
 use mathlib.Core.Logic.{inr}
 use mathlib.Core.List.{List, [], _∷_, List·Memᴰ·head}
 use lib.ListN.{length, take, getD, set}
-use lib.Seq.{getD-set-other, set-set, set-getD}
+use lib.Seq.{getD-set-other}
 use Rattle.terms.specs.Lists.{_∈_}
 use Rattle.terms.specs.Network.{Graph}
 use Rattle.terms.specs.Paths.{Route, cost, cost-from}
@@ -38,10 +38,6 @@ module _ {start goal : ℕ} {used barred : List ℕ} (path : List ℕ) (room : l
 
   pub start-last : getD (set path 0 start) (1 - 1) 0 ≡ start
   start-last = last-more path 0 start (laid-room laid-empty start-fresh)
-
-  -- its flag is cleared again
-  pub start-cleared : set (set used start 1) start 0 ≡ used
-  start-cleared = set-set used start 1 0 ∙ ap (set used start) (sym (idle .none-used start)) ∙ set-getD used start 0
 
 -- ---- the first path of all is the first of the ranked list, and with none the list is empty
 module _ (n : ℕ) {g : Graph} {s t : ℕ} where

@@ -1,5 +1,6 @@
 // The first of all paths: that of the branch that holds them all.
 ghost use mathlib.Core.Path.{_≡_};
+ghost use mathlib.Core.List.{[]};
 ghost use Prim.Native.Nat.{_+_, _≤_};
 ghost use lib.ListN.{length};
 ghost use Rattle.labels.specs.Arcs.{graph};
@@ -12,9 +13,8 @@ use crate::exits::least_exit;
 use crate::first::Found;
 use crate::first::first_path;
 
-// Writes the first path from start to goal into path. No node is flagged, before and after; overall
-// are the labels to the goal.
-pub fn shortest(
+// The same as below, with room for the flags, in which no node is flagged yet.
+fn shortest_in(
     tails: &[u16],
     heads: &[u16],
     weights: &[u32],
@@ -31,8 +31,7 @@ pub fn shortest(
     requires { ⌜ Network (length (now used)) (now tails) (now heads) (now weights) (now «first_out») (now «first_in») (now «next_in») ⌝ }
     requires { ⌜ Idle (length (now used)) (now used) (now barred) × (length (now used) ≤ length (now path) + 1) ⌝ }
     requires { ⌜ Ends (length (now used)) start goal ⌝ }
-    requires { ⌜ Least (graph (now tails) (now heads) (now weights)) (now used) goal (now overall) × (length (now overall) ≡ length (now used)) ⌝ }
-    ensures { λ _. ⌜ now (used .exit) ≡ now (used .entry) ⌝ }
+    requires { ⌜ Least (graph (now tails) (now heads) (now weights)) [] goal (now overall) × (length (now overall) ≡ length (now used)) ⌝ }
     ensures { λ r. ⌜ Extent 1 (now (path .exit)) r ⌝ }
     ensures { λ r. ⌜ FirstFound (graph (now (tails .entry)) (now (heads .entry)) (now (weights .entry))) start goal (everything start) (now (path .exit)) r ⌝ }
 {
@@ -40,10 +39,9 @@ pub fn shortest(
     path[0] = start;
     used[v] = 1;
     let Next::Node(y, l) = least_exit(heads, weights, first_out, v, overall, used, barred) else {
-        used[v] = 0;
         return Found::Empty;
     };
-    let found = first_path(
+    first_path(
         tails,
         heads,
         weights,
@@ -58,7 +56,43 @@ pub fn shortest(
         1,
         y,
         l,
-    );
-    used[v] = 0;
-    found
+    )
+}
+
+// Writes the first path from start to goal into path; overall are the labels to the goal.
+pub fn shortest(
+    tails: &[u16],
+    heads: &[u16],
+    weights: &[u32],
+    first_out: &[u16],
+    first_in: &[u16],
+    next_in: &[u16],
+    start: u16,
+    goal: usize,
+    overall: &[u64],
+    path: &mut [u16],
+) -> Found
+    requires { ⌜ Network (length (now overall)) (now tails) (now heads) (now weights) (now «first_out») (now «first_in») (now «next_in») ⌝ }
+    requires { ⌜ Ends (length (now overall)) start goal × (length (now overall) ≤ length (now path) + 1) ⌝ }
+    requires { ⌜ Least (graph (now tails) (now heads) (now weights)) [] goal (now overall) ⌝ }
+    ensures { λ r. ⌜ Extent 1 (now (path .exit)) r ⌝ }
+    ensures { λ r. ⌜ FirstFound (graph (now (tails .entry)) (now (heads .entry)) (now (weights .entry))) start goal (everything start) (now (path .exit)) r ⌝ }
+{
+    let mut used = [0u8; 201];
+    let barred = [0u8; 201];
+    let places = overall.len();
+    shortest_in(
+        tails,
+        heads,
+        weights,
+        first_out,
+        first_in,
+        next_in,
+        start,
+        goal,
+        overall,
+        &mut used[..places],
+        &barred[..places],
+        path,
+    )
 }

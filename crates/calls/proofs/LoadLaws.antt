@@ -36,9 +36,5 @@ module _ {net : Net} {u : ℕ} {ts hs ws : List ℕ} (d : Decoded net u ts hs ws
   }
 
 module _ {net : Net} {u t : ℕ} {ts hs ws outs ins nexts ls : List ℕ} (l : Loaded net u t ts hs ws outs ins nexts ls) where
-  -- no node is flagged, so the labels are those that avoid the flagged nodes
-  pub least-unflagged : {flags : List ℕ} → ((x : ℕ) → getD flags x 0 ≡ 0) → Least (graph ts hs ws) flags t ls
-  least-unflagged none = same-bars (λ x. sym (none x)) (l .least)
-
   pub found-in-column : {s : ℕ} {path : List ℕ} {r : Found} → FirstFound (graph ts hs ws) s t (everything s) path r → FirstFound (column net u) s t (everything s) path r
   found-in-column {s} {path} {r} f = subst (λ g. FirstFound g s t (everything s) path r) (l .column-is .graph-is) f

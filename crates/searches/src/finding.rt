@@ -48,9 +48,6 @@ fn find_in(
         next_in,
         overall,
     );
-    let mut used = [0u8; 201];
-    let barred = [0u8; 201];
-    let places = overall.len();
     first_path(
         tails,
         heads,
@@ -61,8 +58,6 @@ fn find_in(
         start,
         goal,
         overall,
-        &mut used[..places],
-        &barred[..places],
         route,
     )
 }

@@ -1,154 +1,53 @@
--- `all::shortest` lays the start out, searches the branch of all paths, and clears the start's flag. Assumes nothing.
+-- `all::shortest` lends parts of local arrays for the flags. Assumes nothing.
+use Prim.Native.Nat.{_≤_}
+use mathlib.Core.Path.{refl, sym}
+use lib.ListN.{length}
+use borrow.Author.Needs.{needs}
+use Rattle.terms.proofs.RoomLaws.{part-long, part-zero}
+use Rattle.branching.proofs.NetworkLaws.{network-few}
 use Rattle.branching.proofs.all.shortest.Statement.{statement}
 use Rattle.branching.proofs.all.shortest.Tie as tie
-use mathlib.Core.Path.{_≡_, refl, _∙_, ap}
-use mathlib.Core.List.{List, [], _∷_}
-use Prim.Native.Nat.{ℕ, _-_}
-use native.Mathlib.Omega.{arith}
-use borrow.Author.Needs.{needs}
-use lib.ListN.{length, take, getD, set, length-set}
-use Rattle.terms.specs.Network.{Graph}
-use Rattle.labels.specs.Arcs.{graph}
-use Rattle.branching.specs.Branches.{Beginning}
-use Rattle.branching.specs.Found.{Begun, Extent, FirstFound}
-use Rattle.branching.specs.Walks.{Consistent}
-use Rattle.branching.proofs.AllLaws.{start-begun, start-ahead, start-path, start-last, start-cleared}
-use Rattle.branching.proofs.BranchLaws.{beginning-start}
-use Rattle.branching.proofs.ExitLaws.{chosen-node, chosen-nothing}
-use Rattle.branching.proofs.FirstLaws.{branch-empty}
-use Rattle.branching.proofs.FlagLaws.{flags-none}
-use Rattle.branching.proofs.NetworkLaws.{network-heads, network-starts, network-small, network-consistent}
 
--- the start of the function, and the calls
-abbrev entry : tie.After-slice-known2 → tie.Start
-entry c = c .before .before .before .before .before .before .before .before .before .before
+abbrev start : tie.After-slice-known → tie.Start
+start c = c .before .before .before .before .before .before .before .before
 
-abbrev start : tie.After-least-exit → tie.Start
-start c = entry (c .before .before)
+few : (c : tie.After-slice-known) → length (start c .args .overall .now) ≤ 201
+few c = network-few (start c .pre .0)
 
-abbrev chosen : tie.After-known-told → tie.After-least-exit
-chosen c = c .before .before .before
+array-borrow-prefix-used : tie.Need-array-borrow-prefix-used
+array-borrow-prefix-used c = few c
 
-abbrev told : tie.After-first-path-arg2 → tie.After-known-told
-told c = c .before .before
+slice-aggregate-shortest-in : tie.Need-slice-aggregate-shortest-in
+slice-aggregate-shortest-in c = sym (part-long 201 _ (few (c .before)))
 
-abbrev found : tie.After-slice-known4 → tie.After-first-path
-found c = c .before .before .before .before
+array-share-prefix-barred : tie.Need-array-share-prefix-barred
+array-share-prefix-barred c = few (c .before)
 
-abbrev net : tie.Start → Graph
-net s = graph (s .args .tails .now) (s .args .heads .now) (s .args .weights .now)
+slice-aggregate-shortest-in-2 : tie.Need-slice-aggregate-shortest-in-2
+slice-aggregate-shortest-in-2 c = sym (part-long 201 _ (few (c .before .before)))
 
--- the start is laid out, and its flag is cleared again
-module _ (s : tie.Start) where
-  abbrev used : List ℕ
-  used = set (s .args .used .now) (s .args .start) 1
-
-  abbrev path : List ℕ
-  path = set (s .args .path .now) 0 (s .args .start)
-
-  begun : Begun (length (s .args .used .now)) used (s .args .barred .now) path 1
-  begun = start-begun (s .args .path .now) (s .pre .1 .0 .1) (s .pre .1 .0 .0) (s .pre .1 .1 .0)
-
-  laid : take 1 path ≡ s .args .start ∷ []
-  laid = start-path (s .args .path .now) (s .pre .1 .0 .1) (s .pre .1 .0 .0) (s .pre .1 .1 .0)
-
-  last-node : getD path (1 - 1) 0 ≡ s .args .start
-  last-node = start-last (s .args .path .now) (s .pre .1 .0 .1) (s .pre .1 .0 .0) (s .pre .1 .1 .0)
-
-  cleared : set used (s .args .start) 0 ≡ s .args .used .now
-  cleared = start-cleared (s .args .path .now) (s .pre .1 .0 .1) (s .pre .1 .0 .0) (s .pre .1 .1 .0)
-
-  beginning : Beginning (net s) (s .args .start) (s .args .goal) (take 1 path)
-  beginning = rw laid (beginning-start (s .pre .1 .1 .0 .apart))
-
-  consistent : (q : List ℕ) → Consistent (net s) (s .args .goal) (s .args .overall .now) q
-  consistent = network-consistent (s .pre .0) (s .pre .1 .1 .1 .1) (s .pre .1 .1 .1 .0) (s .pre .1 .0 .0 .none-used)
-
--- the flags after the search
-restored : (c : tie.After-slice-known4) → let s = start (chosen (told (found c .before))) in set (found c .first-path .last .1 .1 .1 .1 .1 .1 .1 .1 .0) (s .args .start) 0 ≡ s .args .used .now
-restored c = let s = start (chosen (told (found c .before))) in ap (λ (l : List ℕ). set l (s .args .start) 0) (found c .first-path .ensures .0 .flags) ∙ cleared s
-
-slice-write-path : tie.Need-slice-write-path
-slice-write-path c = search needs
-
-slice-write-used : tie.Need-slice-write-used
-slice-write-used c = search needs
-
-least-exit-requires : tie.Need-least-exit-requires
-least-exit-requires c κs =
-    let s = entry (c .before) in
+shortest-in-requires : tie.Need-shortest-in-requires
+shortest-in-requires c κs = let e = c .before .before .before in
+    let s = start e in
     let p = s .pre in
-    let long = p .1 .1 .1 .1 in
-    rw (long, length-set (s .args .used .now) (s .args .start) 1)
-    (network-heads (p .0), ((network-starts (p .0), p .1 .1 .0 .start-place), (network-small (p .0) long (p .1 .1 .1 .0), (refl, p .1 .0 .0 .barred-long))))
-
-enum-known-y : tie.Need-enum-known-y
-enum-known-y c = search needs
-
-enum-told : tie.Need-enum-told
-enum-told c = search needs
-
-slice-write-used-2 : tie.Need-slice-write-used-2
-slice-write-used-2 c = search needs
+    let k = part-long 201 (length (s .args .overall .now)) (few e) in
+    let none = part-zero 201 (length (s .args .overall .now)) in
+    rw k (p .0, ((record { barred-long = k; none-used = none; none-barred = none }, p .1 .0 .1), (p .1 .0 .0, (p .1 .1, refl))))
 
 same-length : tie.Need-same-length
 same-length c = search needs
 
-same-length-2 : tie.Need-same-length-2
-same-length-2 c = search needs
-
 returns : tie.Need-returns
-returns c =
-    let x = c .before .before in
-    let s = start x in
-    let none = chosen-nothing (x .least-exit .ensures .1 _ _ (s .pre .0 .arcs) (s .pre .0 .star)) (c .enum-told .given .1) in
-    (cleared s, (Extent.nothing, FirstFound.none (λ p i. branch-empty (begun s) (flags-none (s .pre .1 .0 .0 .none-barred)) (beginning s) (consistent s _) (rw (last-node s) none) p (rw (laid s) i))))
-
-first-path-requires : tie.Need-first-path-requires
-first-path-requires c κs =
-    let t = told c in
-    let x = chosen t in
-    let s = start x in
-    let p = s .pre in
-    let choice = chosen-node (x .least-exit .ensures .1 _ _ (p .0 .arcs) (p .0 .star)) (t .before .y .given .1) in
-    let ahead = start-ahead (s .args .path .now) (p .1 .0 .1) (p .1 .0 .0) (p .1 .1 .0) in
-    rw (length-set (s .args .used .now) (s .args .start) 1) (p .0, (begun s, (ahead, ((consistent s _, p .1 .1 .1 .1), rw (last-node s) choice))))
-
-slice-write-used-3 : tie.Need-slice-write-used-3
-slice-write-used-3 c =
-    let f = found c in
-    let s = start (chosen (told (f .before))) in
-    omega (arith, s .pre .1 .1 .0 .start-place, ap length (f .first-path .ensures .0 .flags), length-set (s .args .used .now) (s .args .start) 1)
-
-same-length-3 : tie.Need-same-length-3
-same-length-3 c = ap length (restored c)
-
-same-length-4 : tie.Need-same-length-4
-same-length-4 c =
-    let f = found c in
-    f .first-path .kept .1 .1 .1 .1 .1 .1 .1 .1 .1 .1 .0 ∙ length-set (start (chosen (told (f .before))) .args .path .now) 0 _
-
-returns-2 : tie.Need-returns-2
-returns-2 c =
-    let f = found c in
-    let s = start (chosen (told (f .before))) in
-    (restored c, (f .first-path .ensures .0 .reach, rw (laid s) at (f .first-path .ensures .1 (s .args .start) [] (beginning s) (flags-none (s .pre .1 .0 .0 .none-barred)))))
+returns c = search needs
 
 pub shortest-spec : {M : Type 1} → statement M
 shortest-spec =
     tie.close
     (tie.spec
-    slice-write-path
-    slice-write-used
-    least-exit-requires
-    enum-known-y
-    enum-told
-    slice-write-used-2
+    array-borrow-prefix-used
+    slice-aggregate-shortest-in
+    array-share-prefix-barred
+    slice-aggregate-shortest-in-2
+    shortest-in-requires
     same-length
-    same-length-2
-    returns
-    first-path-requires
-    slice-write-used-3
-    same-length-3
-    same-length-4
-    returns-2)
+    returns)

@@ -1,4 +1,4 @@
--- `routes::loading::load` meets its contract. Assumes nothing.
+-- `loading::load`: each array is filled by a function whose contract says what it then holds. Assumes nothing.
 use native.Mathlib.Omega.{arith}
 use mathlib.Core.Path.{sym, _∙_}
 use Rattle.labels.proofs.ArcLaws.{chainable-of}

@@ -1,4 +1,4 @@
--- `routes::choosing::choose` meets its contract. Assumes nothing.
+-- `choosing::choose` lends parts of local arrays, one place for each arc, node and cost. Assumes nothing.
 use Prim.Native.Nat.{_+_, _*_, _≤_}
 use native.Mathlib.Omega.{arith}
 use native.Mathlib.Nat.{mul-le-mul}

@@ -1,4 +1,4 @@
--- `routes::choosing::choose_in` meets its contract. Assumes nothing.
+-- `choosing::choose_in`: a start whose label is the mark has no path; else what is loaded and priced is what the search asks for. Assumes nothing.
 use Prim.Native.Nat.{_-_}
 use native.Mathlib.Omega.{arith}
 use mathlib.Core.Path.{_≡_, sym, _∙_, ap}

@@ -1,4 +1,4 @@
--- `routes::choosing::price` meets its contract. Assumes nothing.
+-- `choosing::price`: the columns are read, and the label of the start in each is its best. Assumes nothing.
 use native.Mathlib.Omega.{arith}
 use mathlib.Core.Path.{_≡_, refl, sym, _∙_}
 use lib.ListN.{length, take, replicate}

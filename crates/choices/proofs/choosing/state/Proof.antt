@@ -1,4 +1,4 @@
--- `routes::choosing::state`: each case with its values. Assumes nothing.
+-- `choosing::state`: each case with its values. Assumes nothing.
 use Rattle.choices.proofs.ChoiceLaws.{state-settled, state-open}
 use borrow.Author.Needs.{needs}
 use Rattle.choices.proofs.choosing.state.Statement.{statement}

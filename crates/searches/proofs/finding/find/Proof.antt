@@ -1,4 +1,4 @@
--- `routes::finding::find` meets its contract. Assumes nothing.
+-- `finding::find` lends parts of local arrays, one place for each arc and node. Assumes nothing.
 use Prim.Native.Nat.{_+_, _≤_}
 use native.Mathlib.Omega.{arith}
 use mathlib.Core.Path.{sym, _∙_, ap}

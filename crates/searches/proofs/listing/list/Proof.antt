@@ -1,4 +1,4 @@
--- `routes::listing::list` meets its contract. Assumes nothing.
+-- `listing::list` lends parts of local arrays, one place for each arc and node. Assumes nothing.
 use Prim.Native.Nat.{_+_, _≤_}
 use native.Mathlib.Omega.{arith}
 use mathlib.Core.Path.{sym, _∙_, ap}

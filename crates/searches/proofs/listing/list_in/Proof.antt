@@ -1,4 +1,4 @@
--- `routes::listing::list_in` meets its contract. Assumes nothing.
+-- `listing::list_in`: a start whose label is the mark has no path; else the loaded column is what the ranking asks for. Assumes nothing.
 use Prim.Native.Nat.{_-_}
 use native.Mathlib.Omega.{arith}
 use mathlib.Core.Path.{_≡_, refl, sym, _∙_, ap}

@@ -1,4 +1,4 @@
--- `routes::listing::list_loaded` meets its contract. Assumes nothing.
+-- `listing::list_loaded`: the entries at the end are the ranked list, and are written out as rows and costs. Assumes nothing.
 use Prim.Native.Nat.{ℕ}
 use native.Mathlib.Omega.{arith}
 use mathlib.Core.Path.{_∙_, ap}

@@ -1,0 +1,137 @@
+-- `all::shortest_in` lays the start out, and searches the branch of all paths. Assumes nothing.
+use Rattle.branching.proofs.all.shortest_in.Statement.{statement}
+use Rattle.branching.proofs.all.shortest_in.Tie as tie
+use mathlib.Core.Path.{_≡_, refl, _∙_, ap}
+use mathlib.Core.List.{List, [], _∷_}
+use Prim.Native.Nat.{ℕ, _-_}
+use borrow.Author.Needs.{needs}
+use lib.ListN.{length, take, getD, set, length-set}
+use Rattle.terms.specs.Network.{Graph}
+use Rattle.labels.specs.Arcs.{graph}
+use Rattle.branching.specs.Branches.{Beginning}
+use Rattle.branching.specs.Found.{Begun, Extent, FirstFound}
+use Rattle.branching.specs.Walks.{Consistent}
+use Rattle.branching.proofs.AllLaws.{start-begun, start-ahead, start-path, start-last}
+use Rattle.branching.proofs.BranchLaws.{beginning-start}
+use Rattle.branching.proofs.ExitLaws.{chosen-node, chosen-nothing}
+use Rattle.branching.proofs.FirstLaws.{branch-empty}
+use Rattle.branching.proofs.FlagLaws.{flags-none}
+use Rattle.branching.proofs.NetworkLaws.{network-heads, network-starts, network-small, network-consistent}
+
+-- the start of the function, and the calls
+abbrev entry : tie.After-slice-known2 → tie.Start
+entry c = c .before .before .before .before .before .before .before .before .before .before
+
+abbrev start : tie.After-least-exit → tie.Start
+start c = entry (c .before .before)
+
+abbrev chosen : tie.After-known-told → tie.After-least-exit
+chosen c = c .before .before .before
+
+abbrev told : tie.After-first-path-arg2 → tie.After-known-told
+told c = c .before .before
+
+abbrev found : tie.After-slice-known4 → tie.After-first-path
+found c = c .before .before .before .before
+
+abbrev net : tie.Start → Graph
+net s = graph (s .args .tails .now) (s .args .heads .now) (s .args .weights .now)
+
+-- the start is laid out
+module _ (s : tie.Start) where
+  abbrev used : List ℕ
+  used = set (s .args .used .now) (s .args .start) 1
+
+  abbrev path : List ℕ
+  path = set (s .args .path .now) 0 (s .args .start)
+
+  begun : Begun (length (s .args .used .now)) used (s .args .barred .now) path 1
+  begun = start-begun (s .args .path .now) (s .pre .1 .0 .1) (s .pre .1 .0 .0) (s .pre .1 .1 .0)
+
+  laid : take 1 path ≡ s .args .start ∷ []
+  laid = start-path (s .args .path .now) (s .pre .1 .0 .1) (s .pre .1 .0 .0) (s .pre .1 .1 .0)
+
+  last-node : getD path (1 - 1) 0 ≡ s .args .start
+  last-node = start-last (s .args .path .now) (s .pre .1 .0 .1) (s .pre .1 .0 .0) (s .pre .1 .1 .0)
+
+  beginning : Beginning (net s) (s .args .start) (s .args .goal) (take 1 path)
+  beginning = rw laid (beginning-start (s .pre .1 .1 .0 .apart))
+
+  consistent : (q : List ℕ) → Consistent (net s) (s .args .goal) (s .args .overall .now) q
+  consistent = network-consistent (s .pre .0) (s .pre .1 .1 .1 .1) (s .pre .1 .1 .1 .0) (λ x. refl)
+
+slice-write-path : tie.Need-slice-write-path
+slice-write-path c = search needs
+
+slice-write-used : tie.Need-slice-write-used
+slice-write-used c = search needs
+
+least-exit-requires : tie.Need-least-exit-requires
+least-exit-requires c κs =
+    let s = entry (c .before) in
+    let p = s .pre in
+    let long = p .1 .1 .1 .1 in
+    rw (long, length-set (s .args .used .now) (s .args .start) 1)
+    (network-heads (p .0), ((network-starts (p .0), p .1 .1 .0 .start-place), (network-small (p .0) long (p .1 .1 .1 .0), (refl, p .1 .0 .0 .barred-long))))
+
+enum-known-y : tie.Need-enum-known-y
+enum-known-y c = search needs
+
+enum-told : tie.Need-enum-told
+enum-told c = search needs
+
+same-length : tie.Need-same-length
+same-length c = search needs
+
+same-length-2 : tie.Need-same-length-2
+same-length-2 c = search needs
+
+returns : tie.Need-returns
+returns c =
+    let x = c .before .before in
+    let s = start x in
+    let none = chosen-nothing (x .least-exit .ensures .1 _ _ (s .pre .0 .arcs) (s .pre .0 .star)) (c .enum-told .given .1) in
+    (Extent.nothing, FirstFound.none (λ p i. branch-empty (begun s) (flags-none (s .pre .1 .0 .0 .none-barred)) (beginning s) (consistent s _) (rw (last-node s) none) p (rw (laid s) i)))
+
+first-path-requires : tie.Need-first-path-requires
+first-path-requires c κs =
+    let t = told c in
+    let x = chosen t in
+    let s = start x in
+    let p = s .pre in
+    let choice = chosen-node (x .least-exit .ensures .1 _ _ (p .0 .arcs) (p .0 .star)) (t .before .y .given .1) in
+    let ahead = start-ahead (s .args .path .now) (p .1 .0 .1) (p .1 .0 .0) (p .1 .1 .0) in
+    rw (length-set (s .args .used .now) (s .args .start) 1) (p .0, (begun s, (ahead, ((consistent s _, p .1 .1 .1 .1), rw (last-node s) choice))))
+
+same-length-3 : tie.Need-same-length-3
+same-length-3 c =
+    let f = found c in
+    ap length (f .first-path .ensures .0 .flags) ∙ length-set (start (chosen (told (f .before))) .args .used .now) _ 1
+
+same-length-4 : tie.Need-same-length-4
+same-length-4 c =
+    let f = found c in
+    f .first-path .kept .1 .1 .1 .1 .1 .1 .1 .1 .1 .1 .0 ∙ length-set (start (chosen (told (f .before))) .args .path .now) 0 _
+
+returns-2 : tie.Need-returns-2
+returns-2 c =
+    let f = found c in
+    let s = start (chosen (told (f .before))) in
+    (f .first-path .ensures .0 .reach, rw (laid s) at (f .first-path .ensures .1 (s .args .start) [] (beginning s) (flags-none (s .pre .1 .0 .0 .none-barred))))
+
+pub shortest-in-spec : {M : Type 1} → statement M
+shortest-in-spec =
+    tie.close
+    (tie.spec
+    slice-write-path
+    slice-write-used
+    least-exit-requires
+    enum-known-y
+    enum-told
+    same-length
+    same-length-2
+    returns
+    first-path-requires
+    same-length-3
+    same-length-4
+    returns-2)
