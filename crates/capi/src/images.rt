@@ -1,7 +1,7 @@
 // The calls of the image layer: Check, Build and Unpack.
-use image::build;
 use image::check;
-use image::unpack;
+use packing::build;
+use packing::unpack;
 use replies::Reply;
 use replies::of_built;
 use replies::of_checked;
@@ -10,8 +10,9 @@ ghost use mathlib.Core.Path.{_≡_};
 ghost use lib.ListN.{length};
 ghost use Rattle.image.specs.Outcome.{sound, after};
 ghost use Rattle.image.specs.Layout.{image-of, node-list, cost-list};
-ghost use Rattle.image.specs.Calls.{check-outcome, build-fault, build-outcome, unpack-fault, unpack-outcome};
-ghost use Rattle.image.specs.RoundTrip.{ReadsBack, WritesAgain};
+ghost use Rattle.image.specs.Calls.{check-outcome};
+ghost use Rattle.packing.specs.Calls.{build-fault, build-outcome, unpack-fault, unpack-outcome};
+ghost use Rattle.packing.specs.RoundTrip.{ReadsBack, WritesAgain};
 ghost use Rattle.replies.specs.Replies.{numbers, reply-of};
 
 // Document 01, call 1. v0 to v2: n, m and k.

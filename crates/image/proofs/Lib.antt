@@ -3,7 +3,4 @@ pub mod ByteLaws
 pub mod SliceLaws
 pub mod RowLaws
 pub mod CheckLaws
-pub mod UnpackLaws
-pub mod BuildLaws
 pub mod NetworkLaws
-pub mod RoundTripLaws

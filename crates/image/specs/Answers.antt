@@ -1,4 +1,4 @@
--- What the answers of Check, Unpack and Build say: 01's values, or the refusal's number and place. Assumes nothing.
+-- What Check's answer says: 01's values, or the refusal's number and place. Assumes nothing.
 use mathlib.Core.Path.{_≡_}
 use mathlib.Core.List.{List, [], _∷_}
 use Prim.Native.Nat.{ℕ}
@@ -6,10 +6,6 @@ use Rattle.image.specs.declared.refusal.Refusal.{Refusal}
 use Rattle.image.specs.declared.checking.Sizes.{Sizes}
 use Rattle.image.specs.declared.checking.Checked.{Checked}
 use Rattle.image.specs.declared.checking.Checked.the-variants as check
-use Rattle.image.specs.declared.unpacking.Unpacked.{Unpacked}
-use Rattle.image.specs.declared.unpacking.Unpacked.the-variants as unpack
-use Rattle.image.specs.declared.building.Built.{Built}
-use Rattle.image.specs.declared.building.Built.the-variants as build
 use Rattle.image.specs.Outcome.{Outcome, gives, refuses}
 use Rattle.image.specs.Refusals.{numberOf, placeOf}
 
@@ -23,12 +19,3 @@ refused r = refuses (numberOf r) (placeOf r)
 abbrev pub checked : Checked → Outcome
 checked (check.Network s) = gives (triple s)
 checked (check.Refused r) = refused r
-
-abbrev pub unpacked : Unpacked → Outcome
-unpacked (unpack.Lists s) = gives (triple s)
-unpacked (unpack.Refused r) = refused r
-
--- the image's length
-abbrev pub built : Built → Outcome
-built (build.Image n) = gives (n ∷ [])
-built (build.Refused r) = refused r

@@ -5,4 +5,3 @@ pub mod Layout
 pub mod Calls
 pub mod Refusals
 pub mod Answers
-pub mod RoundTrip

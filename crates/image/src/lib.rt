@@ -1,26 +1,27 @@
-// The image layer: Check, Build and Unpack of document 01, which ask nothing of their caller; and what
-// reads the bytes of an accepted image.
+// The network image: its layout, the refusals of the table, and Check, which asks nothing of its
+// caller; and what reads the bytes of an accepted image.
 
-mod building;
 mod bytes;
 mod checking;
 mod layout;
+mod reading;
 mod refusal;
 mod rows;
-mod unpacking;
 
-pub use building::Built;
-pub use building::build;
 pub use bytes::read16;
+pub use bytes::write16;
+pub use bytes::write32;
 pub use checking::Checked;
 pub use checking::Sizes;
 pub use checking::check;
 pub use layout::cost_count;
 pub use layout::costs_start;
+pub use layout::image_length;
+pub use reading::read_costs;
 pub use refusal::Refusal;
+pub use refusal::Verdict;
 pub use refusal::number;
 pub use refusal::place;
+pub use rows::check_arc;
+pub use rows::in_range;
 pub use rows::is_node;
-pub use unpacking::Unpacked;
-pub use unpacking::read_costs;
-pub use unpacking::unpack;

@@ -1,10 +1,10 @@
 // A call's answer as eight numbers.
-use image::Built;
 use image::Checked;
 use image::Refusal;
-use image::Unpacked;
 use image::number;
 use image::place;
+use packing::Built;
+use packing::Unpacked;
 use routes::Decided;
 use routes::Decision;
 use routes::Labelled;
@@ -13,7 +13,8 @@ use routes::Regretted;
 use routes::Routed;
 ghost use mathlib.Core.Path.{_≡_};
 ghost use mathlib.Core.List.{[], _∷_};
-ghost use Rattle.image.specs.Answers.{refused, checked, built, unpacked};
+ghost use Rattle.image.specs.Answers.{refused, checked};
+ghost use Rattle.packing.specs.Answers.{built, unpacked};
 ghost use Rattle.routes.specs.Answers.{labelled, routed, regretted, listed, decided};
 ghost use Rattle.replies.specs.Replies.{numbers, reply-of};
 

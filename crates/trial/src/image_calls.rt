@@ -1,7 +1,7 @@
 // The calls of the image layer, each held to the answer that it should give and to what the slices
 // that are lent to it should hold after it.
 use super::plain_answers::check_answer;
-use image::Unpacked;
+use packing::Unpacked;
 use trials::answers::Answer;
 use trials::answers::of_build;
 use trials::answers::of_check;
@@ -44,7 +44,7 @@ fn build_into(
     expected: Answer,
     written: &[u8],
 ) -> bool {
-    let answer = of_build(image::build(n, k, nodes, costs, image));
+    let answer = of_build(packing::build(n, k, nodes, costs, image));
     if !same_answer(answer, expected) {
         return false;
     }
@@ -78,7 +78,7 @@ fn unpack_into(
     written_nodes: &[u16],
     written_costs: &[u32],
 ) -> bool {
-    let answer = of_unpack(image::unpack(image, nodes, costs));
+    let answer = of_unpack(packing::unpack(image, nodes, costs));
     if !same_answer(answer, expected) {
         return false;
     }
@@ -118,7 +118,7 @@ pub fn unpack_agrees(
 
 // Unpack into slices, and Build from what it wrote.
 fn rebuild_with(image: &[u8], nodes: &mut [u16], costs: &mut [u32]) -> bool {
-    let answer = image::unpack(image, nodes, costs);
+    let answer = packing::unpack(image, nodes, costs);
     let Unpacked::Lists(sizes) = answer else {
         return false;
     };

@@ -1,10 +1,10 @@
 // The answer of a call as numbers, in document 01's terms.
 use super::slices::holds_numbers;
-use image::Built;
 use image::Checked;
 use image::Refusal;
 use image::Sizes;
-use image::Unpacked;
+use packing::Built;
+use packing::Unpacked;
 use routes::Decided;
 use routes::Decision;
 use routes::Labelled;

@@ -1,7 +1,7 @@
 -- `capi::replies::of_built` meets its contract. Assumes nothing.
 use mathlib.Core.Path.{sym, ap, _∙_}
 use borrow.Author.Needs.{needs}
-use Rattle.image.specs.Answers.{built}
+use Rattle.packing.specs.Answers.{built}
 use Rattle.replies.specs.Replies.{reply-of}
 use Rattle.replies.proofs.answers.of_built.Statement.{statement}
 use Rattle.replies.proofs.answers.of_built.Tie as tie

@@ -1,7 +1,7 @@
 -- `capi::replies::of_unpacked` meets its contract. Assumes nothing.
 use mathlib.Core.Path.{sym, ap, _∙_}
 use borrow.Author.Needs.{needs}
-use Rattle.image.specs.Answers.{unpacked}
+use Rattle.packing.specs.Answers.{unpacked}
 use Rattle.replies.specs.Replies.{reply-of}
 use Rattle.replies.proofs.answers.of_unpacked.Statement.{statement}
 use Rattle.replies.proofs.answers.of_unpacked.Tie as tie

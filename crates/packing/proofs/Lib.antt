@@ -1,0 +1,3 @@
+pub mod UnpackLaws
+pub mod BuildLaws
+pub mod RoundTripLaws

@@ -1,0 +1,73 @@
+-- `packing::building::write_header` meets its contract. Assumes nothing.
+use Prim.Native.Nat.{ℕ}
+use mathlib.Core.Path.{subst}
+use Rattle.packing.proofs.BuildLaws.{Wrote, header-written}
+use Rattle.image.specs.Layout.{costs-start}
+use borrow.Author.Needs.{needs}
+use Rattle.packing.proofs.building.write_header.Statement.{statement}
+use Rattle.packing.proofs.building.write_header.Tie as tie
+
+write16-requires : tie.Need-write16-requires
+write16-requires c κs = search needs
+
+write16-requires-2 : tie.Need-write16-requires-2
+write16-requires-2 c κs = search needs
+
+write16-requires-3 : tie.Need-write16-requires-3
+write16-requires-3 c κs = search needs
+
+write16-requires-4 : tie.Need-write16-requires-4
+write16-requires-4 c κs = search needs
+
+write32-requires : tie.Need-write32-requires
+write32-requires c κs = search needs
+
+costs-start-requires : tie.Need-costs-start-requires
+costs-start-requires c κs = search needs
+
+write32-requires-2 : tie.Need-write32-requires-2
+write32-requires-2 c κs = search needs
+
+image-length-requires : tie.Need-image-length-requires
+image-length-requires c κs = search needs
+
+write32-requires-3 : tie.Need-write32-requires-3
+write32-requires-3 c κs = search needs
+
+write32-requires-4 : tie.Need-write32-requires-4
+write32-requires-4 c κs = search needs
+
+same-length : tie.Need-same-length
+same-length c = search needs
+
+returns : tie.Need-returns
+returns c = let c₈ = c .before .before in
+    let c₇ = c₈ .before .before .before .before in
+    let c₆ = c₇ .before .before .before .before .before in
+    let c₅ = c₆ .before .before .before .before .before in
+    let c₄ = c₅ .before .before .before .before in
+    let c₃ = c₄ .before .before .before .before in
+    let c₂ = c₃ .before .before .before .before in
+    let c₁ = c₂ .before .before .before .before in
+    let a = c₁ .before .before .before .args in
+    header-written (a .n) (a .m) (a .k) (a .image .now) _ _ _ _ _ _ _ _ (c₁ .write16 .ensures) (c₂ .write162 .ensures) (c₃ .write163 .ensures) (c₄ .write164 .ensures) (c₅ .write32 .ensures)
+    (subst (λ (x : ℕ). Wrote 4 12 x (c₅ .write32 .last .0) (c₆ .write322 .last .0)) (c₆ .before .costs-start .ensures) (c₆ .write322 .ensures))
+    (subst (λ (x : ℕ). Wrote 4 16 x (c₆ .write322 .last .0) (c₇ .write323 .last .0)) (c₇ .before .image-length .ensures) (c₇ .write323 .ensures))
+    (c₈ .write324 .ensures)
+
+pub write-header-spec : {M : Type 1} → statement M
+write-header-spec =
+    tie.close
+    (tie.spec
+    write16-requires
+    write16-requires-2
+    write16-requires-3
+    write16-requires-4
+    write32-requires
+    costs-start-requires
+    write32-requires-2
+    image-length-requires
+    write32-requires-3
+    write32-requires-4
+    same-length
+    returns)

@@ -1,0 +1,17 @@
+-- What the answers of Unpack and Build say: 01's values, or the refusal's number and place. Assumes nothing.
+use mathlib.Core.List.{[], _∷_}
+use Rattle.image.specs.Outcome.{Outcome, gives}
+use Rattle.image.specs.Answers.{triple, refused}
+use Rattle.packing.specs.declared.unpacking.Unpacked.{Unpacked}
+use Rattle.packing.specs.declared.unpacking.Unpacked.the-variants as unpack
+use Rattle.packing.specs.declared.building.Built.{Built}
+use Rattle.packing.specs.declared.building.Built.the-variants as build
+
+abbrev pub unpacked : Unpacked → Outcome
+unpacked (unpack.Lists s) = gives (triple s)
+unpacked (unpack.Refused r) = refused r
+
+-- the image's length
+abbrev pub built : Built → Outcome
+built (build.Image n) = gives (n ∷ [])
+built (build.Refused r) = refused r
