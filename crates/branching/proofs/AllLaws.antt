@@ -45,13 +45,6 @@ module _ (n : ℕ) {g : Graph} {s t : ℕ} where
   first-ranked {p} w lo hi f =
       sym (rising-next g (ranked-rising n g s t) none-left (λ q m. elim m [ ]) (path-ranked n g s t w lo hi (f .member .path)) (λ q m. elim m [ ]) (λ q m. inr (f .earliest q (in-everything (ranked-path n g s t m)))))
 
-  pub none-ranked : ((p : Route) → In g s t (everything s) p → ⊥) → ranked n g s t ≡ []
-  none-ranked none = no-member (ranked n g s t) (λ p m. none p (in-everything (ranked-path n g s t m)))
-    where
-      no-member : (l : List Route) → ((p : Route) → p ∈ l → ⊥) → l ≡ []
-      no-member [] h = refl
-      no-member (p ∷ l) h = absurd (h p (List·Memᴰ·head refl))
-
 -- a path of one node costs nothing, so the tail's cost is the path's
 pub cost-start : (g : Graph) (s : ℕ) → cost g (s ∷ []) ≡ 0
 unfolding cost cost-from

@@ -18,9 +18,6 @@ use Rattle.terms.proofs.RankingLaws.{NoLater, no-later-antisym}
 use Rattle.branching.specs.Branches.{clear, branch, everything, Branch, In, First, Beginning}
 use Rattle.branching.proofs.PartLaws.{reverse-snoc}
 
-pub first-unique : {g : Graph} {s t : ℕ} {β : Branch} {p q : Route} → First g s t β p → First g s t β q → p ≡ q
-first-unique {g} {p} {q} a b = no-later-antisym g (a .earliest q (b .member)) (b .earliest p (a .member))
-
 pub nothing-barred : (q : Route) → clear [] q ≡ true
 unfolding clear elem
 nothing-barred [] = refl
@@ -142,11 +139,6 @@ loopless-take zero l = empty
 loopless-take (suc k) empty = empty
 loopless-take (suc k) (fresh {v} {p} f l) = fresh (outside-take v k p f) (loopless-take k l)
 
-by-arcs-snoc : {g : Graph} (b : Route) (v y : ℕ) → ByArcs g (b ++ (v ∷ [])) → linked g v y ≡ true → ByArcs g (b ++ v ∷ y ∷ [])
-by-arcs-snoc [] v y a l = along l single
-by-arcs-snoc (x ∷ []) v y (along k a) l = along k (along l single)
-by-arcs-snoc (x ∷ z ∷ b) v y (along k a) l = along k (by-arcs-snoc (z ∷ b) v y a l)
-
 arcs-take : {g : Graph} (k : ℕ) {p : Route} → ByArcs g p → ByArcs g (take (suc k) p)
 arcs-take zero single = single
 arcs-take zero (along l a) = single
@@ -183,14 +175,6 @@ module _ {g : Graph} {s t : ℕ} where
   pub beginning-start : s ≢ t → Beginning g s t (s ∷ [])
   unfolding elem
   beginning-start n = record { from-start = refl; by-arcs = single; loopless = fresh refl empty; short-of-goal = cons-outside t s [] (λ e. n (sym e)) refl }
-
-  pub beginning-snoc : (b : Route) (v y : ℕ) → Beginning g s t (b ++ (v ∷ [])) → linked g v y ≡ true → elem y (b ++ (v ∷ [])) ≡ false → y ≢ t → Beginning g s t ((b ++ (v ∷ [])) ++ (y ∷ []))
-  beginning-snoc b v y B l u n = record {
-    from-start = ap (λ p. p ++ (y ∷ [])) (B .from-start) ∙ ap (λ p. s ∷ tail (p ++ (y ∷ []))) (sym (B .from-start));
-    by-arcs = rw (append-snoc b v (y ∷ [])) (by-arcs-snoc b v y (B .by-arcs) l);
-    loopless = loopless-snoc y (B .loopless) u;
-    short-of-goal = elem-snoc t (b ++ (v ∷ [])) y ∙ cons-outside t y (b ++ (v ∷ [])) (λ e. n (sym e)) (B .short-of-goal);
-  }
 
   pub beginning-leads : (b : Route) (v : ℕ) → Beginning g s t (b ++ (v ∷ [])) → Leads g s t b v
   unfolding elem

@@ -43,10 +43,6 @@ pub bars-take : {n : ℕ} {E : List Entry} → Family n E → (r d k : ℕ) → 
 unfolding bars
 bars-take {n} {E} m r d k l h = same-bars n d E (take k E) m (suc r) (suc r) r (omega arith) (omega arith) h (λ q j. getD-take k E q none (omega arith))
 
--- so for a workspace it does not matter how many are counted
-pub bars-entries : (n : ℕ) (w : List ℕ) (m : ℕ) → Family n (entries n w m) → (r d : ℕ) → r < m → bars (entries n w (r + 1)) r d ≡ bars (entries n w m) r d
-bars-entries n w m f r d h = ap (λ (E : List Entry). bars E r d) (entries-take n w (r + 1) m (omega arith)) ∙ bars-take f r d (r + 1) (omega arith) (omega (arith, length-entries n w m))
-
 -- the entry e at place r; the node with which it goes on itself comes first
 module _ {n : ℕ} {E : List Entry} (m : Family n E) (r d : ℕ) (h : r < length E) (e : Entry) (y : getD E r none ≡ e) where
   -- it left its parent's route before
@@ -76,16 +72,6 @@ module _ (E : List Entry) (e : Entry) where
   pub barred-child : (q : ℕ) → e .parent ≡ q + 1 → barred E e ≡ bars E q (e .shared)
   unfolding barred
   barred-child q z = let y : e .parent - 1 ≡ q = omega arith in rw (ne-eqb (e .parent) 0 (λ x. omega arith), y)
-
--- only the entries before the parent count, and the parent
-pub barred-take : {n : ℕ} {E : List Entry} → Family n E → (e : Entry) (k : ℕ) → e .parent ≤ k → k ≤ length E → barred (take k E) e ≡ barred E e
-barred-take {n} {E} m e k h l =
-    by-parent e (λ z. barred-start (take k E) e z ∙ sym (barred-start E e z)) (λ q z. barred-child (take k E) e q z ∙ bars-take m q (e .shared) k (omega arith) (omega arith) ∙ sym (barred-child E e q z))
-
--- so an entry that is put in behind the parent changes nothing
-pub barred-put : {n : ℕ} {E : List Entry} (e f : Entry) (M p : ℕ) → Family n E → Family n (put-in M p f E) → p ≤ length E → p ≤ M → e .parent ≤ p → barred (put-in M p f E) e ≡ barred E e
-barred-put {E} e f M p m m′ h k l =
-    sym (barred-take m′ e p l (omega (arith, length-put p f E h M))) ∙ ap (λ (X : List Entry). barred X e) (take-put p M p f E (omega arith) h k) ∙ barred-take m e p l h
 
 -- after the nodes that the entry e at place r shares, its next node is barred, and what was barred for itself
 pub bars-shared : {n : ℕ} {E : List Entry} → Family n E → (r : ℕ) → r < length E → (e : Entry) → getD E r none ≡ e → bars E r (e .shared) ≡ getD (e .tail) 0 0 ∷ barred E e

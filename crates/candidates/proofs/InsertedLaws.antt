@@ -30,11 +30,6 @@ module _ {A : Type 0} (p : ℕ) (x : A) (l : List A) (h : p ≤ length l) where
   unfolding inserted
   take-inserted k j = take-append-le k (take p l) (x ∷ drop p l) (omega (arith, length-take p l)) ∙ take-take k p l j
 
-  -- past the last place it falls out itself
-  pub put-beyond : (M : ℕ) → M ≤ p → put-in M p x l ≡ take M l
-  unfolding put-in
-  put-beyond M k = take-inserted M k
-
 -- what stands at each place then
 module _ {A : Type 0} (x d : A) where
   pub inserted-before : (p : ℕ) (l : List A) (i : ℕ) → i < p → p ≤ length l → getD (inserted p x l) i d ≡ getD l i d
@@ -85,7 +80,3 @@ unfolding inserted
 map-inserted f zero x l = refl
 map-inserted f (suc p) x [] = refl
 map-inserted f (suc p) x (y ∷ l) = ap (λ k. f y ∷ k) (map-inserted f p x l)
-
-pub map-put : {A B : Type 0} (f : A → B) (M p : ℕ) (x : A) (l : List A) → map f (put-in M p x l) ≡ put-in M p (f x) (map f l)
-unfolding put-in
-map-put f M p x l = take-map f M (inserted p x l) ∙ ap (take M) (map-inserted f p x l)

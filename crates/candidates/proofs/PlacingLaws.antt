@@ -93,12 +93,3 @@ module _ (g : Graph) {s : ℕ} {E : List Entry} {from : ℕ} {p : Route} {r : �
       here j =
           let z : from + k ≡ r = omega (arith, placed .lower) in
           sym (test k j) ∙ (rw z (placed .not-before (omega (arith, length-R))))
-
-  -- those come before it, and the others do not
-  pub placed-front : {q : Route} → q ∈ take k R → before g q p ≡ true
-  placed-front m = let h = mem-place k R [] m in rw (h .3) (front (h .0) (h .1) (h .2))
-
-  pub placed-back : {q : Route} → q ∈ drop k R → before g q p ≡ false
-  placed-back {q} m =
-      let h = mem-place (length (drop k R)) (drop k R) [] (subst (λ (l : List Route). q ∈ l) (sym (take-length (drop k R))) m) in
-      rw (h .3, getD-drop k R (h .0) []) (back (k + h .0) (omega arith) (omega (arith, length-drop k R)))

@@ -13,13 +13,6 @@ use Rattle.candidates.proofs.EntryLaws.{readable-less, length-entries, 
 use Rattle.candidates.proofs.RouteLaws.{routes-take, routes-at, beginning-start, beginning-parent}
 use Rattle.candidates.proofs.FamilyLaws.{family-take, beginning-length}
 
--- nothing is kept yet
-pub family-none : (n : ℕ) (w : List ℕ) → Family n (entries n w 0)
-family-none n w = record { fits = λ p h. absurd (omega (arith, length-entries n w 0)) }
-
-pub ranked-none : (j n : ℕ) (w : List ℕ) → ByRanked j (entries n w 0)
-ranked-none j n w = record { ranked = λ p h. absurd (omega (arith, length-entries n w 0)) }
-
 -- each entry of a family is rooted
 pub family-rooted : {n m : ℕ} {w : List ℕ} (p : ℕ) → p < m → Readable n w m → Family n (entries n w m) → Rooted n w p
 family-rooted {n} {m} {w} p h r f = record { readable = readable-less (p + 1) (omega arith) r; family = subst (Family n) (sym (entries-take n w (p + 1) m (omega arith))) (family-take (p + 1) f) }

@@ -12,9 +12,6 @@ pub copy-more : (s d : List ℕ) (i : ℕ) → i < length s → i < length d →
 copy-more s d i h k =
     rw (add-one, drop-cons d i 0 k, take-suc s i 0 h, append-snoc, set-at (take i s) (getD d i 0) (drop (suc i) d) (getD s i 0) i (length-take-le i s (omega arith)))
 
-pub length-copy : (s d : List ℕ) (i : ℕ) → i ≤ length s → i ≤ length d → length (take i s ++ drop i d) ≡ length d
-length-copy s d i h k = simp (length-append, length-take, length-drop) (omega arith)
-
 -- the part from s to the end
 pub to-end : (l : List ℕ) (s : ℕ) → take (length l - s) (drop s l) ≡ drop s l
 to-end l s = take-all (length l - s) (drop s l) (omega (arith, length-drop s l))

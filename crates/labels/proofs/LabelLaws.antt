@@ -111,10 +111,6 @@ module _ {g : Graph} {bars ls : List ℕ} {t : ℕ} (l : Least g bars t ls) wher
   unfolding cost cost-from
   least-goal f = let r = cut {g = g} {t = t} bars {v = t} f (stop refl) in omega (arith, l .least t (r .0) (r .1) .0, r .2)
 
-  -- a barred node has the mark
-  pub reached-free : (v : ℕ) → v < length ls → getD ls v 0 < far → getD bars v 0 ≡ 0
-  reached-free v long k = free-start (l .attained v long k .1)
-
   -- no arc can lower a label
   pub least-along : (a b : ℕ) → linked g a b ≡ true → getD bars a 0 ≡ 0 → b < length ls → getD ls b 0 < far → (getD ls a 0 ≤ weight g a b + getD ls b 0) × (getD ls a 0 < far)
   least-along a b e f long k =
@@ -163,10 +159,3 @@ module _ {n t : ℕ} {ts hs ws bars ls : List ℕ} (arcs : Arcs n ts hs ws) (l :
         none : (k : List Route) → ((p : Route) → p ∈ k → ⊥) → k ≡ []
         none [] h = refl
         none (p ∷ k) h = absurd (h p (List·Memᴰ·head refl))
-
-    pub no-paths-far : v < length ls → paths n (graph ts hs ws) v t ≡ [] → getD ls v 0 ≡ far
-    no-paths-far long e = by-case (decLt (getD ls v 0) far)
-      where
-        by-case : Dec (getD ls v 0 < far) → getD ls v 0 ≡ far
-        by-case (yes k) = absurd (List·Memᴰ·not-nil (rw e at (reached-path long k .1)))
-        by-case (no k) = omega (arith, l .at-most v)

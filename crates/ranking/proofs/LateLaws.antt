@@ -17,14 +17,6 @@ use Rattle.terms.proofs.RankingLaws.{Rising, none-left, first, before-cost, bef
 use Rattle.terms.proofs.RobustLaws.{Stops}
 use Rattle.ranking.specs.Search.{Late}
 
--- what comes after a late path is late: the deviation in r is the cost in r less the best
-pub late-close : (g : Graph) (low bound : ℕ) (p q : Route) → before g p q ≡ true → Late (λ p. cost g p - low) bound p → Late (λ p. cost g p - low) bound q
-late-close g low bound p q b h = omega (arith, before-cost g p q b)
-
--- the least figure only falls, so what is late stays late
-pub late-more : (dev : Route → ℕ) (bound bound′ : ℕ) → bound′ ≤ bound → (p : Route) → Late dev bound p → Late dev bound′ p
-late-more dev bound bound′ h p l = omega arith
-
 -- the path at place j comes after the first j
 first-before : (g : Graph) (j : ℕ) {l : List Route} → Rising g l → j < length l → (q : Route) → q ∈ take j l → before g q (getD l j []) ≡ true
 first-before g zero r h q m = elim m [ ]

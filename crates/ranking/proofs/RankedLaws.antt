@@ -39,10 +39,6 @@ search-less n {g} s t {M} {limit} E j limit′ h S = lose g (ranked n g s t) (In
 
 -- ---- the beginning: no entries
 module _ (n : ℕ) (w : List ℕ) where
-  pub entries-none : entries n w 0 ≡ []
-  unfolding entries numbers
-  entries-none = refl
-
   entered-none : (g : Graph) (s : ℕ) → Entered n g s (entries n w 0) 0
   unfolding routes routes-onto entries numbers
   entered-none g s = record {

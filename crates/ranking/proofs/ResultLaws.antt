@@ -52,12 +52,6 @@ module _ {n M : ℕ} {g : Graph} {s t : ℕ} {w w′ : List ℕ} {count : ℕ} (
   ranked-count = sym (sym (ap length (R .paths)) ∙ length-routes s (entries n w′ count) ∙ length-entries n w′ count)
 
   module _ (p : ℕ) (h : p < count) where
-    pub ranked-rooted : Rooted n w′ p
-    ranked-rooted = family-rooted p h (kept-readable (R .kept)) (R .entered .family)
-
-    pub ranked-route : route-at s n w′ p ≡ getD (take M (ranked n g s t)) p []
-    ranked-route = route-at-entries s n w′ p count h ∙ ap (λ (l : List Route). getD l p []) (R .paths)
-
     pub ranked-cost : entry-at n w′ p .cost ≡ cost g (getD (take M (ranked n g s t)) p [])
     ranked-cost = ap (λ (e : Entry). e .cost) (sym (entries-at n w′ count p h)) ∙ entry-cost (R .entered) p ∙ ap (λ (l : List Route). cost g (getD l p [])) (R .paths)
 

@@ -32,11 +32,6 @@ module _ (n : ℕ) (g : Graph) (s t : ℕ) where
   pub best-is : {p : Route} → p ∈ paths n g s t → ((q : Route) → q ∈ paths n g s t → cost g p ≤ cost g q) → best n g s t ≡ cost g p
   best-is m low = let a = best-attained m in le-antisymm (best-le m) (rw (← a .2) (low (a .0) (a .1)))
 
-  pub best-first : {p : Route} {l : List Route} → ranked n g s t ≡ p ∷ l → best n g s t ≡ cost g p
-  best-first {p} {l} e =
-      best-is (ranked-mem n g s t (rw e (List·Memᴰ·head refl)))
-      (λ q m. ⊎-elim (λ d. rw d (omega arith)) (λ b. before-cost g p q b) (head-first g (rw e at (ranked-rising n g s t)) (rw e at (mem-ranked n g s t m))))
-
   -- ---- the label of s: best if there is a path to the goal, else the mark
   pub label-reached : {p : Route} → p ∈ paths n g s t → label n g t s ≡ best n g s t
   unfolding label
@@ -45,13 +40,6 @@ module _ (n : ℕ) (g : Graph) (s t : ℕ) where
   pub label-unreached : ((p : Route) → p ∈ paths n g s t → ⊥) → label n g t s ≡ mark
   unfolding label
   label-unreached none = rw (lt-leb 1 (length (paths n g s t)) (⊎-elim (λ h. absurd (none _ (getD-mem (paths n g s t) [] 0 h))) (λ h. h) (le-or-lt 1 (length (paths n g s t)))))
-
--- ---- a path of one column costs in each column its best and the deviation: the difference is never cut at 0
-pub deviation-adds : {net : Net} {s t : ℕ} {p : Route} (r u : ℕ) → Admitted net → 1 ≤ s → s ≤ net .nodes → 1 ≤ r → r ≤ length (net .columns) → 1 ≤ u → u ≤ length (net .columns)
-    → Path (column net r) s t p → cost (column net u) p ≡ best (net .nodes) (column net u) s t + deviation net s t p u
-unfolding deviation
-deviation-adds {net} {s} {t} r u ok lo hi r-lo r-hi u-lo u-hi p =
-    omega (arith, best-le (net .nodes) (column net u) s t (path-listed (net .nodes) (column-within ok u) lo hi (path-in-column r u ok r-lo r-hi u-lo u-hi p)))
 
 -- u is the worst column of p: it has p's figure, and each lower-numbered one has less
 pub record Worst (net : Net) (s t : ℕ) (p : Route) (u : ℕ) : Type 0 where
