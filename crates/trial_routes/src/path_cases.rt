@@ -1,18 +1,18 @@
 // Document 01's cases for the calls of the path layer: network S, the network of zero costs, the
 // network without arcs and the line of 200 nodes.
+use fixtures::networks::lay_out_s;
+use fixtures::networks::line_arcs;
+use fixtures::networks::line_nodes;
+use fixtures::plain_image::encode;
+use fixtures::report::REGRET;
+use fixtures::report::Report;
+use fixtures::report::SHORTEST;
 use trials::answers::pair;
 use trials::answers::refusal;
-use trials::networks::lay_out_s;
-use trials::networks::line_arcs;
-use trials::networks::line_nodes;
 use trials::path_calls::note_label;
 use trials::path_calls::note_shortest;
 use trials::path_calls::regret_agrees;
 use trials::path_calls::shortest_agrees;
-use trials::plain_image::encode;
-use trials::report::REGRET;
-use trials::report::Report;
-use trials::report::SHORTEST;
 
 // The label of a node that cannot reach the goal.
 const UNREACHED: u32 = 4294967295;

@@ -3,17 +3,17 @@ use super::path_lists::drawn_path;
 use super::path_lists::note_lists;
 use enumerate::Costs;
 use enumerate::Row;
+use fixtures::networks::number_at;
+use fixtures::numbers::count;
+use fixtures::numbers::narrow;
+use fixtures::numbers::node;
+use fixtures::report::LABEL;
+use fixtures::report::Report;
+use fixtures::report::SHORTEST;
 use trials::answers::pair;
 use trials::answers::refusal;
-use trials::networks::number_at;
-use trials::numbers::count;
-use trials::numbers::narrow;
-use trials::numbers::node;
 use trials::path_calls::note_label;
 use trials::path_calls::shortest_agrees;
-use trials::report::LABEL;
-use trials::report::Report;
-use trials::report::SHORTEST;
 
 fn put_number(numbers: &mut [u32], i: usize, number: u32) {
     if i < numbers.len() {

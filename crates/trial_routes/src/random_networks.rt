@@ -1,13 +1,13 @@
 // Random networks of 2 to 8 nodes: the calls on their image.
 use super::path_random::note_paths;
 use super::rank_random::note_ranks;
-use trials::networks::draw_network;
-use trials::plain_image::encode;
-use trials::plain_image::total;
-use trials::random::Random;
-use trials::random::draw;
-use trials::report::LABEL;
-use trials::report::Report;
+use fixtures::networks::draw_network;
+use fixtures::plain_image::encode;
+use fixtures::plain_image::total;
+use fixtures::random::Random;
+use fixtures::random::draw;
+use fixtures::report::LABEL;
+use fixtures::report::Report;
 
 // All calls, between all nodes and in all columns.
 fn note_network(

@@ -1,21 +1,21 @@
 // Document 01's cases of Rank: network S, the network of zero costs, the network without arcs and the
 // line of 200 nodes.
+use fixtures::networks::lay_out_s;
+use fixtures::networks::line_arcs;
+use fixtures::networks::line_nodes;
+use fixtures::plain_image::encode;
+use fixtures::report::RANK;
+use fixtures::report::Report;
+use fixtures::slices::NODE_PATTERN;
+use fixtures::slices::NUMBER_PATTERN;
 use trials::answers::refusal;
 use trials::answers::single;
-use trials::networks::lay_out_s;
-use trials::networks::line_arcs;
-use trials::networks::line_nodes;
-use trials::plain_image::encode;
 use trials::rank_calls::Request;
 use trials::rank_calls::Rooms;
 use trials::rank_calls::needed_rooms;
 use trials::rank_calls::note_rank;
 use trials::rank_calls::rank_agrees;
 use trials::rank_calls::rank_into;
-use trials::report::RANK;
-use trials::report::Report;
-use trials::slices::NODE_PATTERN;
-use trials::slices::NUMBER_PATTERN;
 
 // Rank from 1 to 4, in a network of four nodes.
 fn ranked(

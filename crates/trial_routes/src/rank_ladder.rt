@@ -9,14 +9,14 @@
 // that costs c takes the higher node at step 58 + b exactly if the number c has the bit b.
 // In column 2 every arc costs 1, so all paths cost 132, and the first are those that differ at the
 // end: path c takes the higher node at step 65 - b exactly if c has the bit b.
+use fixtures::plain_image::encode;
+use fixtures::report::RANK;
+use fixtures::report::Report;
+use fixtures::slices::NODE_PATTERN;
+use fixtures::slices::NUMBER_PATTERN;
 use trials::answers::single;
-use trials::plain_image::encode;
 use trials::rank_calls::Request;
 use trials::rank_calls::rank_into;
-use trials::report::RANK;
-use trials::report::Report;
-use trials::slices::NODE_PATTERN;
-use trials::slices::NUMBER_PATTERN;
 ghost use Prim.Native.Nat.{_≤_};
 
 // Two to the power b, for b up to 7.

@@ -3,21 +3,21 @@ use super::path_random::lay_out_paths;
 use super::robust_random::note_robusts;
 use enumerate::Costs;
 use enumerate::Row;
+use fixtures::networks::number_at;
+use fixtures::numbers::count;
+use fixtures::numbers::least;
+use fixtures::numbers::narrow;
+use fixtures::numbers::places;
+use fixtures::report::RANK;
+use fixtures::report::Report;
 use trials::answers::refusal;
 use trials::answers::single;
-use trials::networks::number_at;
-use trials::numbers::count;
-use trials::numbers::least;
-use trials::numbers::narrow;
-use trials::numbers::places;
 use trials::rank_calls::Request;
 use trials::rank_calls::Rooms;
 use trials::rank_calls::longer;
 use trials::rank_calls::needed_rooms;
 use trials::rank_calls::note_short_ranks;
 use trials::rank_calls::rank_agrees;
-use trials::report::RANK;
-use trials::report::Report;
 
 // The node at an index of the rows that Rank writes: n places for each path.
 fn node_at(n: usize, paths: &[Row], at: usize) -> u16 {

@@ -1,22 +1,22 @@
 // Document 01's cases of Robust: network S, the network of zero costs, the network without arcs and
 // the line of 200 nodes.
 use super::rank_cases::lay_out_line;
+use fixtures::networks::lay_out_s;
+use fixtures::plain_image::encode;
+use fixtures::report::ROBUST;
+use fixtures::report::Report;
+use fixtures::slices::NODE_PATTERN;
+use fixtures::slices::NUMBER_PATTERN;
 use trials::answers::Answer;
 use trials::answers::left_open;
 use trials::answers::refusal;
 use trials::answers::settled;
-use trials::networks::lay_out_s;
-use trials::plain_image::encode;
 use trials::rank_calls::Request;
-use trials::report::ROBUST;
-use trials::report::Report;
 use trials::robust_calls::RouteRooms;
 use trials::robust_calls::needed_route_rooms;
 use trials::robust_calls::note_robust;
 use trials::robust_calls::robust_agrees;
 use trials::robust_calls::robust_into;
-use trials::slices::NODE_PATTERN;
-use trials::slices::NUMBER_PATTERN;
 
 // Robust from 1 to 4, in a network of four nodes.
 fn chosen(

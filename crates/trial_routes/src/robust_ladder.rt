@@ -13,17 +13,17 @@ use super::rank_ladder::arc_cost;
 use super::rank_ladder::lay_out_arcs;
 use super::rank_ladder::path_node;
 use super::rank_ladder::power;
+use fixtures::plain_image::encode;
+use fixtures::report::ROBUST;
+use fixtures::report::Report;
+use fixtures::slices::NODE_PATTERN;
+use fixtures::slices::NUMBER_PATTERN;
 use trials::answers::Answer;
 use trials::answers::left_open;
 use trials::answers::settled;
-use trials::plain_image::encode;
 use trials::rank_calls::Request;
-use trials::report::ROBUST;
-use trials::report::Report;
 use trials::robust_calls::needed_route_rooms;
 use trials::robust_calls::robust_into;
-use trials::slices::NODE_PATTERN;
-use trials::slices::NUMBER_PATTERN;
 
 // The cost of an arc in column 2: of the arc to the higher node up to step 57, and of the arc to the
 // lower node from step 58 on.
