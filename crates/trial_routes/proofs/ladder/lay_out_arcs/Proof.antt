@@ -1,19 +1,19 @@
--- `trial_routes::robust_ladder::lay_out_path` is safe and ends.
+-- `trial_routes::ladder::lay_out_arcs` is safe and ends.
 use Prim.Native.Nat.{_-_}
 use mathlib.Core.Path.{_≡_}
 use borrow.Author.Needs.{needs}
 use lib.ListN.{length}
-use Rattle.trial_routes.proofs.robust_ladder.lay_out_path.Statement.{statement}
-use Rattle.trial_routes.proofs.robust_ladder.lay_out_path.Tie as tie
+use Rattle.trial_routes.proofs.ladder.lay_out_arcs.Statement.{statement}
+use Rattle.trial_routes.proofs.ladder.lay_out_arcs.Tie as tie
 
 abbrev Inv-loop : tie.InvT-loop
-Inv-loop c path₀ place₀ place-end path place = length path ≡ length path₀
+Inv-loop arcs₀ at₀ at-end arcs at = length arcs ≡ length arcs₀
 
 abbrev μ-loop : tie.MeasureT-loop
-μ-loop c path₀ place₀ place-end path place = place-end - place
+μ-loop arcs₀ at₀ at-end arcs at = at-end - at
 
-pub lay-out-path-spec : {M : Type 1} → statement M
-lay-out-path-spec =
+pub lay-out-arcs-spec : {M : Type 1} → statement M
+lay-out-arcs-spec =
     tie.close
     (tie.spec
     Inv-loop

@@ -1,26 +1,25 @@
--- `trial_routes::rank_ladder::lay_out_arcs` is safe and ends.
+-- `trial_routes::path_cases::lay_out_labels` is safe and ends.
 use Prim.Native.Nat.{_-_}
 use mathlib.Core.Path.{_≡_}
 use borrow.Author.Needs.{needs}
 use lib.ListN.{length}
-use Rattle.trial_routes.proofs.rank_ladder.lay_out_arcs.Statement.{statement}
-use Rattle.trial_routes.proofs.rank_ladder.lay_out_arcs.Tie as tie
+use Rattle.trial_routes.proofs.path_cases.lay_out_labels.Statement.{statement}
+use Rattle.trial_routes.proofs.path_cases.lay_out_labels.Tie as tie
 
 abbrev Inv-loop : tie.InvT-loop
-Inv-loop arcs₀ at₀ at-end arcs at = length arcs ≡ length arcs₀
+Inv-loop labels₀ i₀ i-end labels i = length labels ≡ length labels₀
 
 abbrev μ-loop : tie.MeasureT-loop
-μ-loop arcs₀ at₀ at-end arcs at = at-end - at
+μ-loop labels₀ i₀ i-end labels i = i-end - i
 
-pub lay-out-arcs-spec : {M : Type 1} → statement M
-lay-out-arcs-spec =
+pub lay-out-labels-spec : {M : Type 1} → statement M
+lay-out-labels-spec =
     tie.close
     (tie.spec
     Inv-loop
     μ-loop
     (λ c. search needs)
     (λ c κs. search needs)
-    (λ c. search needs)
     (λ c. search needs)
     (λ c. search needs)
     (λ c. search needs)
