@@ -1,6 +1,18 @@
 // The calls of the image layer, each held to the answer that it should give and to what the slices
 // that are lent to it should hold after it.
 use super::plain_answers::check_answer;
+use fixtures::numbers::count;
+use fixtures::numbers::product;
+use fixtures::report::CHECK;
+use fixtures::report::REBUILD;
+use fixtures::report::Report;
+use fixtures::report::UNPACK;
+use fixtures::slices::BYTE_PATTERN;
+use fixtures::slices::NODE_PATTERN;
+use fixtures::slices::NUMBER_PATTERN;
+use fixtures::slices::holds_bytes;
+use fixtures::slices::holds_nodes;
+use fixtures::slices::holds_numbers;
 use packing::Unpacked;
 use trials::answers::Answer;
 use trials::answers::of_build;
@@ -8,19 +20,7 @@ use trials::answers::of_check;
 use trials::answers::of_unpack;
 use trials::answers::same_answer;
 use trials::answers::single;
-use trials::numbers::count;
-use trials::numbers::product;
 use trials::refused_images::note_refused_paths;
-use trials::report::CHECK;
-use trials::report::REBUILD;
-use trials::report::Report;
-use trials::report::UNPACK;
-use trials::slices::BYTE_PATTERN;
-use trials::slices::NODE_PATTERN;
-use trials::slices::NUMBER_PATTERN;
-use trials::slices::holds_bytes;
-use trials::slices::holds_nodes;
-use trials::slices::holds_numbers;
 
 // Places for the largest network's image and lists, and some more.
 const IMAGE_PLACES: usize = 36100;

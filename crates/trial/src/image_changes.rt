@@ -2,10 +2,10 @@
 // Check and Unpack say of it.
 use super::image_calls::note_image;
 use super::image_calls::note_refused_image;
+use fixtures::networks::lay_out_s;
+use fixtures::networks::s_byte;
+use fixtures::report::Report;
 use trials::answers::refusal;
-use trials::networks::lay_out_s;
-use trials::networks::s_byte;
-use trials::report::Report;
 
 // Each row: an offset and a number of two bytes that is put there, the same once more, and the
 // number and place of the refusal.

@@ -4,22 +4,22 @@ use super::image_calls::build_agrees;
 use super::image_calls::check_agrees;
 use super::image_calls::rebuild_agrees;
 use super::image_calls::unpack_agrees;
+use fixtures::networks::S_COSTS;
+use fixtures::networks::S_NODES;
+use fixtures::networks::largest_nodes;
+use fixtures::networks::lay_out_s;
+use fixtures::plain_image::arc_count;
+use fixtures::plain_image::encode;
+use fixtures::plain_image::total;
+use fixtures::report::BUILD;
+use fixtures::report::CHECK;
+use fixtures::report::REBUILD;
+use fixtures::report::Report;
+use fixtures::report::UNPACK;
 use trials::answers::Answer;
 use trials::answers::refusal;
 use trials::answers::single;
 use trials::answers::sizes;
-use trials::networks::S_COSTS;
-use trials::networks::S_NODES;
-use trials::networks::largest_nodes;
-use trials::networks::lay_out_s;
-use trials::plain_image::arc_count;
-use trials::plain_image::encode;
-use trials::plain_image::total;
-use trials::report::BUILD;
-use trials::report::CHECK;
-use trials::report::REBUILD;
-use trials::report::Report;
-use trials::report::UNPACK;
 
 // Build into a slice that is exactly long enough, into a longer one and into one a byte too short.
 fn note_builds(

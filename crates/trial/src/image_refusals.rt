@@ -2,12 +2,12 @@
 // the same lists.
 use super::image_calls::build_agrees;
 use super::image_calls::note_refused_image;
+use fixtures::plain_image::encode;
+use fixtures::plain_image::total;
+use fixtures::report::BUILD;
+use fixtures::report::CHECK;
+use fixtures::report::Report;
 use trials::answers::refusal;
-use trials::plain_image::encode;
-use trials::plain_image::total;
-use trials::report::BUILD;
-use trials::report::CHECK;
-use trials::report::Report;
 
 // Build into a slice of `room` bytes refuses with this number and place, and writes nothing.
 fn build_refuses(

@@ -1,15 +1,15 @@
 // The refusal table on the numbers and slices that the path layer's calls are given with network S.
 // Their node lists stand with document 01's cases, and the images that they refuse with those of
 // Check.
+use fixtures::networks::lay_out_s;
+use fixtures::report::LABEL;
+use fixtures::report::REGRET;
+use fixtures::report::Report;
+use fixtures::report::SHORTEST;
 use trials::answers::refusal;
-use trials::networks::lay_out_s;
 use trials::path_calls::label_agrees;
 use trials::path_calls::regret_agrees;
 use trials::path_calls::shortest_agrees;
-use trials::report::LABEL;
-use trials::report::REGRET;
-use trials::report::Report;
-use trials::report::SHORTEST;
 
 // Each row: column, start, goal and the places of the lent slice; and the numbers of the refusals
 // by Label, Shortest and Regret, or 0 where the call is left out.

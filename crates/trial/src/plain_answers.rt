@@ -1,18 +1,18 @@
 // What Check and Build answer by the refusal table of document 01, row by row, written apart from
 // the library.
+use fixtures::numbers::count;
+use fixtures::numbers::product;
+use fixtures::numbers::wide16;
+use fixtures::plain_image::arc_count;
+use fixtures::plain_image::decode_costs;
+use fixtures::plain_image::decode_nodes;
+use fixtures::plain_image::number16;
+use fixtures::plain_image::number32;
+use fixtures::plain_image::total;
 use trials::answers::Answer;
 use trials::answers::refusal;
 use trials::answers::single;
 use trials::answers::sizes;
-use trials::numbers::count;
-use trials::numbers::product;
-use trials::numbers::wide16;
-use trials::plain_image::arc_count;
-use trials::plain_image::decode_costs;
-use trials::plain_image::decode_nodes;
-use trials::plain_image::number16;
-use trials::plain_image::number32;
-use trials::plain_image::total;
 ghost use Prim.Native.Nat.{_≤_};
 
 // Row 3.

@@ -4,15 +4,15 @@ use super::image_calls::build_agrees;
 use super::image_calls::note_image;
 use super::image_networks::note_network;
 use super::plain_answers::build_answer;
-use trials::networks::draw_network;
-use trials::networks::number_at;
-use trials::plain_image::encode;
-use trials::plain_image::total;
-use trials::random::Random;
-use trials::random::draw;
-use trials::report::BUILD;
-use trials::report::CHECK;
-use trials::report::Report;
+use fixtures::networks::draw_network;
+use fixtures::networks::number_at;
+use fixtures::plain_image::encode;
+use fixtures::plain_image::total;
+use fixtures::random::Random;
+use fixtures::random::draw;
+use fixtures::report::BUILD;
+use fixtures::report::CHECK;
+use fixtures::report::Report;
 
 // The calls on a sound network.
 fn note_sound(

@@ -1,11 +1,11 @@
 // The refusal table on the numbers and slices that Rank is given with network S.
+use fixtures::networks::lay_out_s;
+use fixtures::report::RANK;
+use fixtures::report::Report;
 use trials::answers::refusal;
-use trials::networks::lay_out_s;
 use trials::rank_calls::Request;
 use trials::rank_calls::Rooms;
 use trials::rank_calls::rank_agrees;
-use trials::report::RANK;
-use trials::report::Report;
 
 // Each row: column, start, goal and K; the places of the rows, the costs and the workspace; and the
 // number of the refusal. K = 5 needs 20, 5 and 248 places, K = 1 needs 4, 1 and 168 and K = 256

@@ -1,9 +1,9 @@
 // The refusal table on the numbers and slices that Robust is given with network S.
+use fixtures::networks::lay_out_s;
+use fixtures::report::ROBUST;
+use fixtures::report::Report;
 use trials::answers::refusal;
-use trials::networks::lay_out_s;
 use trials::rank_calls::Request;
-use trials::report::ROBUST;
-use trials::report::Report;
 use trials::robust_calls::RouteRooms;
 use trials::robust_calls::robust_agrees;
 

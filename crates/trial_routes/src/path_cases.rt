@@ -1,18 +1,19 @@
 // Document 01's cases for the calls of the path layer: network S, the network of zero costs, the
 // network without arcs and the line of 200 nodes.
+use super::case_images::line;
+use super::case_images::line_path;
+use super::case_images::network_s;
+use super::case_images::no_arcs;
+use super::case_images::zero_costs;
+use fixtures::report::REGRET;
+use fixtures::report::Report;
+use fixtures::report::SHORTEST;
 use trials::answers::pair;
 use trials::answers::refusal;
-use trials::networks::lay_out_s;
-use trials::networks::line_arcs;
-use trials::networks::line_nodes;
 use trials::path_calls::note_label;
 use trials::path_calls::note_shortest;
 use trials::path_calls::regret_agrees;
 use trials::path_calls::shortest_agrees;
-use trials::plain_image::encode;
-use trials::report::REGRET;
-use trials::report::Report;
-use trials::report::SHORTEST;
 
 // The label of a node that cannot reach the goal.
 const UNREACHED: u32 = 4294967295;
@@ -90,13 +91,11 @@ fn lists_on_s(mut report: Report, image: &[u8]) -> Report {
     list_refused(report, image, 4, 1, &[4, 1], 1)
 }
 
-fn network_s() {
-    let mut image = [0u8; 84];
-    lay_out_s(&mut image);
-    let mut report = labels_of_s(Report::new(), &image);
-    report = paths_of_s(report, &image);
-    report = figures_of_s(report, &image);
-    lists_on_s(report, &image).print(b"network S");
+fn note_s(mut report: Report, image: &[u8]) -> Report {
+    report = labels_of_s(report, image);
+    report = paths_of_s(report, image);
+    report = figures_of_s(report, image);
+    lists_on_s(report, image)
 }
 
 fn note_zero_costs(mut report: Report, image: &[u8]) -> Report {
@@ -109,26 +108,10 @@ fn note_zero_costs(mut report: Report, image: &[u8]) -> Report {
     list_refused(report, image, 1, 4, &[1, 3, 2, 3, 4], 3)
 }
 
-// n = 4, k = 1, arcs 1→3, 2→3, 2→4, 3→2, 3→4, all cost 0.
-fn zero_costs() {
-    let mut image = [0u8; 64];
-    encode(
-        4,
-        1,
-        &[1, 3, 2, 3, 2, 4, 3, 2, 3, 4],
-        &[0, 0, 0, 0, 0],
-        &mut image,
-    );
-    note_zero_costs(Report::new(), &image).print(b"network of zero costs");
-}
-
-// n = 2, m = 0, k = 1.
-fn no_arcs() {
-    let mut image = [0u8; 24];
-    encode(2, 1, &[], &[], &mut image);
-    let mut report = note_label(Report::new(), &image, 1, 2, &[UNREACHED, 0]);
-    report = no_path(report, &image, 1, 2);
-    list_refused(report, &image, 1, 2, &[1, 2], 1).print(b"network without arcs");
+fn note_no_arcs(mut report: Report, image: &[u8]) -> Report {
+    report = note_label(report, image, 1, 2, &[UNREACHED, 0]);
+    report = no_path(report, image, 1, 2);
+    list_refused(report, image, 1, 2, &[1, 2], 1)
 }
 
 fn line_label(i: usize) -> u32 {
@@ -139,11 +122,17 @@ fn line_label(i: usize) -> u32 {
     }
 }
 
-// The labels of the line's nodes to the last of 200.
-fn line_labels(labels: &mut [u32]) {
+fn lay_out_labels(labels: &mut [u32]) {
     for i in 0..labels.len() {
         labels[i] = line_label(i);
     }
+}
+
+// The labels of the line's nodes to the last of 200.
+fn line_labels() -> [u32; 200] {
+    let mut labels = [0u32; 200];
+    lay_out_labels(&mut labels);
+    labels
 }
 
 fn note_line(image: &[u8], nodes: &[u16], labels: &[u32]) -> Report {
@@ -157,26 +146,9 @@ fn note_line(image: &[u8], nodes: &[u16], labels: &[u32]) -> Report {
     list_refused(report, image, 2, 1, &nodes[1..200], 199)
 }
 
-fn lay_out_line(arcs: &mut [u16], nodes: &mut [u16], labels: &mut [u32], image: &mut [u8]) {
-    line_arcs(arcs);
-    line_nodes(nodes);
-    line_labels(labels);
-    encode(200, 1, arcs, &[1000000; 199], image);
-}
-
-// 200 nodes in a line, arcs from each to the next, each cost 1,000,000.
-fn line() {
-    let mut arcs = [0u16; 398];
-    let mut nodes = [0u16; 200];
-    let mut labels = [0u32; 200];
-    let mut image = [0u8; 1616];
-    lay_out_line(&mut arcs, &mut nodes, &mut labels, &mut image);
-    note_line(&image, &nodes, &labels).print(b"line of 200 nodes");
-}
-
 pub fn run() {
-    network_s();
-    zero_costs();
-    no_arcs();
-    line();
+    note_s(Report::new(), &network_s()).print(b"network S");
+    note_zero_costs(Report::new(), &zero_costs()).print(b"network of zero costs");
+    note_no_arcs(Report::new(), &no_arcs()).print(b"network without arcs");
+    note_line(&line(), &line_path(), &line_labels()).print(b"line of 200 nodes");
 }

@@ -2,16 +2,16 @@
 use enumerate::Costs;
 use enumerate::NodeList;
 use enumerate::Row;
+use fixtures::networks::number_at;
+use fixtures::numbers::count;
+use fixtures::numbers::narrow;
+use fixtures::numbers::node;
+use fixtures::report::REGRET;
+use fixtures::report::Report;
 use trials::answers::Answer;
 use trials::answers::pair;
 use trials::answers::refusal;
-use trials::networks::number_at;
-use trials::numbers::count;
-use trials::numbers::narrow;
-use trials::numbers::node;
 use trials::path_calls::regret_agrees;
-use trials::report::REGRET;
-use trials::report::Report;
 
 // Regret's answer for a list of up to eight nodes, which is given as a row too.
 fn regret_answer(

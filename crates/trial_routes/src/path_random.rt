@@ -1,19 +1,20 @@
 // Random networks: the calls of the path layer, held to the plain enumeration of all paths.
 use super::path_lists::drawn_path;
 use super::path_lists::note_lists;
+use super::rank_random::note_ranks;
 use enumerate::Costs;
 use enumerate::Row;
+use fixtures::networks::number_at;
+use fixtures::numbers::count;
+use fixtures::numbers::narrow;
+use fixtures::numbers::node;
+use fixtures::report::LABEL;
+use fixtures::report::Report;
+use fixtures::report::SHORTEST;
 use trials::answers::pair;
 use trials::answers::refusal;
-use trials::networks::number_at;
-use trials::numbers::count;
-use trials::numbers::narrow;
-use trials::numbers::node;
 use trials::path_calls::note_label;
 use trials::path_calls::shortest_agrees;
-use trials::report::LABEL;
-use trials::report::Report;
-use trials::report::SHORTEST;
 
 fn put_number(numbers: &mut [u32], i: usize, number: u32) {
     if i < numbers.len() {
@@ -33,7 +34,7 @@ fn put_labels(labels: &mut [u32], start: u32, of_node: Costs) {
 }
 
 // All paths from a start to a goal with their costs, and their number.
-pub fn lay_out_paths(
+fn lay_out_paths(
     start: u32,
     goal: u32,
     arcs: &[u16],
@@ -96,30 +97,29 @@ fn note_firsts(
     report
 }
 
-// The calls from a start to a goal, by all paths with their costs. Puts the start's labels into the
-// table.
+// The calls from a start to a goal, if they differ, by all paths with their costs. Rank and Robust put
+// these into their order.
 fn note_pair(
     mut report: Report,
+    code: u32,
     n: u32,
     k: u32,
-    start: u32,
-    goal: u32,
     arcs: &[u16],
     costs: &[u32],
     numbers: &[u32],
     image: &[u8],
-    rows: &[Row],
-    prices: &[Costs],
-    labels: &mut [u32],
+    bests: Costs,
+    rows: &mut [Row],
+    prices: &mut [Costs],
 ) -> Report {
-    let bests = enumerate::labels(k, node(start), node(goal), rows, prices);
-    put_labels(labels, start, bests);
+    let start = code % 8 + 1;
+    let goal = code / 8 + 1;
     if start == goal {
         return report;
     }
     report = note_firsts(report, n, k, start, goal, image, rows, prices);
     let path = drawn_path(rows, number_at(numbers, start as usize));
-    note_lists(
+    report = note_lists(
         report,
         n,
         start,
@@ -130,7 +130,8 @@ fn note_pair(
         path,
         numbers,
         image,
-    )
+    );
+    note_ranks(report, n, k, code, numbers, image, bests, rows, prices)
 }
 
 // Label with a goal, in each column, held to the table of labels.
@@ -153,10 +154,20 @@ fn note_columns(
     report
 }
 
-// The calls for one of the 64 pairs of eight nodes, if the network has both. Label comes with the
-// last start, when the table of labels is full.
+// Label with the goal of a pair, when its last start has filled the table.
+fn note_goal(report: Report, code: u32, n: u32, k: u32, image: &[u8], labels: &[u32]) -> Report {
+    let start = code % 8 + 1;
+    let goal = code / 8 + 1;
+    if start != n || n < goal {
+        return report;
+    }
+    note_columns(report, n, k, goal, image, labels)
+}
+
+// The calls for one of the 64 pairs of eight nodes, if the network has both. Puts the start's labels
+// into the table.
 fn note_code(
-    mut report: Report,
+    report: Report,
     code: u32,
     n: u32,
     k: u32,
@@ -180,26 +191,23 @@ fn note_code(
     if prices.len() < paths {
         return report.note(LABEL, false);
     }
-    let all = &rows[0..paths];
-    let priced = &prices[0..paths];
-    report = note_pair(
+    let all = &mut rows[0..paths];
+    let priced = &mut prices[0..paths];
+    let bests = enumerate::labels(k, node(start), node(goal), all, priced);
+    put_labels(labels, start, bests);
+    note_pair(
         report,
+        code,
         n,
         k,
-        start,
-        goal,
         arcs,
         costs,
         numbers,
         image,
+        bests,
         all,
         priced,
-        labels,
-    );
-    if start < n {
-        return report;
-    }
-    note_columns(report, n, k, goal, image, labels)
+    )
 }
 
 fn note_codes(
@@ -228,6 +236,7 @@ fn note_codes(
             prices,
             labels,
         );
+        report = note_goal(report, code, n, k, image, labels);
     }
     report
 }

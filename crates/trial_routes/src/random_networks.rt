@@ -1,17 +1,16 @@
 // Random networks of 2 to 8 nodes: the calls on their image.
 use super::path_random::note_paths;
-use super::rank_random::note_ranks;
-use trials::networks::draw_network;
-use trials::plain_image::encode;
-use trials::plain_image::total;
-use trials::random::Random;
-use trials::random::draw;
-use trials::report::LABEL;
-use trials::report::Report;
+use fixtures::networks::draw_network;
+use fixtures::plain_image::encode;
+use fixtures::plain_image::total;
+use fixtures::random::Random;
+use fixtures::random::draw;
+use fixtures::report::LABEL;
+use fixtures::report::Report;
 
 // All calls, between all nodes and in all columns.
 fn note_network(
-    mut report: Report,
+    report: Report,
     n: u32,
     k: u32,
     nodes: &[u16],
@@ -20,8 +19,7 @@ fn note_network(
     image: &mut [u8],
 ) -> Report {
     encode(n, k, nodes, costs, image);
-    report = note_paths(report, n, k, nodes, costs, numbers, image);
-    note_ranks(report, n, k, nodes, costs, numbers, image)
+    note_paths(report, n, k, nodes, costs, numbers, image)
 }
 
 // Draws a network from numbers, and lends its lists and as much as its image takes.

@@ -1,21 +1,22 @@
 // Document 01's cases of Rank: network S, the network of zero costs, the network without arcs and the
 // line of 200 nodes.
+use super::case_images::line;
+use super::case_images::line_path;
+use super::case_images::network_s;
+use super::case_images::no_arcs;
+use super::case_images::zero_costs;
+use fixtures::report::RANK;
+use fixtures::report::Report;
+use fixtures::slices::NODE_PATTERN;
+use fixtures::slices::NUMBER_PATTERN;
 use trials::answers::refusal;
 use trials::answers::single;
-use trials::networks::lay_out_s;
-use trials::networks::line_arcs;
-use trials::networks::line_nodes;
-use trials::plain_image::encode;
 use trials::rank_calls::Request;
 use trials::rank_calls::Rooms;
 use trials::rank_calls::needed_rooms;
 use trials::rank_calls::note_rank;
 use trials::rank_calls::rank_agrees;
 use trials::rank_calls::rank_into;
-use trials::report::RANK;
-use trials::report::Report;
-use trials::slices::NODE_PATTERN;
-use trials::slices::NUMBER_PATTERN;
 
 // Rank from 1 to 4, in a network of four nodes.
 fn ranked(
@@ -62,33 +63,10 @@ fn note_s(mut report: Report, image: &[u8]) -> Report {
     no_path(report, image, 4, 3, 2)
 }
 
-fn network_s() {
-    let mut image = [0u8; 84];
-    lay_out_s(&mut image);
-    note_s(Report::new(), &image).print(b"network S");
-}
-
-// n = 4, k = 1, arcs 1→3, 2→3, 2→4, 3→2, 3→4, all cost 0.
-fn zero_costs() {
-    let mut image = [0u8; 64];
-    encode(
-        4,
-        1,
-        &[1, 3, 2, 3, 2, 4, 3, 2, 3, 4],
-        &[0, 0, 0, 0, 0],
-        &mut image,
-    );
+fn note_zero_costs(mut report: Report, image: &[u8]) -> Report {
     let rows = [1, 3, 2, 4, 1, 3, 4, 0];
-    let mut report = ranked(Report::new(), &image, 1, 5, &rows, &[0, 0]);
-    report = ranked(report, &image, 1, 1, &rows[0..4], &[0]);
-    report.print(b"network of zero costs");
-}
-
-// n = 2, m = 0, k = 1.
-fn no_arcs() {
-    let mut image = [0u8; 24];
-    encode(2, 1, &[], &[], &mut image);
-    no_path(Report::new(), &image, 2, 1, 2).print(b"network without arcs");
+    report = ranked(report, image, 1, 5, &rows, &[0, 0]);
+    ranked(report, image, 1, 1, &rows[0..4], &[0])
 }
 
 // Rank on the line with K = 2, which needs 400 places for rows, 2 for costs and 3,912 for work. The
@@ -134,28 +112,15 @@ fn note_line(report: Report, image: &[u8], wanted: u32, nodes: &[u16]) -> Report
     )
 }
 
-// The image of the line, and its one path.
-pub fn lay_out_line(arcs: &mut [u16], nodes: &mut [u16], image: &mut [u8]) {
-    line_arcs(arcs);
-    line_nodes(nodes);
-    encode(200, 1, arcs, &[1000000; 199], image);
-}
-
-// 200 nodes in a line, arcs from each to the next, each cost 1,000,000.
-fn line() {
-    let mut arcs = [0u16; 398];
-    let mut nodes = [0u16; 200];
-    let mut image = [0u8; 1616];
-    lay_out_line(&mut arcs, &mut nodes, &mut image);
-    let mut report = note_line(Report::new(), &image, 1, &nodes);
-    report = note_line(report, &image, 2, &nodes);
-    report = note_line(report, &image, 256, &nodes);
-    report.print(b"line of 200 nodes");
+fn note_lines(mut report: Report, image: &[u8], nodes: &[u16]) -> Report {
+    report = note_line(report, image, 1, nodes);
+    report = note_line(report, image, 2, nodes);
+    note_line(report, image, 256, nodes)
 }
 
 pub fn run() {
-    network_s();
-    zero_costs();
-    no_arcs();
-    line();
+    note_s(Report::new(), &network_s()).print(b"network S");
+    note_zero_costs(Report::new(), &zero_costs()).print(b"network of zero costs");
+    no_path(Report::new(), &no_arcs(), 2, 1, 2).print(b"network without arcs");
+    note_lines(Report::new(), &line(), &line_path()).print(b"line of 200 nodes");
 }

@@ -1,23 +1,22 @@
 // Random networks: Rank, held to the plain enumeration of all paths, and Robust by the same paths.
-use super::path_random::lay_out_paths;
 use super::robust_random::note_robusts;
 use enumerate::Costs;
 use enumerate::Row;
+use fixtures::networks::number_at;
+use fixtures::numbers::count;
+use fixtures::numbers::least;
+use fixtures::numbers::narrow;
+use fixtures::numbers::places;
+use fixtures::report::RANK;
+use fixtures::report::Report;
 use trials::answers::refusal;
 use trials::answers::single;
-use trials::networks::number_at;
-use trials::numbers::count;
-use trials::numbers::least;
-use trials::numbers::narrow;
-use trials::numbers::places;
 use trials::rank_calls::Request;
 use trials::rank_calls::Rooms;
 use trials::rank_calls::longer;
 use trials::rank_calls::needed_rooms;
 use trials::rank_calls::note_short_ranks;
 use trials::rank_calls::rank_agrees;
-use trials::report::RANK;
-use trials::report::Report;
 
 // The node at an index of the rows that Rank writes: n places for each path.
 fn node_at(n: usize, paths: &[Row], at: usize) -> u16 {
@@ -164,7 +163,8 @@ fn note_column(
     note_robusts(noted, image, n, request, bests, paths, prices)
 }
 
-fn note_columns(
+// Rank and Robust for a pair of nodes in all columns.
+pub fn note_ranks(
     mut report: Report,
     n: u32,
     k: u32,
@@ -179,90 +179,4 @@ fn note_columns(
         report = note_column(report, n, u, code, numbers, image, bests, paths, prices);
     }
     report
-}
-
-// Rank and Robust for one of the 64 pairs of eight nodes, if the network has both and they differ.
-fn note_code(
-    report: Report,
-    code: u32,
-    n: u32,
-    k: u32,
-    arcs: &[u16],
-    costs: &[u32],
-    numbers: &[u32],
-    image: &[u8],
-    rows: &mut [Row],
-    prices: &mut [Costs],
-) -> Report {
-    let start = code % 8 + 1;
-    let goal = code / 8 + 1;
-    if n < start || n < goal || start == goal {
-        return report;
-    }
-    let found = lay_out_paths(start, goal, arcs, costs, rows, prices);
-    if rows.len() < found {
-        return report.note(RANK, false);
-    }
-    if prices.len() < found {
-        return report.note(RANK, false);
-    }
-    let all = &mut rows[0..found];
-    let priced = &mut prices[0..found];
-    let bests = enumerate::bests(k, all, priced);
-    note_columns(report, n, k, code, numbers, image, bests, all, priced)
-}
-
-fn note_codes(
-    mut report: Report,
-    n: u32,
-    k: u32,
-    arcs: &[u16],
-    costs: &[u32],
-    numbers: &[u32],
-    image: &[u8],
-    rows: &mut [Row],
-    prices: &mut [Costs],
-) -> Report {
-    for code in 0..64u32 {
-        report = note_code(
-            report,
-            code,
-            n,
-            k,
-            arcs,
-            costs,
-            numbers,
-            image,
-            rows,
-            prices,
-        );
-    }
-    report
-}
-
-// Rank and Robust on a network of up to eight nodes, between all of them and in all columns.
-pub fn note_ranks(
-    report: Report,
-    n: u32,
-    k: u32,
-    arcs: &[u16],
-    costs: &[u32],
-    numbers: &[u32],
-    image: &[u8],
-) -> Report {
-    let row = [0u16; 8];
-    let price = [0u64; 8];
-    let mut rows = [row; 3914];
-    let mut prices = [price; 1957];
-    note_codes(
-        report,
-        n,
-        k,
-        arcs,
-        costs,
-        numbers,
-        image,
-        &mut rows,
-        &mut prices,
-    )
 }

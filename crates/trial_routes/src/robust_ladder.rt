@@ -9,57 +9,18 @@
 // By column 1 the path j + 1 has c = j, so the least figure of the first j is 256 - j up to j = 128,
 // and the stopping rule needs 128 paths. The same holds by column 2, where the path j + 1 has
 // c = 255 - j.
-use super::rank_ladder::arc_cost;
-use super::rank_ladder::lay_out_arcs;
-use super::rank_ladder::path_node;
-use super::rank_ladder::power;
+use super::ladder::ladder;
+use super::ladder::lay_out_rows;
+use fixtures::report::ROBUST;
+use fixtures::report::Report;
+use fixtures::slices::NODE_PATTERN;
+use fixtures::slices::NUMBER_PATTERN;
 use trials::answers::Answer;
 use trials::answers::left_open;
 use trials::answers::settled;
-use trials::plain_image::encode;
 use trials::rank_calls::Request;
-use trials::report::ROBUST;
-use trials::report::Report;
 use trials::robust_calls::needed_route_rooms;
 use trials::robust_calls::robust_into;
-use trials::slices::NODE_PATTERN;
-use trials::slices::NUMBER_PATTERN;
-
-// The cost of an arc in column 2: of the arc to the higher node up to step 57, and of the arc to the
-// lower node from step 58 on.
-fn other_cost(arc: usize) -> usize {
-    let step = arc / 4;
-    let way = arc % 4;
-    if step < 58 {
-        return if way == 1 { 1000 } else { 0 };
-    }
-    if way != 0 {
-        return 0;
-    }
-    power(step - 58)
-}
-
-// The costs of both columns, 264 each.
-fn cost(at: usize) -> usize {
-    if at < 264 {
-        arc_cost(at)
-    } else {
-        other_cost(at - 264)
-    }
-}
-
-fn lay_out_costs(costs: &mut [u32]) {
-    for at in 0..costs.len() {
-        costs[at] = (cost(at) % 4294967296) as u32;
-    }
-}
-
-// The path with the number c.
-fn lay_out_path(c: usize, path: &mut [u16]) {
-    for place in 0..path.len() {
-        path[place] = (path_node(1, c, place) % 65536) as u16;
-    }
-}
 
 // Robust with slices for K = 256, which needs 257 * 215 + 16 * 199 + 64 = 58,503 numbers of work.
 fn robust_column(image: &[u8], column: u32, wanted: u32, expected: Answer, nodes: &[u16]) -> bool {
@@ -95,7 +56,7 @@ fn chosen(
     c: usize,
 ) -> Report {
     let mut nodes = [0u16; 133];
-    lay_out_path(c, &mut nodes);
+    lay_out_rows(1, c, &mut nodes);
     report.note(
         ROBUST,
         robust_column(image, column, wanted, expected, &nodes),
@@ -114,17 +75,6 @@ fn note_ladder(mut report: Report, image: &[u8]) -> Report {
     chosen(report, image, 2, 256, settled(133, 128, 1, 128), 128)
 }
 
-fn lay_out_ladder(arcs: &mut [u16], costs: &mut [u32], image: &mut [u8]) {
-    lay_out_arcs(arcs);
-    lay_out_costs(costs);
-    encode(199, 2, arcs, costs, image);
-}
-
-// 264 arcs and two columns: 24 + 4 * 264 + 8 * 264 bytes.
 pub fn run() {
-    let mut arcs = [0u16; 528];
-    let mut costs = [0u32; 528];
-    let mut image = [0u8; 3192];
-    lay_out_ladder(&mut arcs, &mut costs, &mut image);
-    note_ladder(Report::new(), &image).print(b"ladder of 199 nodes");
+    note_ladder(Report::new(), &ladder(true)).print(b"ladder of 199 nodes");
 }

@@ -3,11 +3,11 @@
 //
 // examples/make.py makes the images, and the sheets in the file stdout that they are held to, apart
 // from the library.
+use fixtures::slices::BYTE_PATTERN;
+use fixtures::slices::holds_bytes;
 use libc::STDOUT_FILENO;
 use sheet::Printed;
 use sheet::sheet;
-use trials::slices::BYTE_PATTERN;
-use trials::slices::holds_bytes;
 
 // No image is longer than 36,024 bytes.
 const IMAGE_PLACES: usize = 36025;

@@ -1,8 +1,10 @@
 // The answer of a call as numbers, in document 01's terms.
-use super::slices::holds_numbers;
+use fixtures::slices::holds_numbers;
 use image::Checked;
 use image::Refusal;
 use image::Sizes;
+use image::number;
+use image::place;
 use packing::Built;
 use packing::Unpacked;
 use routes::Decided;
@@ -80,24 +82,7 @@ pub fn written() -> Answer {
 
 // The number of a row of the refusal table, and the place that it names.
 fn of_refusal(row: Refusal) -> Answer {
-    match row {
-        Refusal::ImageTooShort => refusal(1, 0),
-        Refusal::WrongEdition => refusal(2, 0),
-        Refusal::SizeOutOfRange => refusal(3, 0),
-        Refusal::WrongField => refusal(4, 0),
-        Refusal::WrongLength => refusal(5, 0),
-        Refusal::ArcOutOfRange(arc) => refusal(6, arc),
-        Refusal::ArcToItself(arc) => refusal(7, arc),
-        Refusal::ArcNotRising(arc) => refusal(8, arc),
-        Refusal::CostTooLarge(cost) => refusal(9, cost),
-        Refusal::WrongEnds => refusal(10, 0),
-        Refusal::WrongColumn => refusal(11, 0),
-        Refusal::WrongPathCount => refusal(12, 0),
-        Refusal::SliceTooShort => refusal(13, 0),
-        Refusal::NotAPath(position) => refusal(14, position),
-        Refusal::NoPath => refusal(15, 0),
-        Refusal::CostOverflow => refusal(16, 0),
-    }
+    refusal(number(row), place(row))
 }
 
 fn of_sizes(given: Sizes) -> Answer {

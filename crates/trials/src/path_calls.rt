@@ -8,14 +8,14 @@ use super::answers::pair;
 use super::answers::refusal;
 use super::answers::same_answer;
 use super::answers::written;
-use super::numbers::count;
-use super::report::LABEL;
-use super::report::Report;
-use super::report::SHORTEST;
-use super::slices::NODE_PATTERN;
-use super::slices::NUMBER_PATTERN;
-use super::slices::holds_nodes;
-use super::slices::holds_numbers;
+use fixtures::numbers::count;
+use fixtures::report::LABEL;
+use fixtures::report::Report;
+use fixtures::report::SHORTEST;
+use fixtures::slices::NODE_PATTERN;
+use fixtures::slices::NUMBER_PATTERN;
+use fixtures::slices::holds_nodes;
+use fixtures::slices::holds_numbers;
 
 // Places for 200 nodes, and some more.
 const PLACES: usize = 210;

@@ -5,15 +5,15 @@ use super::answers::of_rank;
 use super::answers::refusal;
 use super::answers::same_answer;
 use super::answers::single;
-use super::numbers::count;
-use super::numbers::places;
-use super::report::RANK;
-use super::report::Report;
-use super::slices::NODE_PATTERN;
-use super::slices::NUMBER_PATTERN;
-use super::slices::holds_nodes;
-use super::slices::holds_numbers;
-use super::slices::is_filled;
+use fixtures::numbers::count;
+use fixtures::numbers::places;
+use fixtures::report::RANK;
+use fixtures::report::Report;
+use fixtures::slices::NODE_PATTERN;
+use fixtures::slices::NUMBER_PATTERN;
+use fixtures::slices::holds_nodes;
+use fixtures::slices::holds_numbers;
+use fixtures::slices::is_filled;
 
 // Places for 256 paths of eight nodes and the workspace for them, and some more.
 const ROW_PLACES: usize = 2060;

@@ -7,15 +7,15 @@ use super::rank_calls::Request;
 use super::rank_calls::Rooms;
 use super::rank_calls::needed_rooms;
 use super::rank_calls::rank_agrees;
-use super::report::LABEL;
-use super::report::RANK;
-use super::report::REGRET;
-use super::report::ROBUST;
-use super::report::Report;
-use super::report::SHORTEST;
 use super::robust_calls::RouteRooms;
 use super::robust_calls::needed_route_rooms;
 use super::robust_calls::robust_agrees;
+use fixtures::report::LABEL;
+use fixtures::report::RANK;
+use fixtures::report::REGRET;
+use fixtures::report::ROBUST;
+use fixtures::report::Report;
+use fixtures::report::SHORTEST;
 
 // A request that network S admits.
 fn admitted() -> Request {

@@ -4,18 +4,18 @@ use super::answers::Answer;
 use super::answers::of_robust;
 use super::answers::refusal;
 use super::answers::same_answer;
-use super::numbers::count;
 use super::rank_calls::Request;
 use super::rank_calls::WORK_PLACES;
 use super::rank_calls::less;
 use super::rank_calls::needed_rooms;
 use super::rank_calls::work_after;
-use super::report::ROBUST;
-use super::report::Report;
-use super::slices::NODE_PATTERN;
-use super::slices::NUMBER_PATTERN;
-use super::slices::holds_nodes;
-use super::slices::is_filled;
+use fixtures::numbers::count;
+use fixtures::report::ROBUST;
+use fixtures::report::Report;
+use fixtures::slices::NODE_PATTERN;
+use fixtures::slices::NUMBER_PATTERN;
+use fixtures::slices::holds_nodes;
+use fixtures::slices::is_filled;
 
 // Places for a path of eight nodes, and some more.
 const PATH_PLACES: usize = 20;
