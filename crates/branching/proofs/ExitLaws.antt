@@ -18,6 +18,7 @@ use Rattle.branching.specs.Flags.{Fresh}
 use Rattle.branching.specs.Walks.{Exit, Choice, Tight}
 use Rattle.branching.specs.Exits.{Unmarked, Unused, via, via-arc, Best, Scanned, Usable, Chosen, Keeps, Stepped}
 use Rattle.branching.specs.Star.{Star, Heads, longest}
+use Rattle.branching.proofs.StarLaws.{arc-at, arc-among}
 use Rattle.branching.specs.declared.exits.Next.{Next}
 use Rattle.branching.specs.declared.exits.Next.the-variants.{Node, Nothing}
 
@@ -103,12 +104,12 @@ module _ {number : ℕ → ℕ} {hs : List ℕ} {a : ℕ} where
 module _ {n : ℕ} {ts hs ws first : List ℕ} (arcs : Arcs n ts hs ws) (star : Star n ts hs first) {v : ℕ} (node : v ≤ n) where
   -- arc i goes out of v
   index-arc : (i : ℕ) → getD first v 0 ≤ i → i < getD first (v + 1) 0 → At ts hs v (getD hs i 0) i
-  index-arc i lo hi = record { below = omega (arith, star .within (v + 1) (omega arith)); tail-is = star .out-of v i node lo hi; head-is = refl }
+  index-arc i lo hi = arc-at star node i lo hi refl
 
   arc-index : (z : ℕ) → linked (graph ts hs ws) v z ≡ true → (i : ℕ) × (getD first v 0 ≤ i) × (i < getD first (v + 1) 0) × At ts hs v z i
   arc-index z a =
       let r = linked-at arcs v z a in
-      let b = star .out v (r .0) node (r .1 .below) (r .1 .tail-is) in
+      let b = arc-among star node (r .1) in
       (r .0, b .0, b .1, r .1)
 
   -- of two of them the one with the smaller index has the smaller head

@@ -1,18 +1,20 @@
--- Where the arcs out of each node begin: how that is found, and what it says. Assumes nothing.
+-- Where the arcs out of each node begin: how that is found, what it says, and an arc looked for there. Assumes nothing.
 use Prim.Native.Nat.{ℕ, _+_, _≤_, _<_}
 use native.Mathlib.Omega.{arith}
 use native.Mathlib.Nat.{eq-or-lt-of-le}
-use mathlib.Core.Path.{_≡_, refl, sym}
+use mathlib.Core.Path.{_≡_, refl}
 use mathlib.Core.Bool.{Bool, true, false}
 use mathlib.Core.Logic.{⊎-elim}
 use mathlib.Core.List.{List}
 use lib.ListN.{length, getD, set}
 use Rattle.terms.proofs.ListLaws.{le-or-lt, clash}
-use Rattle.terms.specs.Network.{linked, weight}
-use Rattle.labels.specs.Arcs.{graph, Arcs}
-use Rattle.labels.proofs.ArcLaws.{At, linked-at, at-weight, tail-within}
+use Rattle.labels.specs.Arcs.{Arcs}
+use Rattle.labels.proofs.ArcLaws.{At}
 use Rattle.labels.proofs.Stores.{set-each}
 use Rattle.branching.specs.Star.{Star, RisingTails, Comes, Cut}
+use Rattle.branching.specs.Arcs.{ArcFound, here, missing}
+use Rattle.branching.specs.declared.arcs.Arc.{Arc}
+use Rattle.branching.specs.declared.arcs.Arc.the-variants as arc
 
 -- ---- the tails before index i are below v, and the cuts of the nodes below v are found
 pub record Cutting (ts : List ℕ) (i v : ℕ) (first : List ℕ) : Type 0 where
@@ -62,19 +64,24 @@ star-of {n} {ts} {hs} {first = first} arcs rising long cuts = record {
     cut : (v : ℕ) → v ≤ n + 1 → Cut ts v (getD first v 0)
     cut v h = cuts v (omega arith)
 
--- ---- an arc and its weight
-module _ {n : ℕ} {ts hs ws first : List ℕ} (arcs : Arcs n ts hs ws) (star : Star n ts hs first) (v y : ℕ) (l : linked (graph ts hs ws) v y ≡ true) where
-  node : v ≤ n
-  node = tail-within arcs v y l .1
-
+-- ---- the arc from v to y is looked for among those out of v
+module _ {n : ℕ} {ts hs first : List ℕ} (star : Star n ts hs first) {v y : ℕ} (node : v ≤ n) where
   pub arc-at : (i : ℕ) → getD first v 0 ≤ i → i < getD first (v + 1) 0 → getD hs i 0 ≡ y → At ts hs v y i
-  arc-at i lo hi e = record { below = omega (arith, star .within (v + 1) (omega (arith, node))); tail-is = star .out-of v i node lo hi; head-is = e }
+  arc-at i lo hi e = record { below = omega (arith, star .within (v + 1) (omega arith)); tail-is = star .out-of v i node lo hi; head-is = e }
 
-  pub arc-found : (i : ℕ) → getD first v 0 ≤ i → i < getD first (v + 1) 0 → getD hs i 0 ≡ y → getD ws i 0 ≡ weight (graph ts hs ws) v y
-  arc-found i lo hi e = sym (at-weight arcs (arc-at i lo hi e))
+  pub arc-among : {i : ℕ} → At ts hs v y i → (getD first v 0 ≤ i) × (i < getD first (v + 1) 0)
+  arc-among {i} a = star .out v i node (a .below) (a .tail-is)
 
-  pub arc-there : ((i : ℕ) → getD first v 0 ≤ i → i < getD first (v + 1) 0 → getD hs i 0 ≡ y → ⊥) → ⊥
-  arc-there none =
-      let a = linked-at arcs v y l in
-      let b = star .out v (a .0) node (a .1 .below) (a .1 .tail-is) in
-      none (a .0) (b .0) (b .1) (a .1 .head-is)
+-- ---- what was found
+module _ {hs first : List ℕ} {v y : ℕ} where
+  pub found-index : {i : ℕ} {r : Arc} → ArcFound hs first v y r → r ≡ arc.At i → (i < length hs) × (getD hs i 0 ≡ y)
+  found-index {i = j} (here {i} h e a) t = let q : j ≡ i = cc in rw q (h, e)
+  found-index (missing n) t = let z : _≡_ {A = ℕ} 0 1 = cc in absurd (omega arith)
+
+  pub found-at : {i n : ℕ} {ts : List ℕ} {r : Arc} → ArcFound hs first v y r → r ≡ arc.At i → Star n ts hs first → At ts hs v y i
+  found-at {i = j} {n} {ts} (here {i} h e a) t s = let q : j ≡ i = cc in rw q (a n ts s)
+  found-at (missing n) t s = let z : _≡_ {A = ℕ} 0 1 = cc in absurd (omega arith)
+
+  pub none-found : {n : ℕ} {ts : List ℕ} {r : Arc} → ArcFound hs first v y r → r ≡ arc.Nothing → Star n ts hs first → (i : ℕ) → At ts hs v y i → ⊥
+  none-found (here h e a) t s = let z : _≡_ {A = ℕ} 0 1 = cc in absurd (omega arith)
+  none-found {n} {ts} (missing none) t s = none n ts s
