@@ -6,7 +6,7 @@ use native.Mathlib.Decide.{decLt}
 use mathlib.Core.Path.{_≡_, refl, ap, _∙_}
 use mathlib.Core.Bool.{true, false, not}
 use mathlib.Core.Logic.{⊎-elim}
-use mathlib.Core.List.{List, [], _∷_, tail, List·Memᴰ·head, List·Memᴰ·tail, List·Memᴰ·cases-cons, List·Memᴰ·not-nil}
+use mathlib.Core.List.{List, [], _∷_, tail, List·Memᴰ·head, List·Memᴰ·tail, List·Memᴰ·cases-cons}
 use lib.Dec.{eqb}
 use lib.ListN.{length, getD, List·getD-eq-default}
 use borrow.Author.Tests.{eq-eqb, eqb-true}
@@ -156,17 +156,3 @@ module _ {n t : ℕ} {ts hs ws bars ls : List ℕ} (arcs : Arcs n ts hs ws) (l :
 
     pub unreached-label : getD ls v 0 ≡ far → label n (graph ts hs ws) t v ≡ mark
     unreached-label e = label-unreached n (graph ts hs ws) v t (unreached-none e)
-
-    pub unreached-paths : getD ls v 0 ≡ far → paths n (graph ts hs ws) v t ≡ []
-    unreached-paths e = none (paths n (graph ts hs ws) v t) (unreached-none e)
-      where
-        none : (k : List Route) → ((p : Route) → p ∈ k → ⊥) → k ≡ []
-        none [] h = refl
-        none (p ∷ k) h = absurd (h p (List·Memᴰ·head refl))
-
-    pub no-paths-far : v < length ls → paths n (graph ts hs ws) v t ≡ [] → getD ls v 0 ≡ far
-    no-paths-far long e = by-case (decLt (getD ls v 0) far)
-      where
-        by-case : Dec (getD ls v 0 < far) → getD ls v 0 ≡ far
-        by-case (yes k) = absurd (List·Memᴰ·not-nil (rw e at (reached-path long k .1)))
-        by-case (no k) = omega (arith, l .at-most v)
