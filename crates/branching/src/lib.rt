@@ -3,12 +3,15 @@
 // Arc i goes from tails[i] to heads[i] and costs weights[i]; the arcs rise by tail, then head, and
 // those out of v are at the indices from first_out[v] to below first_out[v + 1].
 mod all;
+mod arcs;
 mod exits;
 mod first;
 mod outs;
 mod walk;
 
 pub use all::shortest;
+pub use arcs::Arc;
+pub use arcs::find_arc;
 pub use exits::Next;
 pub use exits::least_exit;
 pub use first::Found;

@@ -143,10 +143,14 @@ module _ {b : List ℕ} {m u : ℕ} (c : InColumn b m u) where
   pub few-nodes : netOf b .nodes ≤ 200
   few-nodes = accepted-network b (c .passes) .nodes-to
 
+  -- arrays that hold the arcs
+  pub arcs-held : {ts hs : List ℕ} → ts ≡ tails (netOf b .arcs) → hs ≡ heads (netOf b .arcs) → Decoded (netOf b) u ts hs (costs-of (netOf b) u)
+  arcs-held e f = decoded (accepted-network b (c .passes)) (c .from) (c .upto) _ _ _ e f refl
+
   -- what is read over arrays of m places
   module _ {ts hs : List ℕ} (ts₀ hs₀ : List ℕ) (p : length ts₀ ≡ m) (q : length hs₀ ≡ m) (e : ts ≡ tails (netOf b .arcs) ++ drop m ts₀) (f : hs ≡ heads (netOf b .arcs) ++ drop m hs₀) where
     pub decoded-arcs : Decoded (netOf b) u ts hs (costs-of (netOf b) u)
-    decoded-arcs = decoded (accepted-network b (c .passes)) (c .from) (c .upto) _ _ _ (e ∙ whole _ ts₀ p) (f ∙ whole _ hs₀ q) refl
+    decoded-arcs = arcs-held (e ∙ whole _ ts₀ p) (f ∙ whole _ hs₀ q)
 
     pub decoded-column : {ws : List ℕ} (ws₀ : List ℕ) → length ws₀ ≡ m → ws ≡ costs-of (netOf b) u ++ drop m ws₀ → Decoded (netOf b) u ts hs ws
     decoded-column {ws} ws₀ r g = let g′ : ws ≡ costs-of (netOf b) u = g ∙ whole _ ws₀ r in rw g′ decoded-arcs

@@ -7,19 +7,18 @@ use mathlib.Core.Path.{_≡_, refl, sym, _∙_, ap}
 use mathlib.Core.List.{List, [], map}
 use lib.ListN.{length, getD, drop, length-map, length-drop, List·getD-map}
 use lib.Seq.{ext-getD, getD-drop}
-use borrow.Author.Tests.{eq-eqb, ne-eqb, le-leb}
+use borrow.Author.Tests.{eq-eqb, ne-eqb}
 use Rattle.terms.specs.Lists.{numbers}
 use Rattle.terms.specs.Network.{Graph, Net, column, Admitted}
-use Rattle.terms.specs.Paths.{paths}
 use Rattle.terms.specs.Regret.{mark, label, labels}
-use Rattle.terms.proofs.ListLaws.{mem-length, length-numbers, getD-map-numbers}
+use Rattle.terms.proofs.ListLaws.{length-numbers, getD-map-numbers}
 use Rattle.labels.specs.Arcs.{graph, Arcs}
 use Rattle.labels.specs.Arrays.{Arrays}
 use Rattle.labels.specs.Chains.{Chains}
 use Rattle.labels.specs.Labels.{far, Least}
 use Rattle.labels.proofs.ArcLaws.{arrays-of}
 use Rattle.calls.specs.Decoded.{Decoded}
-use Rattle.calls.specs.Labels.{best-or-far, narrowed, Narrow, is-far, is-small}
+use Rattle.calls.specs.Labels.{narrowed, Narrow, is-far, is-small}
 use Rattle.calls.proofs.DecodeLaws.{column-held}
 use Rattle.labels.proofs.LabelLaws as laws
 
@@ -72,23 +71,12 @@ module _ {n t : ℕ} {ts hs ws ls : List ℕ} (arcs : Arcs n ts hs ws) (l : Leas
   free : (x : ℕ) → 1 ≤ x → x ≤ n → getD {A = ℕ} [] x 0 ≡ 0
   free x _ _ = refl
 
-  reached : getD ls v 0 < far → (label n (graph ts hs ws) t v ≡ narrowed (getD ls v 0)) × (best-or-far n (graph ts hs ws) v t ≡ getD ls v 0)
-  unfolding best-or-far
-  reached k =
-      let p = laws.reached-path arcs l free v lo hi (omega arith) k in
-      (laws.reached-label arcs l free v lo hi (omega arith) k ∙ sym (narrowed-near (getD ls v 0) (λ e. omega arith)), rw (le-leb 1 (length (paths n (graph ts hs ws) v t)) (mem-length (p .1))) (laws.reached-best arcs l free v lo hi (omega arith) k))
-
-  unreached : getD ls v 0 ≡ far → (label n (graph ts hs ws) t v ≡ narrowed (getD ls v 0)) × (best-or-far n (graph ts hs ws) v t ≡ getD ls v 0)
-  unfolding best-or-far
-  unreached e =
-      (laws.unreached-label arcs l free v lo hi e ∙ sym (narrowed-far (getD ls v 0) e), rw (laws.unreached-paths arcs l free v lo hi e) (sym e))
-
-  exact-at : (label n (graph ts hs ws) t v ≡ narrowed (getD ls v 0)) × (best-or-far n (graph ts hs ws) v t ≡ getD ls v 0)
+  exact-at : label n (graph ts hs ws) t v ≡ narrowed (getD ls v 0)
   exact-at = by-case (decLt (getD ls v 0) far)
     where
-      by-case : Dec (getD ls v 0 < far) → (label n (graph ts hs ws) t v ≡ narrowed (getD ls v 0)) × (best-or-far n (graph ts hs ws) v t ≡ getD ls v 0)
-      by-case (yes k) = reached k
-      by-case (no k) = unreached (omega (arith, l .at-most v))
+      by-case : Dec (getD ls v 0 < far) → label n (graph ts hs ws) t v ≡ narrowed (getD ls v 0)
+      by-case (yes k) = laws.reached-label arcs l free v lo hi (omega arith) k ∙ sym (narrowed-near (getD ls v 0) (λ e. omega arith))
+      by-case (no k) = let e : getD ls v 0 ≡ far = omega (arith, l .at-most v) in laws.unreached-label arcs l free v lo hi e ∙ sym (narrowed-far (getD ls v 0) e)
 
 -- ---- of a column
 module _ {net : Net} {u t : ℕ} {ls : List ℕ} (ok : Admitted net) (from : 1 ≤ u) (upto : u ≤ length (net .columns)) (long : length ls ≡ net .nodes + 1) (l : Least (column net u) [] t ls) where
@@ -100,14 +88,10 @@ module _ {net : Net} {u t : ℕ} {ls : List ℕ} (ok : Admitted net) (from : 1 �
       by-case (yes k) = let held = column-held ok from upto in is-small (omega (arith, laws.label-le (held .arcs) (rw (← held .graph-is) at l) 1000000 (held .light) v h k))
       by-case (no k) = is-far (omega (arith, l .at-most v))
 
-  in-column : (v : ℕ) → 1 ≤ v → v ≤ net .nodes → (label (net .nodes) (column net u) t v ≡ narrowed (getD ls v 0)) × (best-or-far (net .nodes) (column net u) v t ≡ getD ls v 0)
+  in-column : (v : ℕ) → 1 ≤ v → v ≤ net .nodes → label (net .nodes) (column net u) t v ≡ narrowed (getD ls v 0)
   in-column v lo hi = let held = column-held ok from upto in rw (← held .graph-is) (exact-at (held .arcs) (rw (← held .graph-is) at l) long v lo hi)
 
-  -- it is best(u) from its node
-  pub best-at : (v : ℕ) → 1 ≤ v → v ≤ net .nodes → getD ls v 0 ≡ best-or-far (net .nodes) (column net u) v t
-  best-at v lo hi = sym (in-column v lo hi .1)
-
-  -- and the labels of the nodes 1 to n are document 01's
+  -- the labels of the nodes 1 to n are document 01's
   pub labels-are : map narrowed (drop 1 ls) ≡ labels (net .nodes) (column net u) t
   unfolding labels
   labels-are = ext-getD 0 _ _ lengths (λ i h. at-place i (omega (arith, length-narrowed ls)))
@@ -116,4 +100,4 @@ module _ {net : Net} {u t : ℕ} {ls : List ℕ} (ok : Admitted net) (from : 1 �
       lengths = simp (length-map, length-drop, length-numbers) (omega arith)
 
       at-place : (i : ℕ) → i < net .nodes → getD (map narrowed (drop 1 ls)) i 0 ≡ getD (map (label (net .nodes) (column net u) t) (numbers 1 (net .nodes))) i 0
-      at-place i h = let e : i + 1 ≡ 1 + i = omega arith in narrowed-at ls i ∙ sym (in-column (i + 1) (omega arith) (omega arith) .0) ∙ ap (label (net .nodes) (column net u) t) e ∙ sym (getD-map-numbers (label (net .nodes) (column net u) t) 1 (net .nodes) i 0 h)
+      at-place i h = let e : i + 1 ≡ 1 + i = omega arith in narrowed-at ls i ∙ sym (in-column (i + 1) (omega arith) (omega arith)) ∙ ap (label (net .nodes) (column net u) t) e ∙ sym (getD-map-numbers (label (net .nodes) (column net u) t) 1 (net .nodes) i 0 h)

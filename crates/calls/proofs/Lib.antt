@@ -2,8 +2,6 @@ pub mod DecodeLaws
 pub mod CostLaws
 pub mod LabelLaws
 pub mod RowLaws
-pub mod ArcLaws
 pub mod ListLaws
-pub mod RegretLaws
 pub mod LoadLaws
 pub mod ShortestLaws

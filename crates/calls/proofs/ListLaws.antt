@@ -20,8 +20,9 @@ use Rattle.terms.proofs.ListLaws.{split, and-both, outside-cons, cons-outside, 
 use Rattle.terms.proofs.PathLaws.{unseen, unseen-lt}
 use Rattle.labels.specs.Arcs.{graph, Arcs}
 use Rattle.labels.proofs.ArcLaws.{linked-at, at-linked}
+use Rattle.branching.specs.Star.{Star}
 use Rattle.calls.specs.Decoded.{Node}
-use Rattle.calls.specs.Lists.{GoesOn, FirstError}
+use Rattle.calls.specs.Lists.{Followed, GoesOn, FirstError}
 
 distinct-le : (n : ℕ) {p : List ℕ} → Loopless p → ((x : ℕ) → x ∈ p → Node n x) → length p + length (unseen n p) ≤ n
 unfolding unseen
@@ -94,6 +95,15 @@ module _ {n : ℕ} {ts hs ws : List ℕ} (arcs : Arcs n ts hs ws) (nodes : List 
           distinct = fresh (k .1) (before .distinct);
           nodes-of = λ x m. ⊎-elim (λ e. let q : x ≡ getD hs (arc .0) 0 = e ∙ sym (arc .1 .head-is) in rw q (record { from = arcs .head-from (arc .0) (arc .1 .below); upto = arcs .head-to (arc .0) (arc .1 .below) })) (before .nodes-of x) (List·Memᴰ·cases-cons m);
         }
+
+-- ---- the arcs of a list can be looked for where it begins with a node
+pub followed : {n s : ℕ} {ts hs ws outs nodes : List ℕ} → Arcs n ts hs ws → Star n ts hs outs → Node n s → 1 ≤ length nodes → getD nodes 0 0 ≡ s → Followed hs outs nodes
+followed arcs star node long begins = record {
+  within = λ v h. omega (arith, star .within v (omega (arith, star .long)), arcs .heads-long);
+  heads-in = λ i h. omega (arith, star .long, arcs .head-to i (omega (arith, arcs .heads-long)));
+  nonempty = long;
+  first-in = omega (arith, star .long, node .upto);
+}
 
 -- ---- row 14
 module _ (g : Graph) (s t : ℕ) (nodes : List ℕ) where

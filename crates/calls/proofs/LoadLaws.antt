@@ -16,7 +16,7 @@ use Rattle.branching.specs.Found.{FirstFound}
 use Rattle.branching.specs.declared.first.Found.{Found}
 use Rattle.branching.proofs.StarLaws.{star-of}
 use Rattle.calls.specs.Decoded.{Decoded, Loaded}
-use Rattle.calls.proofs.LabelLaws.{unbarred, same-bars}
+use Rattle.calls.proofs.LabelLaws.{unbarred}
 
 module _ {net : Net} {u : ℕ} {ts hs ws : List ℕ} (d : Decoded net u ts hs ws) where
   pub rising-tails : RisingTails ts

@@ -98,17 +98,13 @@ module _ {b : List ℕ} {n m k : ℕ} (a : Accepted b n m k) (s t : ℕ) where
   unfolding ends-row row
   right-ends e f h = rw (then-next _ (a .passes), ← a .nodes-are, e, f, ne-eqb s t h)
 
--- and back: both ends are nodes
-pub ends-sound : (net : Net) (s t : ℕ) → ends-row net s t ≡ sound → Node (net .nodes) s × Node (net .nodes) t
+-- and back: both ends are nodes, and differ
+pub ends-sound : (net : Net) (s t : ℕ) → ends-row net s t ≡ sound → Ends (net .nodes) s t
 unfolding ends-row
 ends-sound net s t e =
     let f = or-false (not (is-node (net .nodes) s && is-node (net .nodes) t)) (eqb s t) (row-sound _ _ _ e) in
     let g = and-both (is-node (net .nodes) s) (is-node (net .nodes) t) (not-false _ (f .0)) in
-    (node-true (g .0), node-true (g .1))
-
-apart-of : (net : Net) (s t : ℕ) → ends-row net s t ≡ sound → s ≡ t → ⊥
-unfolding ends-row
-apart-of net s t e = eqb-false s t (or-false (not (is-node (net .nodes) s && is-node (net .nodes) t)) (eqb s t) (row-sound _ _ _ e) .1)
+    record { start-in = node-true (g .0); goal-in = node-true (g .1); apart = eqb-false s t (f .1) }
 
 -- ---- rows 11 to 13, each by itself
 module _ {b : List ℕ} {n m k : ℕ} (a : Accepted b n m k) (u : ℕ) where
@@ -161,8 +157,7 @@ search-sound b u s t e =
     let e₁ = then-sound _ _ e in
     let e₂ = then-sound _ _ (e₁ .0) in
     let c = and-both (leb 1 u) (leb u (length (netOf b .columns))) (not-false _ (row-sound _ _ _ (e₁ .1))) in
-    let n = ends-sound _ _ _ (e₂ .1) in
-    record { accepted = e₂ .0; ends = record { start-in = n .0; goal-in = n .1; apart = apart-of _ _ _ (e₂ .1) }; from = leb-true _ _ (c .0); upto = leb-true _ _ (c .1) }
+    record { accepted = e₂ .0; ends = ends-sound _ _ _ (e₂ .1); from = leb-true _ _ (c .0); upto = leb-true _ _ (c .1) }
 
 -- what the rows of Rank and Robust say where none up to the workspace's applies
 pub record RankingSound (b : List ℕ) (u s t K work : ℕ) : Type 0 where
@@ -246,7 +241,7 @@ module _ (b : List ℕ) (s t : ℕ) (nodes : List ℕ) where
 -- what Regret is given where no row applies
 pub record RegretSound (b : List ℕ) (s t : ℕ) (nodes : List ℕ) : Type 0 where
   pub accepted : image-fault b ≡ sound
-  pub ends : Node (netOf b .nodes) s × Node (netOf b .nodes) t
+  pub ends : Ends (netOf b .nodes) s t
   pub path : Path (column (netOf b) 1) s t nodes
 
 pub regret-sound : (b : List ℕ) (s t : ℕ) (nodes : List ℕ) → regret-fault b s t nodes ≡ sound → RegretSound b s t nodes

@@ -1,5 +1,5 @@
 -- Shortest, row by row, and the path that it writes. Assumes nothing.
-use Prim.Native.Nat.{ℕ, _+_, _≤_, _<_}
+use Prim.Native.Nat.{ℕ, _+_, _≤_}
 use native.Mathlib.Omega.{arith}
 use mathlib.Core.Path.{_≡_, refl, sym, _∙_, ap, ap₂}
 use mathlib.Core.List.{List, [], _∷_, _++_, List·Memᴰ·head}
@@ -12,7 +12,7 @@ use Rattle.terms.specs.Paths.{Route, Path, cost, paths}
 use Rattle.terms.specs.Ranking.{ranked}
 use Rattle.terms.proofs.ListLaws.{mem-length}
 use Rattle.terms.proofs.PathLaws.{column-within, path-listed, listed-path}
-use Rattle.image.specs.Outcome.{sound, fault, row, _then_, after}
+use Rattle.image.specs.Outcome.{sound, fault, row, after}
 use Rattle.image.specs.Layout.{netOf}
 use Rattle.image.proofs.OutcomeLaws.{then-fault, then-next, then-sound, after-sound}
 use Rattle.branching.specs.Branches.{everything, First, In}

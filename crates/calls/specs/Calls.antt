@@ -1,6 +1,6 @@
 -- Document 01, calls 2 to 6: what Label, Shortest, Regret, Rank and Robust come to, for every image, list, number and length of a lent slice. Assumes nothing.
-use Prim.Native.Nat.{ℕ, zero, _+_, _*_}
-use mathlib.Core.Bool.{Bool, not, _&&_, _||_}
+use Prim.Native.Nat.{ℕ, _+_, _*_}
+use mathlib.Core.Bool.{not, _&&_, _||_}
 use mathlib.Core.List.{List, [], _∷_, map}
 use mathlib.Core.Option.{Option, none, some}
 use lib.Dec.{leb, ltb, eqb}

@@ -1,4 +1,4 @@
--- An accepted image as the path layer reads it: its network's sizes, and one column as a graph in three arrays. Assumes nothing.
+-- An accepted image as the path layer reads it: its network's sizes, its arcs, and one column as a graph in three arrays. Assumes nothing.
 use Prim.Native.Nat.{ℕ, _+_, _-_, _≤_, _<_}
 use mathlib.Core.Path.{_≡_}
 use mathlib.Core.List.{List, [], map}
@@ -8,9 +8,8 @@ use Rattle.image.specs.Outcome.{sound}
 use Rattle.image.specs.Layout.{netOf}
 use Rattle.image.specs.Calls.{image-fault}
 use Rattle.labels.specs.Arcs.{graph, Arcs}
-use Rattle.labels.specs.Chains.{Chains}
 use Rattle.labels.specs.Labels.{Least}
-use Rattle.branching.specs.Star.{Network}
+use Rattle.branching.specs.Star.{Star, Network}
 
 -- image b is accepted, and its network has n nodes, m arcs and k columns
 pub record Accepted (b : List ℕ) (n m k : ℕ) : Type 0 where
@@ -42,6 +41,12 @@ pub record Decoded (net : Net) (u : ℕ) (ts hs ws : List ℕ) : Type 0 where
   -- strictly rising by tail, then head
   pub tails-rise : (i j : ℕ) → i < j → j < length ts → getD ts i 0 ≤ getD ts j 0
   pub heads-rise : (i j : ℕ) → i < j → j < length ts → getD ts i 0 ≡ getD ts j 0 → getD hs i 0 < getD hs j 0
+
+-- the arrays hold the arcs, and where those out of each node begin
+pub record OutArcs (net : Net) (ts hs outs : List ℕ) : Type 0 where
+  pub tails-are : ts ≡ map (λ a. a .0) (net .arcs)
+  pub heads-are : hs ≡ map (λ a. a .1) (net .arcs)
+  pub star : Star (net .nodes) ts hs outs
 
 -- start and goal are nodes, and differ
 pub record Ends (n s t : ℕ) : Type 0 where

@@ -2,16 +2,9 @@
 use Prim.Native.Nat.{ℕ, _≤_}
 use mathlib.Core.Path.{_≡_}
 use mathlib.Core.Bool.{cond}
-use lib.Dec.{leb, eqb}
-use lib.ListN.{length}
-use Rattle.terms.specs.Network.{Graph}
-use Rattle.terms.specs.Paths.{paths}
-use Rattle.terms.specs.Regret.{best, mark}
+use lib.Dec.{eqb}
+use Rattle.terms.specs.Regret.{mark}
 use Rattle.labels.specs.Labels.{far}
-
--- the least cost of a path from s to t, or the mark far if there is none
-unfoldable pub best-or-far : ℕ → Graph → ℕ → ℕ → ℕ
-best-or-far n g s t = cond (leb 1 (length (paths n g s t))) (best n g s t) far
 
 -- a label with document 01's mark in the place of far
 unfoldable pub narrowed : ℕ → ℕ

@@ -1,19 +1,19 @@
--- Arcs found in decoded arrays, and the first error of a node list. Assumes nothing.
-use Prim.Native.Nat.{ℕ, _-_, _≤_, _<_}
+-- The first error of a node list, found in decoded arrays. Assumes nothing.
+use Prim.Native.Nat.{ℕ, _+_, _-_, _≤_, _<_}
 use mathlib.Core.Path.{_≡_}
 use mathlib.Core.List.{List}
 use mathlib.Core.Option.{Option, none, some}
 use lib.ListN.{length, getD}
-use Rattle.labels.proofs.ArcLaws.{At}
-use Rattle.calls.specs.declared.arcs.Found.{Found}
-use Rattle.calls.specs.declared.arcs.Found.the-variants as found
+use Rattle.labels.specs.Arcs.{At}
 use Rattle.calls.specs.declared.lists.NodeList.{NodeList}
 use Rattle.calls.specs.declared.lists.NodeList.the-variants.{Path, Fault}
 
--- what a search for the arc from a to b finds: its index, or that there is none
-pub data ArcFound (ts hs : List ℕ) (a b : ℕ) : Found → Type 0 where
-  here : {i : ℕ} → At ts hs a b i → ArcFound ts hs a b (found.At i)
-  missing : ((i : ℕ) → At ts hs a b i → ⊥) → ArcFound ts hs a b found.Nothing
+-- a list whose arcs can be looked for: its first node, and each head of an arc, has a place in first, which holds indices of arcs
+pub record Followed (hs first nodes : List ℕ) : Type 0 where
+  pub within : (v : ℕ) → v < length first → getD first v 0 ≤ length hs
+  pub heads-in : (i : ℕ) → i < length hs → getD hs i 0 + 1 < length first
+  pub nonempty : 1 ≤ length nodes
+  pub first-in : getD nodes 0 0 + 1 < length first
 
 -- the node at position i, after the first, does not repeat and has an arc from the node before
 pub record GoesOn (ts hs nodes : List ℕ) (i : ℕ) : Type 0 where

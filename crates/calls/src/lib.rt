@@ -1,15 +1,13 @@
 // What the calls of the path layer share: their refusals' rows, and one column of an accepted image in
 // arrays. What each call comes to, for every input, is defined in specs/Calls.antt.
-mod arcs;
 mod columns;
 mod decoding;
 mod lists;
 mod loading;
 mod rows;
 
-pub use columns::column_best;
-pub use columns::column_cost;
 pub use columns::label_column;
+pub use decoding::decode_arcs;
 pub use lists::NodeList;
 pub use lists::check_list;
 pub use loading::load;

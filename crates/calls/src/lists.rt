@@ -1,15 +1,18 @@
 // Node lists: whether one is a path, and where it fails.
-use super::arcs::Found;
-use super::arcs::find_arc;
-use parts::read_arcs;
+use super::decoding::decode_arcs;
+use branching::Arc;
+use branching::find_arc;
+use image::Sizes;
 ghost use mathlib.Core.Path.{_≡_};
-ghost use Prim.Native.Nat.{_≤_};
+ghost use mathlib.Core.List.{List};
+ghost use Prim.Native.Nat.{ℕ, _+_};
 ghost use lib.ListN.{length};
 ghost use Rattle.terms.specs.Network.{column};
 ghost use Rattle.terms.specs.Regret.{fault};
 ghost use Rattle.image.specs.Layout.{netOf};
-ghost use Rattle.calls.specs.Decoded.{Node, InColumn};
-ghost use Rattle.calls.specs.Lists.{FirstError, list-fault};
+ghost use Rattle.branching.specs.Star.{Star};
+ghost use Rattle.calls.specs.Decoded.{Accepted, Node, InColumn};
+ghost use Rattle.calls.specs.Lists.{Followed, FirstError, list-fault};
 
 // What the check of a node list finds: a path, or the place of row 14.
 pub enum NodeList {
@@ -19,14 +22,14 @@ pub enum NodeList {
 
 // The first position after the first whose node repeats or has no arc from the node before; the
 // length if there is none.
-fn first_error(tails: &[u16], heads: &[u16], nodes: &[u16]) -> usize
-    requires { ⌜ (length (now heads) ≡ length (now tails)) × (1 ≤ length (now nodes)) ⌝ }
-    ensures { λ r. ⌜ FirstError (now (tails .entry)) (now (heads .entry)) (now (nodes .entry)) r ⌝ }
+fn first_error(heads: &[u16], first_out: &[u16], nodes: &[u16]) -> usize
+    requires { ⌜ Followed (now heads) (now «first_out») (now nodes) ⌝ }
+    ensures { λ r. ⌜ ((n : ℕ) (ts : List ℕ) → Star n ts (now (heads .entry)) (now («first_out» .entry)) → FirstError ts (now (heads .entry)) (now (nodes .entry)) r) ⌝ }
 {
     let mut at = 1;
     'search: while at < nodes.len() {
-        let found = find_arc(tails, heads, nodes[at - 1], nodes[at]);
-        let Found::At(_) = found else {
+        let found = find_arc(heads, first_out, nodes[at - 1] as usize, nodes[at]);
+        let Arc::At(_) = found else {
             break 'search;
         };
         let mut i = 0;
@@ -50,10 +53,11 @@ fn check_list_in(
     nodes: &[u16],
     tails: &mut [u16],
     heads: &mut [u16],
+    first_out: &mut [u16],
 ) -> NodeList
     requires { ⌜ InColumn (now image) m 1 ⌝ }
     requires { ⌜ Node (netOf (now image) .nodes) start ⌝ }
-    requires { ⌜ (length (now tails) ≡ m) × (length (now heads) ≡ m) ⌝ }
+    requires { ⌜ (length (now tails) ≡ m) × (length (now heads) ≡ m) × (length (now «first_out») ≡ netOf (now image) .nodes + 2) ⌝ }
     ensures { λ r. ⌜ list-fault r ≡ fault (column (netOf (now (image .entry))) 1) start goal (now (nodes .entry)) ⌝ }
 {
     if nodes.len() == 0 {
@@ -62,8 +66,8 @@ fn check_list_in(
     if nodes[0] as u32 != start {
         return NodeList::Fault(0);
     }
-    read_arcs(image, m as usize, tails, heads);
-    let at = first_error(tails, heads, nodes);
+    decode_arcs(image, m, tails, heads, first_out);
+    let at = first_error(heads, first_out, nodes);
     if at < nodes.len() {
         return NodeList::Fault(at as u32);
     }
@@ -74,21 +78,24 @@ fn check_list_in(
 }
 
 // Whether a node list is a path from start to goal: row 14. Every column has the same arcs.
-pub fn check_list(image: &[u8], m: u32, start: u32, goal: u32, nodes: &[u16]) -> NodeList
-    requires { ⌜ InColumn (now image) m 1 ⌝ }
+pub fn check_list(image: &[u8], sizes: Sizes, start: u32, goal: u32, nodes: &[u16]) -> NodeList
+    requires { ⌜ Accepted (now image) (sizes .n) (sizes .m) (sizes .k) ⌝ }
     requires { ⌜ Node (netOf (now image) .nodes) start ⌝ }
     ensures { λ r. ⌜ list-fault r ≡ fault (column (netOf (now (image .entry))) 1) start goal (now (nodes .entry)) ⌝ }
 {
     let mut tails = [0u16; 1000];
     let mut heads = [0u16; 1000];
-    let arcs = m as usize;
+    let mut first_out = [0u16; 202];
+    let arcs = sizes.m as usize;
+    let starts = sizes.n as usize + 2;
     check_list_in(
         image,
-        m,
+        sizes.m,
         start,
         goal,
         nodes,
         &mut tails[..arcs],
         &mut heads[..arcs],
+        &mut first_out[..starts],
     )
 }

@@ -4,9 +4,6 @@ use super::decoding::decode;
 use branching::star;
 use labels::chain;
 use labels::least;
-ghost use mathlib.Core.Path.{_≡_};
-ghost use Prim.Native.Nat.{ℕ, _+_};
-ghost use lib.ListN.{length, getD};
 ghost use Rattle.image.specs.Layout.{netOf};
 ghost use Rattle.calls.specs.Decoded.{Node, InColumn, Loaded, ArcRoom, NodeRoom};
 

@@ -1,16 +1,17 @@
--- Robust: what its rows say where none applies, all columns of an image in arrays, and demand 3. Assumes nothing.
-use Prim.Native.Nat.{ℕ, _+_, _*_, _-_, _≤_}
+-- All columns of an image in arrays, a path measured there, what Robust's rows say where none applies, and demand 3. Assumes nothing.
+use Prim.Native.Nat.{ℕ, suc, _+_, _*_, _-_, _≤_}
 use native.Mathlib.Omega.{arith}
 use native.Mathlib.Nat.{mul-comm, eq-or-lt-of-le}
 use mathlib.Core.Path.{_≡_, refl, sym, _∙_, ap, ap₂, subst}
 use mathlib.Core.Logic.{⊎-elim}
 use mathlib.Core.List.{List, [], _∷_, _++_, map}
+use lib.Dec.{eqb}
 use lib.ListN.{length, getD, take, drop, length-map}
 use lib.Seq.{length-take-le}
 use Rattle.terms.specs.Network.{Net, column, Admitted}
 use Rattle.terms.specs.Paths.{Route, Path}
-use Rattle.terms.specs.Lists.{_∈_, numbers}
-use Rattle.terms.specs.Regret.{best}
+use Rattle.terms.specs.Lists.{_∈_, numbers, largest, index}
+use Rattle.terms.specs.Regret.{best, figure, worst}
 use Rattle.terms.specs.Robust as terms
 use Rattle.terms.specs.Robust.{robust}
 use Rattle.terms.specs.Ranking.{ranked}
@@ -20,6 +21,7 @@ use Rattle.terms.proofs.ListLaws.{getD-mem, mem-length}
 use Rattle.terms.proofs.PathLaws.{column-within}
 use Rattle.terms.proofs.RankingLaws.{path-ranked}
 use Rattle.labels.specs.Arcs.{graph}
+use Rattle.labels.specs.Chains.{Chains}
 use Rattle.labels.specs.Labels.{far}
 use Rattle.image.specs.Layout.{arc-count, column-count, cost-list, netOf}
 use Rattle.image.specs.Calls.{image-fault}
@@ -30,15 +32,16 @@ use Rattle.image.proofs.OutcomeLaws.{then-next, then-sound, outcome-sound, afte
 use Rattle.ranking.specs.Ranking.{Space}
 use Rattle.branching.specs.Star.{Star}
 use Rattle.regret.specs.Bests.{Joined}
-use Rattle.regret.specs.Columns.{arc-pairs, network, column-costs, Columns}
+use Rattle.regret.specs.Columns.{arc-pairs, network, column-costs, Columns, over}
 use Rattle.regret.proofs.BestLaws.{joined}
+use Rattle.robust.proofs.PricedLaws.{measured, figure-to}
 use Rattle.robust.specs.Answers.{chosen-length, answered}
 use Rattle.robust.specs.Counting as counting
 use Rattle.robust.specs.declared.answering.Answer.{Answer}
 use Rattle.robust.specs.declared.answering.Answer.the-variants.{Settled, Open}
 use Rattle.robust.specs.declared.answering.Choice.{Choice}
 use Rattle.calls.specs.Calls.{no-path-row, choice-rows, robust-rows, robust-fault, robust-of, chosen, robust-values}
-use Rattle.calls.specs.Decoded.{Accepted, InColumn, Ends, Loaded}
+use Rattle.calls.specs.Decoded.{Accepted, InColumn, Ends, Loaded, OutArcs}
 use Rattle.choices.specs.Held.{Reached, Held, ChoiceSlices}
 use Rattle.calls.specs.Demands.{Kept3}
 use Rattle.calls.proofs.CostLaws.{all-columns-row}
@@ -163,6 +166,22 @@ pub unreached-row : {b : List ℕ} {m r s t : ℕ} (c : InColumn b m r) (ends : 
     → no-path-row (netOf b .nodes) (column (netOf b) r) s t ≡ fault 15 0
 unreached-row {s = s} c ends l e = row-none c ends (λ p h. let k = column-least c ends l .least s p (record { path = h; free = λ x i. refl }) .1 in absurd (omega arith))
 
+-- ---- the ends of a path are reached, in column 1
+module _ {b : List ℕ} {n m k s t : ℕ} (a : Accepted b n m k) (ends : Ends (netOf b .nodes) s t) {p : Route} (r : Path (column (netOf b) 1) s t p) {ts hs outs : List ℕ} (o : OutArcs (netOf b) ts hs outs) where
+  pub path-reached : {ins nexts : List ℕ} → Chains hs ins nexts → length ins ≡ netOf b .nodes + 1 → Reached (netOf b) s t ts hs ins nexts
+  path-reached chains long = record {
+    tails-are = o .tails-are;
+    heads-are = o .heads-are;
+    chains = chains;
+    ins-long = long;
+    ends = ends;
+    in-column = 1;
+    from = omega arith;
+    upto = accepted-network b (a .passes) .columns-from;
+    route = p;
+    path = r;
+  }
+
 -- ---- in a network of n nodes, where n is the image's number
 module _ {net : Net} {n s t : ℕ} (n-is : n ≡ net .nodes) {ts hs outs costs bests : List ℕ} (H : Held net s t ts hs outs costs bests) where
   pub priced-for : counting.Priced n s t ts hs outs costs bests
@@ -173,6 +192,17 @@ module _ {net : Net} {n s t : ℕ} (n-is : n ≡ net .nodes) {ts hs outs costs b
 
   pub column-for : {r : ℕ} {ws : List ℕ} → 1 ≤ r → r ≤ length bests → ws ≡ getD (net .columns) (r - 1) [] → counting.InColumn r (length bests) ts ws costs
   column-for {r} from upto e = record { from = from; upto = upto; weights-are = e ∙ sym (H .costs-of r from upto) }
+
+  -- a path, and what is measured of it
+  module _ {p : Route} (r : Path (column net 1) s t p) where
+    pub path-for : Path (column (network n (length bests) ts hs costs) 1) s t p
+    path-for = subst (λ net. Path (column net 1) s t p) (sym network-for) r
+
+    pub measured-for : {f w : ℕ} → f ≡ largest (over (network n (length bests) ts hs costs) bests p) → w ≡ suc (index (eqb f) (over (network n (length bests) ts hs costs) bests p)) → (f ≡ figure net s t p) × (w ≡ worst net s t p)
+    measured-for {f} {w} e g = subst (λ net. (f ≡ figure net s t p) × (w ≡ worst net s t p)) network-for (measured priced-for p e g)
+
+    pub figure-small : {f : ℕ} → f ≡ largest (over (network n (length bests) ts hs costs) bests p) → f ≤ 199000000
+    figure-small e = omega (arith, measured priced-for p e refl .0, figure-to priced-for p path-for)
 
 pub space-for : {n N K : ℕ} {path work : List ℕ} → n ≡ N → ChoiceSlices N K path work → Space n (K + 1) work
 space-for {n} {K = K} e S = record { some = omega arith; few = omega (arith, S .wanted-to); room = omega (arith, S .slots-long, ap (λ (x : ℕ). (K + 1) * (x + 16)) e) }

@@ -1,4 +1,5 @@
--- All columns of an accepted image in arrays, with each column's best, and what else a search for the path of least greatest regret is lent. Assumes nothing.
+-- All columns of an accepted image in arrays, with each column's best, and what else the measure of a path, or a search for the path of least greatest
+-- regret, is lent. Assumes nothing.
 use Prim.Native.Nat.{ℕ, _+_, _*_, _-_, _≤_}
 use mathlib.Core.Path.{_≡_}
 use mathlib.Core.List.{List, [], map}
@@ -33,6 +34,15 @@ pub record Held (net : Net) (s t : ℕ) (ts hs outs costs bests : List ℕ) : Ty
 pub record ChoiceRoom (m k : ℕ) (costs bests : List ℕ) : Type 0 where
   pub costs-long : length costs ≡ m * k
   pub bests-long : length bests ≡ k
+
+-- room for k columns, m arcs and n nodes
+pub record MeasureRoom (n m k : ℕ) (ts hs outs ins nexts costs bests : List ℕ) : Type 0 where
+  pub tails-long : length ts ≡ m
+  pub heads-long : length hs ≡ m
+  pub outs-long : length outs ≡ n + 2
+  pub ins-long : length ins ≡ n + 1
+  pub nexts-long : length nexts ≡ m
+  pub columns-fit : ChoiceRoom m k costs bests
 
 -- slices long enough for one path, and for a workspace of K + 1 slots
 pub record ChoiceSlices (n K : ℕ) (path work : List ℕ) : Type 0 where

@@ -1,15 +1,14 @@
 // The path whose greatest regret is least, of an accepted image.
+use super::pricing::price;
 use calls::load;
 use candidates::clear;
 use image::Refusal;
 use image::Sizes;
 use labels::FAR;
-use parts::read_columns;
-use regret::column_bests;
 use robust::Answer;
 use robust::least_regret;
 ghost use mathlib.Core.Path.{_≡_};
-ghost use Prim.Native.Nat.{_+_, _*_, _≤_};
+ghost use Prim.Native.Nat.{_+_, _≤_};
 ghost use lib.ListN.{length, replicate};
 ghost use Rattle.terms.specs.Network.{column};
 ghost use Rattle.terms.specs.Paths.{Route};
@@ -17,7 +16,6 @@ ghost use Rattle.terms.specs.Ranking.{ranked};
 ghost use Rattle.terms.specs.Robust.{robust};
 ghost use Rattle.labels.specs.Arcs.{graph};
 ghost use Rattle.ranking.specs.Ranking.{Problem, Space};
-ghost use Rattle.branching.specs.Star.{Star};
 ghost use Rattle.regret.specs.Columns.{network};
 ghost use Rattle.robust.specs.Answers.{chosen-length, answered};
 ghost use Rattle.robust.specs.Counting.{Priced};
@@ -28,7 +26,7 @@ ghost use Rattle.image.specs.Calls.{sizes};
 ghost use Rattle.choices.specs.Answers.{decided};
 ghost use Rattle.calls.specs.Calls.{no-path-row, robust-of, chosen, robust-values, cleared};
 ghost use Rattle.calls.specs.Decoded.{Accepted, InColumn, ArcRoom, NodeRoom, Ends};
-ghost use Rattle.choices.specs.Held.{Reached, Held, ChoiceRoom, ChoiceSlices};
+ghost use Rattle.choices.specs.Held.{ChoiceRoom, ChoiceSlices};
 
 // A path with the least figure among those counted.
 pub struct Decision {
@@ -118,44 +116,6 @@ fn choose_priced(
     );
     clear(work);
     state(answer)
-}
-
-// Reads all columns, and finds each column's best. In some column a path goes from start to goal.
-fn price(
-    image: &[u8],
-    m: u32,
-    k: u32,
-    tails: &[u16],
-    heads: &[u16],
-    first_out: &[u16],
-    first_in: &[u16],
-    next_in: &[u16],
-    start: usize,
-    goal: usize,
-    costs: &mut [u32],
-    bests: &mut [u64],
-)
-    requires { ⌜ Accepted (now image) (netOf (now image) .nodes) m k ⌝ }
-    requires { ⌜ Reached (netOf (now image)) start goal (now tails) (now heads) (now «first_in») (now «next_in») × Star (netOf (now image) .nodes) (now tails) (now heads) (now «first_out») ⌝ }
-    requires { ⌜ (length (now costs) ≡ m * k) × (length (now bests) ≡ k) ⌝ }
-    ensures { λ _. ⌜ Held (netOf (now (image .entry))) start goal (now (tails .entry)) (now (heads .entry)) (now («first_out» .entry)) (now (costs .exit)) (now (bests .exit)) ⌝ }
-{
-    read_columns(image, m, k, costs);
-    let barred = [0u8; 201];
-    let mut labels = [0u64; 201];
-    let places = first_in.len();
-    column_bests(
-        tails,
-        heads,
-        first_in,
-        next_in,
-        costs,
-        &barred[..places],
-        start,
-        goal,
-        &mut labels[..places],
-        bests,
-    );
 }
 
 // The same from the image on, with room for all that the search needs: in column r, from start to goal.

@@ -1,11 +1,11 @@
 -- A slice whose beginning is written place by place. Assumes nothing.
 -- the first i places of d hold those of s, and now place i does too
-use Prim.Native.Nat.{ℕ, suc, _+_, _-_, _≤_, _<_}
+use Prim.Native.Nat.{ℕ, suc, _+_, _-_, _<_}
 use native.Mathlib.Omega.{arith}
 use native.Mathlib.Numerals.{add-one}
 use mathlib.Core.Path.{_≡_}
 use mathlib.Core.List.{List, _++_}
-use lib.ListN.{length, getD, take, drop, set, length-append, length-take, length-drop}
+use lib.ListN.{length, getD, take, drop, set, length-drop}
 use lib.Seq.{drop-cons, take-suc, set-at, append-snoc, length-take-le, take-all}
 
 pub copy-more : (s d : List ℕ) (i : ℕ) → i < length s → i < length d → set (take i s ++ drop i d) i (getD s i 0) ≡ take (i + 1) s ++ drop (i + 1) d

@@ -1,6 +1,6 @@
 -- Document 01, "The refusal table", rows 3 and 6 to 9: what is asked of a network's numbers, arcs and costs. Assumes nothing.
 use Prim.Native.Nat.{ℕ, zero, suc}
-use mathlib.Core.Bool.{Bool, not, _&&_, _||_}
+use mathlib.Core.Bool.{Bool, not, _&&_}
 use mathlib.Core.List.{List, [], _∷_}
 use lib.Dec.{leb, ltb, eqb}
 use lib.ListN.{getD, drop}

@@ -1,5 +1,5 @@
 -- Demand 2 of the buyers, on images: "Network images written from lists read back as those lists, and an accepted image's lists write that image again". Assumes nothing.
-use Prim.Native.Nat.{ℕ, _≤_, _<_}
+use Prim.Native.Nat.{ℕ, _≤_}
 use mathlib.Core.Path.{_≡_}
 use mathlib.Core.List.{List, [], _∷_}
 use lib.ListN.{length}

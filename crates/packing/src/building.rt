@@ -11,7 +11,7 @@ use image::write32;
 ghost use mathlib.Core.Path.{_≡_};
 ghost use mathlib.Core.List.{_++_};
 ghost use Prim.Native.Nat.{_+_, _*_, _/_, _≤_, _<_};
-ghost use lib.ListN.{length, getD, take, drop};
+ghost use lib.ListN.{length, take, drop};
 ghost use Rattle.image.specs.Bytes.{encode};
 ghost use Rattle.image.specs.Outcome.{sound, after};
 ghost use Rattle.image.specs.Rows.{pairs, arcs-fault, costs-fault};

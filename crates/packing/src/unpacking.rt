@@ -9,7 +9,7 @@ use image::read_costs;
 use image::read16;
 ghost use mathlib.Core.Path.{_≡_};
 ghost use mathlib.Core.List.{_++_};
-ghost use Prim.Native.Nat.{_+_, _*_, _≤_};
+ghost use Prim.Native.Nat.{_*_, _≤_};
 ghost use lib.ListN.{length, drop};
 ghost use Rattle.image.specs.Bytes.{decode};
 ghost use Rattle.image.specs.Outcome.{sound, after};

@@ -16,9 +16,8 @@ use Rattle.terms.proofs.RankingLaws.{before-cost}
 use Rattle.labels.specs.Arcs.{graph}
 use Rattle.labels.specs.Labels.{Least}
 use Rattle.candidates.specs.Slots.{Entry, none, entry-at, entries}
-use Rattle.candidates.specs.Routes.{routes, route-at, Rooted}
-use Rattle.candidates.proofs.EntryLaws.{kept-readable, length-entries, entries-at}
-use Rattle.candidates.proofs.RootedLaws.{family-rooted, route-at-entries}
+use Rattle.candidates.specs.Routes.{routes}
+use Rattle.candidates.proofs.EntryLaws.{length-entries, entries-at}
 use Rattle.candidates.proofs.RouteLaws.{length-routes}
 use Rattle.branching.specs.Branches.{Branch}
 use Rattle.branching.specs.Found.{Ends}

@@ -1,6 +1,5 @@
 // The ranked list: the first path of all is the first candidate, and each path that is ranked leaves
 // further candidates.
-ghost use mathlib.Core.Path.{_≡_};
 ghost use mathlib.Core.List.{[]};
 ghost use Prim.Native.Nat.{_+_, _<_};
 ghost use Rattle.labels.specs.Arcs.{graph};

@@ -14,6 +14,8 @@ ghost use Rattle.ranking.specs.Ranking.{Problem, Filled, Restored, Chang
 ghost use Rattle.branching.specs.Star.{Star, Heads, Starts};
 ghost use Rattle.ranking.specs.State.{Searching, branch-of, taking-over, waiting-to};
 use crate::branches::consider;
+use branching::Arc;
+use branching::find_arc;
 use candidates::cost_at;
 use candidates::lay_out;
 use candidates::set_bars;
@@ -25,15 +27,11 @@ fn arc_weight(heads: &[u16], weights: &[u32], first_out: &[u16], v: usize, y: u1
     requires { ⌜ (v + 1 < length (now «first_out»)) × (getD (now «first_out») (v + 1) 0 ≤ length (now heads)) × (length (now weights) ≡ length (now heads)) ⌝ }
     ensures { λ r. ⌜ ((n : ℕ) (ts : List ℕ) → Arcs n ts (now (heads .entry)) (now (weights .entry)) → Star n ts (now (heads .entry)) (now («first_out» .entry)) → linked (graph ts (now (heads .entry)) (now (weights .entry))) v y ≡ true → r ≡ weight (graph ts (now (heads .entry)) (now (weights .entry))) v y) ⌝ }
 {
-    let mut i = first_out[v] as usize;
-    let to = first_out[v + 1] as usize;
-    while i < to {
-        if heads[i] == y {
-            return weights[i];
-        }
-        i += 1;
-    }
-    0
+    let found = find_arc(heads, first_out, v, y);
+    let Arc::At(i) = found else {
+        return 0;
+    };
+    weights[i as usize]
 }
 
 // Flags the nodes in path[..len].

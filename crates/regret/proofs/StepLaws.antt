@@ -12,8 +12,8 @@ use lib.Seq.{drop-cons, drop-length, getD-take}
 use Rattle.terms.specs.Network.{Graph, linked, column}
 use Rattle.terms.specs.Paths.{Route, ByArcs, along, single, cost, cost-from}
 use Rattle.terms.proofs.ListLaws.{getD-mem, map-numbers}
-use Rattle.labels.specs.Arcs.{graph, Arcs}
-use Rattle.labels.proofs.ArcLaws.{At, at-weight, tail-within, later-within}
+use Rattle.labels.specs.Arcs.{graph, Arcs, At}
+use Rattle.labels.proofs.ArcLaws.{at-weight, tail-within, later-within}
 use Rattle.labels.proofs.Stores.{set-each}
 use Rattle.branching.specs.Star.{Star}
 use Rattle.terms.proofs.PathLaws.{arcs-linked}

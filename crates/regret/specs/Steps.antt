@@ -4,7 +4,7 @@ use mathlib.Core.Path.{_≡_}
 use mathlib.Core.List.{List, [], _∷_, map}
 use lib.ListN.{length, getD}
 use Rattle.terms.specs.Lists.{numbers}
-use Rattle.labels.proofs.ArcLaws.{At}
+use Rattle.labels.specs.Arcs.{At}
 use Rattle.regret.specs.Columns.{column-costs}
 
 -- each node of the path has a place in first, which holds indices of arcs

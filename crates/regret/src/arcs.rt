@@ -1,4 +1,6 @@
 // The arcs of a path.
+use branching::Arc;
+use branching::find_arc;
 ghost use mathlib.Core.Path.{_≡_};
 ghost use mathlib.Core.Bool.{true};
 ghost use mathlib.Core.List.{List};
@@ -6,24 +8,19 @@ ghost use Prim.Native.Nat.{ℕ, _+_, _≤_, _<_};
 ghost use lib.ListN.{length, getD};
 ghost use Rattle.terms.specs.Network.{linked};
 ghost use Rattle.terms.specs.Paths.{ByArcs};
-ghost use Rattle.labels.specs.Arcs.{graph, Arcs};
-ghost use Rattle.labels.proofs.ArcLaws.{At};
+ghost use Rattle.labels.specs.Arcs.{graph, Arcs, At};
 ghost use Rattle.branching.specs.Star.{Star};
 ghost use Rattle.regret.specs.Steps.{Starred, Steps};
 
-// The index of the arc from v to y.
+// The index of the arc from v to y, 0 if there is none.
 fn arc_index(heads: &[u16], first_out: &[u16], v: usize, y: u16) -> u16
     requires { ⌜ (v + 1 < length (now «first_out»)) × (getD (now «first_out») (v + 1) 0 ≤ length (now heads)) ⌝ }
     ensures { λ r. ⌜ ((n : ℕ) (ts ws : List ℕ) → Arcs n ts (now (heads .entry)) ws → Star n ts (now (heads .entry)) (now («first_out» .entry)) → linked (graph ts (now (heads .entry)) ws) v y ≡ true → At ts (now (heads .entry)) v y r) ⌝ }
 {
-    let mut i = first_out[v];
-    let to = first_out[v + 1];
-    while i < to {
-        if heads[i as usize] == y {
-            return i;
-        }
-        i += 1;
-    }
+    let found = find_arc(heads, first_out, v, y);
+    let Arc::At(i) = found else {
+        return 0;
+    };
     i
 }
 

@@ -1,5 +1,5 @@
--- Arrays with the costs of several columns: all columns have the same paths, no path costs less than a column's best, and figures are
--- small. Assumes nothing.
+-- Arrays with the costs of several columns: all columns have the same paths, no path costs less than a column's best, a path is measured,
+-- and figures are small. Assumes nothing.
 use Prim.Native.Nat.{ℕ, suc, _+_, _-_, _*_, _≤_, _<_}
 use native.Mathlib.Omega.{arith}
 use mathlib.Core.Path.{_≡_, sym, _∙_, ap, subst}
@@ -9,30 +9,22 @@ use lib.ListN.{length, drop, getD, length-take, length-drop}
 use lib.Seq.{getD-take, getD-drop}
 use Rattle.terms.specs.Lists.{_∈_, largest, index, last, numbers}
 use Rattle.terms.specs.Network.{Graph, Net, column}
-use Rattle.terms.specs.Paths.{Route, ByArcs, single, along, Path, cost}
+use Rattle.terms.specs.Paths.{Route, ByArcs, Path, cost}
 use Rattle.terms.specs.Ranking.{ranked}
 use Rattle.terms.specs.Regret.{best, deviation, deviations, figure, worst}
 use Rattle.terms.specs.Robust.{answer, robust}
 use Rattle.terms.proofs.ListLaws.{largest-le, getD-map-numbers, numbers-mem}
-use Rattle.terms.proofs.PathLaws.{Within, path-listed}
+use Rattle.terms.proofs.PathLaws.{Within, of-path, at-most-nodes, path-listed}
 use Rattle.terms.proofs.RegretLaws.{best-le}
 use Rattle.labels.specs.Arcs.{graph, Arcs}
-use Rattle.labels.proofs.ArcLaws.{linked-at, at-linked, graph-within, path-cost-le}
-use Rattle.regret.specs.Columns.{network, column-costs, over}
+use Rattle.labels.proofs.ArcLaws.{graph-within, path-cost-le}
+use Rattle.regret.specs.Columns.{Columns, network, column-costs, over}
 use Rattle.robust.specs.Counting.{Priced, InColumn}
+use Rattle.regret.proofs.BestLaws.{path-any-column}
 use Rattle.regret.proofs.ColumnLaws.{length-columns, held-column, over-figure, over-worst}
 
--- ---- paths do not depend on the costs
-module _ {n : ℕ} {ts hs ws ws′ : List ℕ} (A : Arcs n ts hs ws) (A′ : Arcs n ts hs ws′) where
-  arcs-same : {p : Route} → ByArcs (graph ts hs ws) p → ByArcs (graph ts hs ws′) p
-  arcs-same single = single
-  arcs-same (along {v} {h} l b) = along (at-linked A′ (linked-at A v h l .1)) (arcs-same b)
-
-  path-same : {s t : ℕ} {p : Route} → Path (graph ts hs ws) s t p → Path (graph ts hs ws′) s t p
-  path-same r = record { from-start = r .from-start; to-goal = r .to-goal; by-arcs = arcs-same (r .by-arcs); loopless = r .loopless }
-
 -- a path between two nodes has two at least
-pub two-nodes : {g : Graph} {s t : ℕ} {p : Route} → (s ≡ t → ⊥) → Path g s t p → 2 ≤ length p
+two-nodes : {g : Graph} {s t : ℕ} {p : Route} → (s ≡ t → ⊥) → Path g s t p → 2 ≤ length p
 unfolding last
 two-nodes {s} {t} {p} apart r = long p (r .from-start) (r .to-goal)
   where
@@ -64,18 +56,18 @@ module _ {n s t : ℕ} {ts hs outs costs bests : List ℕ} (Q : Priced n s t ts 
     pub cost-to : {p : Route} → Path (column (network n (length bests) ts hs costs) u) s t p → cost (column (network n (length bests) ts hs costs) u) p ≤ 199000000
     cost-to r = rw held (path-cost-le arcs 1000000 light (rw held at r))
 
-    pub best-at : getD bests (u - 1) 0 ≡ best n (column (network n (length bests) ts hs costs) u) s t
+    best-at : getD bests (u - 1) 0 ≡ best n (column (network n (length bests) ts hs costs) u) s t
     best-at =
         ap (λ (l : List ℕ). getD l (u - 1) 0) (Q .bests-are) ∙ getD-map-numbers (λ v. best n (column net v) s t) 1 (length bests) (u - 1) 0 (omega arith)
         ∙ ap (λ v. best n (column net v) s t) (omega arith)
 
-    pub best-below : {p : Route} → 1 ≤ s → s ≤ n → Path (column (network n (length bests) ts hs costs) u) s t p → getD bests (u - 1) 0 ≤ cost (column (network n (length bests) ts hs costs) u) p
+    best-below : {p : Route} → 1 ≤ s → s ≤ n → Path (column (network n (length bests) ts hs costs) u) s t p → getD bests (u - 1) 0 ≤ cost (column (network n (length bests) ts hs costs) u) p
     best-below lo hi r = rw best-at (best-le n (column net u) s t (path-listed n (subst (Within n) (sym held) (graph-within arcs)) lo hi r))
 
   -- ---- all columns have the same paths
-  pub path-any : (u v : ℕ) → 1 ≤ u → u ≤ length bests → 1 ≤ v → v ≤ length bests → {p : Route}
+  path-any : (u v : ℕ) → 1 ≤ u → u ≤ length bests → 1 ≤ v → v ≤ length bests → {p : Route}
       → Path (column (network n (length bests) ts hs costs) u) s t p → Path (column (network n (length bests) ts hs costs) v) s t p
-  path-any u v a b c d {p} r = subst (λ g. Path g s t p) (sym (held v c d)) (path-same (arcs u a b) (arcs v c d) (subst (λ g. Path g s t p) (held u a b) r))
+  path-any u v a b c d r = path-any-column (Q .columns) u a b r v c d
 
   -- ---- figure and worst column
   given : bests ≡ map (λ u. best (network n (length bests) ts hs costs .nodes) (column (network n (length bests) ts hs costs) u) s t) (numbers 1 (length (network n (length bests) ts hs costs .columns)))
@@ -83,10 +75,10 @@ module _ {n s t : ℕ} {ts hs outs costs bests : List ℕ} (Q : Priced n s t ts 
   given = subst (λ k. bests ≡ map (λ u. best n (column net u) s t) (numbers 1 k)) (sym (length-columns n (length bests) ts hs costs)) (Q .bests-are)
 
   module _ (p : Route) where
-    pub figure-over : largest (over (network n (length bests) ts hs costs) bests p) ≡ figure (network n (length bests) ts hs costs) s t p
+    figure-over : largest (over (network n (length bests) ts hs costs) bests p) ≡ figure (network n (length bests) ts hs costs) s t p
     figure-over = over-figure net s t bests given p
 
-    pub worst-over : {f : ℕ} → f ≡ largest (over (network n (length bests) ts hs costs) bests p)
+    worst-over : {f : ℕ} → f ≡ largest (over (network n (length bests) ts hs costs) bests p)
         → suc (index (eqb f) (over (network n (length bests) ts hs costs) bests p)) ≡ worst (network n (length bests) ts hs costs) s t p
     worst-over e = ap (λ (x : ℕ). suc (index (eqb x) (over net bests p))) e ∙ over-worst net s t bests given p
 
@@ -99,6 +91,21 @@ module _ {n s t : ℕ} {ts hs outs costs bests : List ℕ} (Q : Priced n s t ts 
             let b = numbers-mem 1 (length (net .columns)) m in
             let hi : u ≤ length bests = omega (arith, length-columns n (length bests) ts hs costs) in
             omega (arith, e, cost-to u (b .0) hi (path-any 1 u (omega arith) (Q .columns .columns-from) (b .0) hi r))
+
+  -- ---- a path can be measured, and what is measured is its figure and its worst column
+  module _ {p : Route} (from : 1 ≤ s) (upto : s ≤ n) (apart : s ≡ t → ⊥) (r : Path (column (network n (length bests) ts hs costs) 1) s t p) where
+    short : length p ≤ 200
+    short =
+        let first = Q .columns .columns-from in
+        omega (arith, at-most-nodes (subst (Within n) (sym (held 1 (omega arith) first)) (graph-within (arcs 1 (omega arith) first))) from upto (of-path r), arcs 1 (omega arith) first .few-nodes)
+
+    pub measurable : Columns n (length bests) ts hs outs costs × (ByArcs (column (network n (length bests) ts hs costs) 1) p × (((2 ≤ length p) × (length p ≤ 200))
+        × ((u : ℕ) → 1 ≤ u → u ≤ length bests → getD bests (u - 1) 0 ≤ cost (column (network n (length bests) ts hs costs) u) p)))
+    measurable = (Q .columns, (r .by-arcs, ((two-nodes apart r, short), λ u lo hi. best-below u lo hi from upto (path-any 1 u (omega arith) (Q .columns .columns-from) lo hi r))))
+
+  pub measured : (p : Route) {f w : ℕ} → f ≡ largest (over (network n (length bests) ts hs costs) bests p) → w ≡ suc (index (eqb f) (over (network n (length bests) ts hs costs) bests p))
+      → (f ≡ figure (network n (length bests) ts hs costs) s t p) × (w ≡ worst (network n (length bests) ts hs costs) s t p)
+  measured p e g = (e ∙ figure-over p, g ∙ worst-over p e)
 
   -- ---- the graph of the weights is column r's, so Robust's answer is that of its ranked list
   module _ {r : ℕ} {ws : List ℕ} (I : InColumn r (length bests) ts ws costs) where

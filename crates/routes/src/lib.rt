@@ -8,6 +8,7 @@ mod measuring;
 
 pub use choices::Decided;
 pub use choices::Decision;
+pub use choices::Measure;
 pub use choosing::robust;
 pub use finding::Routed;
 pub use finding::shortest;
@@ -15,6 +16,5 @@ pub use labelling::Labelled;
 pub use labelling::label;
 pub use listing::Listed;
 pub use listing::rank;
-pub use measuring::Measure;
 pub use measuring::Regretted;
 pub use measuring::regret;

@@ -17,7 +17,7 @@ ghost use Rattle.ranking.specs.Ranking.{Problem};
 ghost use Rattle.image.specs.Outcome.{sound, after};
 ghost use Rattle.image.specs.Layout.{netOf};
 ghost use Rattle.image.specs.Calls.{sizes};
-ghost use Rattle.calls.specs.Calls.{rank-of, rank-rows-of, rank-costs-of, cleared};
+ghost use Rattle.calls.specs.Calls.{rank-of, rank-rows-of, rank-costs-of};
 ghost use Rattle.calls.specs.Decoded.{InColumn, ArcRoom, NodeRoom, Ends};
 ghost use Rattle.searches.specs.Slices.{ListSlices, ListedWork};
 

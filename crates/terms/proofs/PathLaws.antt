@@ -202,9 +202,6 @@ module _ {net : Net} (u v : ℕ) (ok : Admitted net) (u-lo : 1 ≤ u) (u-hi : u 
   arcs-in-column single = single
   arcs-in-column (along {v = a} {h} l b) = along (rw linked-in-column at l) (arcs-in-column b)
 
-  pub path-in-column : {s t : ℕ} {p : Route} → Path (column net u) s t p → Path (column net v) s t p
-  path-in-column r = record { from-start = r .from-start; to-goal = r .to-goal; by-arcs = arcs-in-column (r .by-arcs); loopless = r .loopless }
-
 -- ---- the check of a node list, row 14, passes exactly the paths
 some≢none : {A : Type 0} {i : ℕ} → _≡_ {A = Option ℕ} (some i) none → A
 some≢none {i} e = let z : _≡_ {A = ℕ} 0 1 = cc in absurd (omega arith)

@@ -1,6 +1,6 @@
 -- Functions on lists that document 01's terms are made of. Assumes nothing.
 use Prim.Native.Nat.{ℕ, zero, suc, min, max}
-use mathlib.Core.Bool.{Bool, true, false, _||_, cond}
+use mathlib.Core.Bool.{Bool, false, _||_, cond}
 use mathlib.Core.List.{List, [], _∷_, foldr, List·Memᴰ}
 use lib.Dec.{eqb}
 

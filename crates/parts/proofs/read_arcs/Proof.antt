@@ -1,5 +1,5 @@
 -- `image::parts::read_arcs` meets its contract. Assumes nothing.
-use Prim.Native.Nat.{ℕ, _+_, _-_, _≤_}
+use Prim.Native.Nat.{ℕ, _-_, _≤_}
 use mathlib.Core.Path.{_≡_, refl, sym, _∙_}
 use mathlib.Core.List.{_++_, map}
 use lib.ListN.{length, getD, take, drop, length-set, length-map}

@@ -1,6 +1,5 @@
 -- `first::exact_path` lends a part of a local array: as many labels as there are flags. Assumes nothing.
 use Prim.Native.Nat.{_≤_}
-use native.Mathlib.Omega.{arith}
 use mathlib.Core.Path.{sym}
 use lib.ListN.{length}
 use borrow.Author.Needs.{needs}

@@ -11,8 +11,9 @@ use Rattle.terms.specs.Regret.{fault}
 use Rattle.image.specs.Layout.{netOf}
 use Rattle.labels.specs.Arcs.{graph}
 use Rattle.calls.specs.Decoded.{Decoded}
-use Rattle.calls.proofs.DecodeLaws.{costs-of, arc-count-is, few-nodes, decoded-arcs}
-use Rattle.calls.proofs.ListLaws.{no-nodes, wrong-first, place-to, error-found, wrong-last, right-last}
+use Rattle.calls.specs.Lists.{FirstError}
+use Rattle.calls.proofs.DecodeLaws.{costs-of, few-nodes, arcs-held}
+use Rattle.calls.proofs.ListLaws.{followed, no-nodes, wrong-first, place-to, error-found, wrong-last, right-last}
 use Rattle.calls.proofs.lists.check_list_in.Statement.{statement}
 use Rattle.calls.proofs.lists.check_list_in.Tie as tie
 
@@ -28,46 +29,50 @@ cast-if2 c = omega (arith, c .shared-slice-known3 .given 0)
 returns-2 : tie.Need-returns-2
 returns-2 c = sym (wrong-first _ _ _ _ (c .if2 .taken))
 
-read-arcs-requires : tie.Need-read-arcs-requires
-read-arcs-requires c κs = let s = c .before .before .before .before .before .before .before .before .before in
-    (s .pre .0 .passes, arc-count-is (s .pre .0), omega arith, omega arith)
+-- the arcs that were read, and the start of the function
+abbrev read : tie.After-first-error → tie.After-decode-arcs
+read c = c .before .before .before .before .before .before .before .before .before
+
+abbrev start : tie.After-decode-arcs → tie.Start
+start r = r .before .before .before .before .before .before .before .before .before .before .before .before
+
+abbrev tails : tie.After-decode-arcs → List ℕ
+tails r = r .decode-arcs .last .1 .1 .0
+
+abbrev heads : tie.After-decode-arcs → List ℕ
+heads r = r .decode-arcs .last .1 .1 .1 .0
+
+abbrev costs : tie.After-decode-arcs → List ℕ
+costs r = costs-of (netOf (start r .args .image .now)) 1
+
+held : (r : tie.After-decode-arcs) → Decoded (netOf (start r .args .image .now)) 1 (tails r) (heads r) (costs r)
+held r = let o = r .decode-arcs .ensures in arcs-held (start r .pre .0) (o .tails-are) (o .heads-are)
+
+begins : (r : tie.After-decode-arcs) → getD (start r .args .nodes .now) 0 0 ≡ start r .args .start
+begins r = r .before .before .before .before .if2 .left
+
+decode-arcs-requires : tie.Need-decode-arcs-requires
+decode-arcs-requires c κs = let p = c .before .before .before .before .before .before .before .before .before .before .before .pre in
+    (p .0, p .1 .1)
 
 first-error-requires : tie.Need-first-error-requires
-first-error-requires c κs = search needs
+first-error-requires c κs = let r = c .before .before .before .before .before .before .before .before in
+    followed (held r .arcs) (r .decode-arcs .ensures .star) (start r .pre .1 .0) (omega arith) (begins r)
 
--- the arcs that were read, and the start of the function
-abbrev read : tie.After-first-error → tie.After-read-arcs
-read c = c .before .before .before .before .before .before .before
+-- the first error, which stands at most at n
+found : (c : tie.After-first-error) → FirstError (tails (read c)) (heads (read c)) (start (read c) .args .nodes .now) (c .first-error .result)
+found c = c .first-error .ensures _ _ (read c .decode-arcs .ensures .star)
 
-abbrev start : tie.After-first-error → tie.Start
-start c = read c .before .before .before .before .before .before .before .before .before .before
-
-abbrev tails : tie.After-first-error → List ℕ
-tails c = read c .read-arcs .last .1 .1 .0
-
-abbrev heads : tie.After-first-error → List ℕ
-heads c = read c .read-arcs .last .1 .1 .1 .0
-
-abbrev costs : tie.After-first-error → List ℕ
-costs c = costs-of (netOf (start c .args .image .now)) 1
-
-held : (c : tie.After-first-error) → Decoded (netOf (start c .args .image .now)) 1 (tails c) (heads c) (costs c)
-held c = let p = start c .pre in decoded-arcs (p .0) _ _ (p .1 .1 .0) (p .1 .1 .1) (read c .read-arcs .ensures .0) (read c .read-arcs .ensures .1)
-
-begins : (c : tie.After-first-error) → getD (start c .args .nodes .now) 0 0 ≡ start c .args .start
-begins c = read c .before .before .before .if2 .left
-
--- the first error stands at most at n
 few : (c : tie.After-first-error) → c .first-error .result ≤ 200
-few c = omega (arith, place-to (held c .arcs) (start c .pre .1 .0) (begins c) (c .first-error .ensures), few-nodes (start c .pre .0))
+few c = let r = read c in omega (arith, place-to (held r .arcs) (start r .pre .1 .0) (begins r) (found c), few-nodes (start r .pre .0))
 
 -- what holds of the arrays holds of the column
-shown : (c : tie.After-first-error) {o : Option ℕ} → fault (graph (tails c) (heads c) (costs c)) (start c .args .start) (start c .args .goal) (start c .args .nodes .now) ≡ o
-    → o ≡ fault (column (netOf (start c .args .image .now)) 1) (start c .args .start) (start c .args .goal) (start c .args .nodes .now)
-shown c e = sym e ∙ ap (λ (g : Graph). fault g (start c .args .start) (start c .args .goal) (start c .args .nodes .now)) (held c .graph-is)
+shown : (r : tie.After-decode-arcs) {o : Option ℕ} → fault (graph (tails r) (heads r) (costs r)) (start r .args .start) (start r .args .goal) (start r .args .nodes .now) ≡ o
+    → o ≡ fault (column (netOf (start r .args .image .now)) 1) (start r .args .start) (start r .args .goal) (start r .args .nodes .now)
+shown r e = sym e ∙ ap (λ (g : Graph). fault g (start r .args .start) (start r .args .goal) (start r .args .nodes .now)) (held r .graph-is)
 
-cast-t23 : tie.Need-cast-t23
-cast-t23 c = omega (arith, few (c .before))
+cast-t26 : tie.Need-cast-t26
+cast-t26 c = omega (arith, few (c .before))
 
 same-length : tie.Need-same-length
 same-length c = search needs
@@ -75,34 +80,31 @@ same-length c = search needs
 same-length-2 : tie.Need-same-length-2
 same-length-2 c = search needs
 
+same-length-3 : tie.Need-same-length-3
+same-length-3 c = search needs
+
 returns-3 : tie.Need-returns-3
 returns-3 c = let f = c .before in
-    shown f (error-found (held f .arcs) (start f .pre .1 .0) (begins f) (f .first-error .ensures) _ (c .if3 .taken))
+    let r = read f in
+    shown r (error-found (held r .arcs) (start r .pre .1 .0) (begins r) (found f) _ (c .if3 .taken))
 
 sub-if4 : tie.Need-sub-if4
-sub-if4 c = search needs
+sub-if4 c = omega (arith, found (c .before) .after-first)
 
 mul-if4 : tie.Need-mul-if4
-mul-if4 c = search needs
+mul-if4 c = omega (arith, found (c .before) .upto)
 
 shared-slice-read-if4 : tie.Need-shared-slice-read-if4
-shared-slice-read-if4 c = search needs
+shared-slice-read-if4 c = omega (arith, found (c .before .before) .after-first, found (c .before .before) .upto)
 
 cast-if4 : tie.Need-cast-if4
 cast-if4 c = omega (arith, c .shared-slice-known4 .given (c .before .before .first-error .result - 1))
 
-cast-t26 : tie.Need-cast-t26
-cast-t26 c = omega (arith, few (c .before .before .before))
-
-same-length-3 : tie.Need-same-length-3
-same-length-3 c = search needs
+cast-t29 : tie.Need-cast-t29
+cast-t29 c = omega (arith, few (c .before .before .before))
 
 same-length-4 : tie.Need-same-length-4
 same-length-4 c = search needs
-
-returns-4 : tie.Need-returns-4
-returns-4 c = let f = c .before .before .before in
-    shown f (wrong-last (held f .arcs) (start f .pre .1 .0) (begins f) (f .first-error .ensures) _ (c .before .before .if3 .left) (c .if4 .taken))
 
 same-length-5 : tie.Need-same-length-5
 same-length-5 c = search needs
@@ -110,9 +112,24 @@ same-length-5 c = search needs
 same-length-6 : tie.Need-same-length-6
 same-length-6 c = search needs
 
+returns-4 : tie.Need-returns-4
+returns-4 c = let f = c .before .before .before in
+    let r = read f in
+    shown r (wrong-last (held r .arcs) (start r .pre .1 .0) (begins r) (found f) _ (c .before .before .if3 .left) (c .if4 .taken))
+
+same-length-7 : tie.Need-same-length-7
+same-length-7 c = search needs
+
+same-length-8 : tie.Need-same-length-8
+same-length-8 c = search needs
+
+same-length-9 : tie.Need-same-length-9
+same-length-9 c = search needs
+
 returns-5 : tie.Need-returns-5
 returns-5 c = let f = c .before .before .before in
-    shown f (right-last (held f .arcs) (start f .pre .1 .0) (begins f) (f .first-error .ensures) _ (c .before .before .if3 .left) (c .if4 .left))
+    let r = read f in
+    shown r (right-last (held r .arcs) (start r .pre .1 .0) (begins r) (found f) _ (c .before .before .if3 .left) (c .if4 .left))
 
 pub check-list-in-spec : {M : Type 1} → statement M
 check-list-in-spec =
@@ -122,20 +139,23 @@ check-list-in-spec =
     shared-slice-read-if2
     cast-if2
     returns-2
-    read-arcs-requires
+    decode-arcs-requires
     first-error-requires
-    cast-t23
+    cast-t26
     same-length
     same-length-2
+    same-length-3
     returns-3
     sub-if4
     mul-if4
     shared-slice-read-if4
     cast-if4
-    cast-t26
-    same-length-3
+    cast-t29
     same-length-4
-    returns-4
     same-length-5
     same-length-6
+    returns-4
+    same-length-7
+    same-length-8
+    same-length-9
     returns-5)

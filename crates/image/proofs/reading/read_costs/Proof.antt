@@ -2,7 +2,7 @@
 use Rattle.image.proofs.ByteLaws.{length-decode, decode-at}
 use Rattle.image.proofs.SliceLaws.{copy-more}
 use lib.Seq.{take-all}
-use Prim.Native.Nat.{_+_, _-_, _≤_}
+use Prim.Native.Nat.{_-_, _≤_}
 use mathlib.Core.Path.{_≡_, refl, sym, _∙_}
 use mathlib.Core.List.{_++_}
 use lib.ListN.{length, getD, take, drop, length-set}

@@ -1,84 +1,27 @@
--- `arcs::arc_index` looks for the arc. The loop: no arc before index i goes to y. Assumes nothing.
-use native.Mathlib.Omega.{arith}
-use Prim.Native.Nat.{ℕ, _+_, _-_, _≤_, _<_}
-use mathlib.Core.Path.{_≡_}
-use lib.ListN.{getD}
-use Rattle.branching.proofs.StarLaws.{arc-at, arc-there}
-use Rattle.branching.proofs.ExitLaws.{up-to}
+-- `arcs::arc_index` is the index that was found. Assumes nothing.
+use borrow.Author.Needs.{needs}
+use Rattle.labels.proofs.ArcLaws.{linked-at}
+use Rattle.branching.proofs.StarLaws.{found-at, none-found}
 use Rattle.regret.proofs.arcs.arc_index.Statement.{statement}
 use Rattle.regret.proofs.arcs.arc_index.Tie as tie
 
-abbrev Inv-loop : tie.InvT-loop
-Inv-loop heads first-out v y i₀ to i = (getD first-out v 0 ≤ i) × (to ≡ getD first-out (v + 1) 0) × ((j : ℕ) → getD first-out v 0 ≤ j → j < i → getD heads j 0 ≡ y → ⊥)
+find-arc-requires : tie.Need-find-arc-requires
+find-arc-requires c κs = search needs
 
-abbrev μ-loop : tie.MeasureT-loop
-μ-loop heads first-out v y i₀ to i = to - i
+enum-known-found : tie.Need-enum-known-found
+enum-known-found c = search needs
 
-mul-i : tie.Need-mul-i Inv-loop μ-loop
-mul-i c = omega arith
+enum-told : tie.Need-enum-told
+enum-told c = search needs
 
-shared-slice-read-i : tie.Need-shared-slice-read-i Inv-loop μ-loop
-shared-slice-read-i c = omega arith
+returns : tie.Need-returns
+returns c = λ n ts ws A S l. let a = linked-at A _ _ l in
+    absurd (none-found (c .before .before .find-arc .ensures) (c .enum-told .given .1) S (a .0) (a .1))
 
-add-to : tie.Need-add-to Inv-loop μ-loop
-add-to c = omega arith
-
-mul-to : tie.Need-mul-to Inv-loop μ-loop
-mul-to c = omega arith
-
-shared-slice-read-to : tie.Need-shared-slice-read-to Inv-loop μ-loop
-shared-slice-read-to c = omega arith
-
-loop-holds : tie.Need-loop-holds Inv-loop μ-loop
-loop-holds c = omega arith
-
-cast-if1 : tie.Need-cast-if1 Inv-loop μ-loop
-cast-if1 c = omega arith
-
-mul-if1 : tie.Need-mul-if1 Inv-loop μ-loop
-mul-if1 c = omega arith
-
-shared-slice-read-if1 : tie.Need-shared-slice-read-if1 Inv-loop μ-loop
-shared-slice-read-if1 c = omega arith
-
-returns : tie.Need-returns Inv-loop μ-loop
-returns c = let l = c .before .before .before in
-    let s = l .before .before .before in
-    λ n ts ws A S k. arc-at A S (s .args .v) (s .args .y) k (l .loop .i) (l .loop .inv .0) (omega arith) (c .if1 .taken)
-
-add-i : tie.Need-add-i Inv-loop μ-loop
-add-i c = let l = c .before .before .before in omega (arith, l .before .shared-slice-known2 .given (l .before .before .before .args .v + 1))
-
-loop-less : tie.Need-loop-less Inv-loop μ-loop
-loop-less c = omega arith
-
-loop-again : tie.Need-loop-again Inv-loop μ-loop
-loop-again c = let l = c .before .before .before in
-    let s = l .before .before .before in
-    (omega arith, l .loop .inv .1, up-to (λ j. getD (s .args .heads .now) j 0 ≡ s .args .y → ⊥) (getD (s .args .first-out .now) (s .args .v) 0) (l .loop .i) (l .loop .inv .2) (c .if1 .left))
-
-returns-2 : tie.Need-returns-2 Inv-loop μ-loop
-returns-2 c = let l = c .before in
-    let s = l .before .before .before in
-    λ n ts ws A S k. absurd (arc-there A S (s .args .v) (s .args .y) k (λ i lo hi e. l .loop .inv .2 i lo (omega arith) e))
+returns-2 : tie.Need-returns-2
+returns-2 c = λ n ts ws A S l. found-at (c .before .before .before .find-arc .ensures) (c .before .found .given .1) S
 
 pub arc-index-spec : {M : Type 1} → statement M
 arc-index-spec =
     tie.close
-    (tie.spec
-    Inv-loop
-    μ-loop
-    mul-i
-    shared-slice-read-i
-    add-to
-    mul-to
-    shared-slice-read-to
-    loop-holds
-    cast-if1
-    mul-if1
-    shared-slice-read-if1
-    returns
-    add-i
-    loop-less
-    loop-again
-    returns-2)
+    (tie.spec find-arc-requires enum-known-found enum-told returns returns-2)

@@ -1,7 +1,7 @@
 -- `bests::column_bests`: the loop has set the bests of the columns before u. Assumes nothing.
 use Prim.Native.Nat.{ℕ, _+_, _-_, _≤_, _<_}
 use native.Mathlib.Omega.{arith}
-use mathlib.Core.Path.{_≡_, refl, sym, _∙_, ap}
+use mathlib.Core.Path.{_≡_, refl, _∙_, ap}
 use lib.ListN.{length, getD, set}
 use Rattle.terms.specs.Network.{column}
 use Rattle.terms.specs.Regret.{best}

@@ -1,22 +1,20 @@
 -- `counting::measure_at`: what is laid out is the path, and what is measured is its figure and worst column. Assumes nothing.
-use Prim.Native.Nat.{ℕ, suc, _+_, _-_, _≤_}
+use Prim.Native.Nat.{ℕ, _+_, _≤_}
 use native.Mathlib.Omega.{arith}
 use mathlib.Core.Path.{_≡_, sym, _∙_, ap, subst}
 use mathlib.Core.List.{List}
 use borrow.Author.Needs.{needs}
-use lib.Dec.{eqb}
-use lib.ListN.{length, take, getD}
-use Rattle.terms.specs.Lists.{largest, index}
+use lib.ListN.{length, take}
 use Rattle.terms.specs.Network.{Net, column}
-use Rattle.terms.specs.Paths.{Route, ByArcs, Path, cost}
+use Rattle.terms.specs.Paths.{Route, Path}
 use Rattle.terms.specs.Regret.{figure, worst}
 use Rattle.candidates.specs.Slots.{entry-at, entries}
 use Rattle.candidates.specs.Routes.{route-at, Fits}
 use Rattle.candidates.proofs.RootedLaws.{rooted-fits, route-size}
 use Rattle.candidates.proofs.LayingLaws.{all-laid}
-use Rattle.regret.specs.Columns.{network, over}
+use Rattle.regret.specs.Columns.{network}
 use Rattle.robust.specs.Counting.{Priced}
-use Rattle.robust.proofs.PricedLaws.{two-nodes, path-any, best-below, figure-over, worst-over}
+use Rattle.robust.proofs.PricedLaws.{measurable, measured}
 use Rattle.robust.proofs.counting.measure_at.Statement.{statement}
 use Rattle.robust.proofs.counting.measure_at.Tie as tie
 
@@ -74,41 +72,28 @@ slice-reshare-prefix-measure c = room (c .before .before)
 slice-aggregate-measure : tie.Need-slice-aggregate-measure
 slice-aggregate-measure c = let o = c .before .before .before in long (sized o) ∙ ap length (sym (laid o))
 
+-- so what is laid out is a path
+laid-path : (o : tie.After-lay-out) → let s = start (sized o) in Path (column (net s) 1) (s .args .start) (s .args .goal) (take (sized o .length-at .result) (places o))
+laid-path o = let s = start (sized o) in subst (Path (column (net s) 1) (s .args .start) (s .args .goal)) (sym (laid o)) (is-path s)
+
 measure-requires : tie.Need-measure-requires
 measure-requires c κs = let o = c .before .before .before in
-    let k = sized o in
-    let s = start k in
-    let Q = priced s in
-    let p = is-path s in
-    let e = ap length (laid o) in (
-      Q .columns,
-      (
-        subst (ByArcs (column (net s) 1)) (sym (laid o)) (p .by-arcs),
-        (
-          (omega (arith, e, two-nodes (s .pre .1 .0 .0 .apart) p), omega (arith, e, long k, short k, Q .columns .arcs 1 (omega arith) (Q .columns .columns-from) .few-nodes)),
-          λ u lo hi. subst (λ (l : Route). getD (s .args .bests .now) (u - 1) 0 ≤ cost (column (net s) u) l) (sym (laid o))
-              (best-below Q u lo hi (s .pre .1 .0 .0 .start-from) (omega (arith, s .pre .1 .0 .0 .start-place)) (path-any Q 1 u (omega arith) (Q .columns .columns-from) lo hi p)),
-        ),
-      ),
-    )
+    let s = start (sized o) in
+    let ends = s .pre .1 .0 .0 in
+    measurable (priced s) (ends .start-from) (omega (arith, ends .start-place)) (ends .apart) (laid-path o)
 
 -- what was measured
-figure-is : (m : tie.After-measure) → let s = start (sized (placed m)) in m .measure .result .figure ≡ figure (net s) (s .args .start) (s .args .goal) (route s)
-figure-is m = let o = placed m in
+found : (m : tie.After-measure) → let s = start (sized (placed m)) in (m .measure .result .figure ≡ figure (net s) (s .args .start) (s .args .goal) (route s)) × (m .measure .result .worst ≡ worst (net s) (s .args .start) (s .args .goal) (route s))
+found m = let o = placed m in
     let s = start (sized o) in
-    m .measure .ensures .0 ∙ ap (λ (l : Route). largest (over (net s) (s .args .bests .now) l)) (laid o) ∙ figure-over (priced s) (route s)
-
-worst-is : (m : tie.After-measure) → let s = start (sized (placed m)) in m .measure .result .worst ≡ worst (net s) (s .args .start) (s .args .goal) (route s)
-worst-is m = let o = placed m in
-    let s = start (sized o) in
-    let f = m .measure .ensures .0 ∙ ap (λ (l : Route). largest (over (net s) (s .args .bests .now) l)) (laid o) in
-    m .measure .ensures .1 ∙ ap (λ (l : Route). suc (index (eqb (m .measure .result .figure)) (over (net s) (s .args .bests .now) l))) (laid o) ∙ worst-over (priced s) (route s) f
+    let e = measured (priced s) (take (sized o .length-at .result) (places o)) (m .measure .ensures .0) (m .measure .ensures .1) in
+    (e .0 ∙ ap (figure (net s) (s .args .start) (s .args .goal)) (laid o), e .1 ∙ ap (worst (net s) (s .args .start) (s .args .goal)) (laid o))
 
 same-length : tie.Need-same-length
 same-length c = search needs
 
 returns : tie.Need-returns
-returns c = (figure-is c, worst-is c)
+returns c = found c
 
 pub measure-at-spec : {M : Type 1} → statement M
 measure-at-spec =

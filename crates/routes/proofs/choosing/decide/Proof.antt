@@ -1,5 +1,5 @@
 -- `routes::choosing::decide` meets its contract. Assumes nothing.
-use mathlib.Core.Path.{_≡_, sym, _∙_, ap}
+use mathlib.Core.Path.{sym, _∙_, ap}
 use Rattle.image.specs.Outcome.{outcome, after}
 use Rattle.image.specs.Answers.{checked}
 use Rattle.image.proofs.NetworkLaws.{accepted-network}

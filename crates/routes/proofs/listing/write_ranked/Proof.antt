@@ -1,8 +1,8 @@
 -- `routes::listing::write_ranked` meets its contract. Assumes nothing.
 use Prim.Native.Nat.{ℕ, _≤_}
 use native.Mathlib.Omega.{arith}
-use mathlib.Core.Path.{_≡_, sym, _∙_, ap}
-use mathlib.Core.List.{List, [], _∷_}
+use mathlib.Core.Path.{sym, _∙_, ap}
+use mathlib.Core.List.{[], _∷_}
 use Rattle.image.specs.Outcome.{gives, after}
 use Rattle.image.specs.Answers.{checked}
 use Rattle.image.proofs.OutcomeLaws.{outcome-fault, outcome-sound, after-fault}

@@ -1,5 +1,4 @@
 -- `measuring::check_regret`: each return is the first row of Regret that applies. Assumes nothing.
-use native.Mathlib.Omega.{arith}
 use mathlib.Core.Path.{_≡_, sym, _∙_, ap, ap₂}
 use borrow.Author.Needs.{needs}
 use Rattle.image.specs.Outcome.{sound, _then_, outcome}
@@ -11,7 +10,7 @@ use Rattle.calls.specs.Calls.{ends-row}
 use Rattle.calls.specs.Decoded.{Accepted}
 use Rattle.calls.specs.Lists.{list-fault}
 use Rattle.calls.proofs.CostLaws.{bound-row-sound}
-use Rattle.calls.proofs.RowLaws.{given-sizes, sizes-of, node-bounds, column-bounds, in-column, ends-sound, first-rows, no-path-at, regret-passes}
+use Rattle.calls.proofs.RowLaws.{given-sizes, sizes-of, node-bounds, ends-sound, first-rows, no-path-at, regret-passes}
 use Rattle.routes.proofs.measuring.check_regret.Statement.{statement}
 use Rattle.routes.proofs.measuring.check_regret.Tie as tie
 
@@ -42,8 +41,7 @@ known c = passes c .1
 
 check-list-requires : tie.Need-check-list-requires
 check-list-requires c κs = let a = c .before in
-    let k = known a in
-    (in-column k (omega arith) (column-bounds k .0), ends-sound _ _ _ (then-sound _ _ (passes a .0) .1) .0)
+    (known a, ends-sound _ _ _ (then-sound _ _ (passes a .0) .1) .start-in)
 
 enum-known-list : tie.Need-enum-known-list
 enum-known-list c = search needs

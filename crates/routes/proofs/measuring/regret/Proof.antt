@@ -43,14 +43,14 @@ passes c = given-sizes _ (λ e. regret-sound _ _ _ _ e .accepted) (sym (ap check
 given : (c : tie.After-answer) → RegretSound (start c .args .image .now) (start c .args .start) (start c .args .goal) (start c .args .nodes .now)
 given c = regret-sound _ _ _ _ (passes c .0)
 
-greatest-regret-requires : tie.Need-greatest-regret-requires
-greatest-regret-requires c κs = let a = c .before in
+measure-list-requires : tie.Need-measure-list-requires
+measure-list-requires c κs = let a = c .before in
     let g = given a in
-    (passes a .1, (g .ends, g .path))
+    (passes a .1, g .ends, g .path)
 
 returns-2 : tie.Need-returns-2
 unfolding regret-outcome
-returns-2 c = let e = c .greatest-regret .ensures in
+returns-2 c = let e = c .measure-list .ensures in
     ap₂ (λ (f w : ℕ). gives (f ∷ w ∷ [])) (e .0) (e .1) ∙ sym (outcome-sound _ (passes (c .before .before) .0))
 
 pub regret-spec : {M : Type 1} → statement M
@@ -62,5 +62,5 @@ regret-spec =
     enum-told
     refusal-requires
     returns
-    greatest-regret-requires
+    measure-list-requires
     returns-2)

@@ -1,7 +1,7 @@
 -- `listing::list_in`: a start whose label is the mark has no path; else the loaded column is what the ranking asks for. Assumes nothing.
 use Prim.Native.Nat.{_-_}
 use native.Mathlib.Omega.{arith}
-use mathlib.Core.Path.{_≡_, refl, sym, _∙_, ap}
+use mathlib.Core.Path.{_≡_, refl, sym, ap}
 use lib.ListN.{length}
 use Rattle.image.specs.Layout.{netOf}
 use Rattle.searches.specs.Slices.{ListedWork}

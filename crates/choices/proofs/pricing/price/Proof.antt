@@ -1,4 +1,4 @@
--- `choosing::price`: the columns are read, and the label of the start in each is its best. Assumes nothing.
+-- `pricing::price`: the columns are read, and the label of the start in each is its best. Assumes nothing.
 use native.Mathlib.Omega.{arith}
 use mathlib.Core.Path.{_≡_, refl, sym, _∙_}
 use lib.ListN.{length, take, replicate}
@@ -10,8 +10,8 @@ use Rattle.regret.proofs.BestLaws.{joined-kept}
 use Rattle.calls.proofs.DecodeLaws.{whole}
 use Rattle.choices.proofs.ChoiceLaws.{read-ready, held-joined, held}
 use borrow.Author.Needs.{needs}
-use Rattle.choices.proofs.choosing.price.Statement.{statement}
-use Rattle.choices.proofs.choosing.price.Tie as tie
+use Rattle.choices.proofs.pricing.price.Statement.{statement}
+use Rattle.choices.proofs.pricing.price.Tie as tie
 
 abbrev start : tie.After-read-columns → tie.Start
 start c = c .before .before .before .before .before .before .before .before .before .before
