@@ -1,4 +1,4 @@
--- `image::parts::read_arcs` meets its contract. Assumes nothing.
+-- `read_arcs` meets its contract. Assumes nothing.
 use Prim.Native.Nat.{ℕ, _-_, _≤_}
 use mathlib.Core.Path.{_≡_, refl, sym, _∙_}
 use mathlib.Core.List.{_++_, map}

@@ -1,4 +1,4 @@
--- `image::parts::read_column` meets its contract. Assumes nothing.
+-- `read_column` meets its contract. Assumes nothing.
 use lib.ListN.{length, take, drop}
 use Prim.Native.Nat.{ℕ, _+_, _*_, _-_, _≤_}
 use native.Mathlib.Omega.{arith}

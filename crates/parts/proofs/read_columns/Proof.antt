@@ -1,4 +1,4 @@
--- `image::parts::read_columns`: the costs of all columns are the image's part from their offset to its end. Assumes nothing.
+-- `read_columns`: the costs of all columns are the image's part from their offset to its end. Assumes nothing.
 use Prim.Native.Nat.{ℕ, _+_, _*_}
 use native.Mathlib.Omega.{arith}
 use mathlib.Core.Path.{_≡_, _∙_, ap, ap₂}

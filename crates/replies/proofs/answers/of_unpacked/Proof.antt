@@ -1,4 +1,4 @@
--- `capi::replies::of_unpacked` meets its contract. Assumes nothing.
+-- `answers::of_unpacked` meets its contract. Assumes nothing.
 use mathlib.Core.Path.{sym, ap, _∙_}
 use borrow.Author.Needs.{needs}
 use Rattle.packing.specs.Answers.{unpacked}
