@@ -13,10 +13,10 @@ use Rattle.labels.specs.Arrays.{Arrays}
 use Rattle.labels.specs.Labels.{Least}
 use Rattle.labels.proofs.ArcLaws.{arrays-of, graph-within}
 use Rattle.labels.proofs.LabelLaws.{label-le}
-use Rattle.branching.specs.Exits.{Unmarked}
-use Rattle.branching.specs.Flags.{Flagged, Fresh}
-use Rattle.branching.specs.Star.{Star, Network, Heads, Starts, Small}
-use Rattle.branching.specs.Walks.{Consistent, Choice}
+use Rattle.exits.specs.Exits.{Unmarked}
+use Rattle.exits.specs.Flags.{Flagged, Fresh}
+use Rattle.exits.specs.Star.{Star, Network, Heads, Starts, Small}
+use Rattle.exits.specs.Walks.{Consistent, Choice}
 use Rattle.branching.proofs.FlagLaws.{flags-none, least-exact}
 use Rattle.branching.proofs.WalkLaws.{Exact, consistent-more}
 

@@ -7,11 +7,11 @@ ghost use Rattle.labels.specs.Arcs.{graph};
 ghost use Rattle.labels.specs.Labels.{Least};
 ghost use Rattle.branching.specs.Branches.{everything};
 ghost use Rattle.branching.specs.Found.{Idle, Ends, Extent, FirstFound};
-ghost use Rattle.branching.specs.Star.{Network};
-use crate::exits::Next;
-use crate::exits::least_exit;
+ghost use Rattle.exits.specs.Star.{Network};
 use crate::first::Found;
 use crate::first::first_path;
+use exits::Next;
+use exits::least_exit;
 
 // The same as below, with room for the flags, in which no node is flagged yet.
 fn shortest_in(

@@ -7,17 +7,18 @@ ghost use lib.ListN.{length, take, getD};
 ghost use Rattle.terms.specs.Paths.{Route};
 ghost use Rattle.labels.specs.Arcs.{graph};
 ghost use Rattle.branching.specs.Branches.{branch, In, First, Beginning};
-ghost use Rattle.branching.specs.Exits.{Unmarked};
-ghost use Rattle.branching.specs.Flags.{Flagged, Fresh};
+ghost use Rattle.exits.specs.Exits.{Unmarked};
+ghost use Rattle.exits.specs.Flags.{Flagged, Fresh};
 ghost use Rattle.branching.specs.Found.{Ahead, Begun, Kept, FirstFound};
 ghost use Rattle.branching.specs.Laid.{Laid, Longer, Tried};
-ghost use Rattle.branching.specs.Star.{Network};
-ghost use Rattle.branching.specs.Walks.{Consistent, Choice};
-use crate::exits::Next;
-use crate::exits::least_exit;
+ghost use Rattle.exits.specs.Star.{Network, Small};
+ghost use Rattle.exits.specs.Walks.{Consistent, Choice};
 use crate::walk::attempt;
 use crate::walk::unmark;
+use exits::Next;
+use exits::least_exit;
 use labels::least;
+use sharpening::sharpen;
 
 pub enum Found {
     // The length of the path, and what its tail costs, from the end of the beginning on.
@@ -191,6 +192,164 @@ fn exact_path(
 }
 
 // The first path of the branch of path[..d], whose next node is not barred. y and l are its least exit
+// by the labels `overall`: the walk along these, or else the path by labels of the branch's own.
+fn along(
+    tails: &[u16],
+    heads: &[u16],
+    weights: &[u32],
+    first_out: &[u16],
+    first_in: &[u16],
+    next_in: &[u16],
+    goal: usize,
+    overall: &[u64],
+    used: &mut [u8],
+    barred: &[u8],
+    path: &mut [u16],
+    d: usize,
+    y: u16,
+    l: u64,
+) -> Found
+    requires { ⌜ Network (length (now used)) (now tails) (now heads) (now weights) (now «first_out») (now «first_in») (now «next_in») ⌝ }
+    requires { ⌜ Begun (length (now used)) (now used) (now barred) (now path) d ⌝ }
+    requires { ⌜ Ahead (length (now used)) goal (now used) ⌝ }
+    requires { ⌜ Consistent (graph (now tails) (now heads) (now weights)) goal (now overall) (take d (now path)) × Small (length (now used)) (now overall) ⌝ }
+    requires { ⌜ Choice (graph (now tails) (now heads) (now weights)) (now overall) (Unmarked (now used) (now barred)) (getD (now path) (d - 1) 0) l y ⌝ }
+    ensures { λ r. ⌜ Kept (now (used .entry)) (now (path .entry)) d (now (used .exit)) (now (path .exit)) r ⌝ }
+    ensures { λ r. ⌜ ((s : ℕ) (F : List ℕ) → Beginning (graph (now (tails .entry)) (now (heads .entry)) (now (weights .entry))) s goal (take d (now (path .entry))) → Flagged (now (barred .entry)) F → FirstFound (graph (now (tails .entry)) (now (heads .entry)) (now (weights .entry))) s goal (branch (take d (now (path .entry))) F) (now (path .exit)) r) ⌝ }
+{
+    let end = attempt(heads, weights, first_out, goal, overall, used, path, d, y);
+    if end.arrived {
+        return Found::Tail(end.len, l);
+    }
+    exact_path(
+        tails,
+        heads,
+        weights,
+        first_out,
+        first_in,
+        next_in,
+        goal,
+        used,
+        barred,
+        path,
+        d,
+    )
+}
+
+// The same, with no exit chosen yet: the walk is along sharper labels, which have a place for each node.
+fn by_sharper(
+    tails: &[u16],
+    heads: &[u16],
+    weights: &[u32],
+    first_out: &[u16],
+    first_in: &[u16],
+    next_in: &[u16],
+    goal: usize,
+    overall: &[u64],
+    used: &mut [u8],
+    barred: &[u8],
+    path: &mut [u16],
+    d: usize,
+    labels: &mut [u64],
+) -> Found
+    requires { ⌜ Network (length (now used)) (now tails) (now heads) (now weights) (now «first_out») (now «first_in») (now «next_in») ⌝ }
+    requires { ⌜ Begun (length (now used)) (now used) (now barred) (now path) d ⌝ }
+    requires { ⌜ Ahead (length (now used)) goal (now used) ⌝ }
+    requires { ⌜ Consistent (graph (now tails) (now heads) (now weights)) goal (now overall) (take d (now path)) × Small (length (now used)) (now overall) ⌝ }
+    requires { ⌜ length (now labels) ≡ length (now used) ⌝ }
+    ensures { λ r. ⌜ Kept (now (used .entry)) (now (path .entry)) d (now (used .exit)) (now (path .exit)) r ⌝ }
+    ensures { λ r. ⌜ ((s : ℕ) (F : List ℕ) → Beginning (graph (now (tails .entry)) (now (heads .entry)) (now (weights .entry))) s goal (take d (now (path .entry))) → Flagged (now (barred .entry)) F → FirstFound (graph (now (tails .entry)) (now (heads .entry)) (now (weights .entry))) s goal (branch (take d (now (path .entry))) F) (now (path .exit)) r) ⌝ }
+{
+    let v = path[d - 1] as usize;
+    let sharp = sharpen(
+        heads,
+        weights,
+        first_out,
+        v,
+        goal,
+        overall,
+        used,
+        barred,
+        labels,
+    );
+    if !sharp {
+        return exact_path(
+            tails,
+            heads,
+            weights,
+            first_out,
+            first_in,
+            next_in,
+            goal,
+            used,
+            barred,
+            path,
+            d,
+        );
+    }
+    let Next::Node(y, l) = least_exit(heads, weights, first_out, v, labels, used, barred) else {
+        return Found::Empty;
+    };
+    along(
+        tails,
+        heads,
+        weights,
+        first_out,
+        first_in,
+        next_in,
+        goal,
+        labels,
+        used,
+        barred,
+        path,
+        d,
+        y,
+        l,
+    )
+}
+
+// The same, with room made for the labels.
+fn sharp_path(
+    tails: &[u16],
+    heads: &[u16],
+    weights: &[u32],
+    first_out: &[u16],
+    first_in: &[u16],
+    next_in: &[u16],
+    goal: usize,
+    overall: &[u64],
+    used: &mut [u8],
+    barred: &[u8],
+    path: &mut [u16],
+    d: usize,
+) -> Found
+    requires { ⌜ Network (length (now used)) (now tails) (now heads) (now weights) (now «first_out») (now «first_in») (now «next_in») ⌝ }
+    requires { ⌜ Begun (length (now used)) (now used) (now barred) (now path) d ⌝ }
+    requires { ⌜ Ahead (length (now used)) goal (now used) ⌝ }
+    requires { ⌜ Consistent (graph (now tails) (now heads) (now weights)) goal (now overall) (take d (now path)) × Small (length (now used)) (now overall) ⌝ }
+    ensures { λ r. ⌜ Kept (now (used .entry)) (now (path .entry)) d (now (used .exit)) (now (path .exit)) r ⌝ }
+    ensures { λ r. ⌜ ((s : ℕ) (F : List ℕ) → Beginning (graph (now (tails .entry)) (now (heads .entry)) (now (weights .entry))) s goal (take d (now (path .entry))) → Flagged (now (barred .entry)) F → FirstFound (graph (now (tails .entry)) (now (heads .entry)) (now (weights .entry))) s goal (branch (take d (now (path .entry))) F) (now (path .exit)) r) ⌝ }
+{
+    let mut labels = [0u64; 201];
+    let places = used.len();
+    by_sharper(
+        tails,
+        heads,
+        weights,
+        first_out,
+        first_in,
+        next_in,
+        goal,
+        overall,
+        used,
+        barred,
+        path,
+        d,
+        &mut labels[..places],
+    )
+}
+
+// The first path of the branch of path[..d], whose next node is not barred. y and l are its least exit
 // by the labels `overall`, which may be those of the whole network: the walk along these arrives
 // mostly, and the branch is searched by labels of its own where it does not.
 pub fn first_path(
@@ -212,7 +371,7 @@ pub fn first_path(
     requires { ⌜ Network (length (now used)) (now tails) (now heads) (now weights) (now «first_out») (now «first_in») (now «next_in») ⌝ }
     requires { ⌜ Begun (length (now used)) (now used) (now barred) (now path) d ⌝ }
     requires { ⌜ Ahead (length (now used)) goal (now used) ⌝ }
-    requires { ⌜ Consistent (graph (now tails) (now heads) (now weights)) goal (now overall) (take d (now path)) × (length (now overall) ≡ length (now used)) ⌝ }
+    requires { ⌜ Consistent (graph (now tails) (now heads) (now weights)) goal (now overall) (take d (now path)) × Small (length (now used)) (now overall) ⌝ }
     requires { ⌜ Choice (graph (now tails) (now heads) (now weights)) (now overall) (Unmarked (now used) (now barred)) (getD (now path) (d - 1) 0) l y ⌝ }
     ensures { λ r. ⌜ Kept (now (used .entry)) (now (path .entry)) d (now (used .exit)) (now (path .exit)) r ⌝ }
     ensures { λ r. ⌜ ((s : ℕ) (F : List ℕ) → Beginning (graph (now (tails .entry)) (now (heads .entry)) (now (weights .entry))) s goal (take d (now (path .entry))) → Flagged (now (barred .entry)) F → FirstFound (graph (now (tails .entry)) (now (heads .entry)) (now (weights .entry))) s goal (branch (take d (now (path .entry))) F) (now (path .exit)) r) ⌝ }
@@ -221,7 +380,7 @@ pub fn first_path(
     if end.arrived {
         return Found::Tail(end.len, l);
     }
-    exact_path(
+    sharp_path(
         tails,
         heads,
         weights,
@@ -229,6 +388,7 @@ pub fn first_path(
         first_in,
         next_in,
         goal,
+        overall,
         used,
         barred,
         path,

@@ -20,7 +20,7 @@ use Rattle.terms.proofs.ListLaws.{split, and-both, outside-cons, cons-outside, 
 use Rattle.terms.proofs.PathLaws.{unseen, unseen-lt}
 use Rattle.labels.specs.Arcs.{graph, Arcs}
 use Rattle.labels.proofs.ArcLaws.{linked-at, at-linked}
-use Rattle.branching.specs.Star.{Star}
+use Rattle.exits.specs.Star.{Star}
 use Rattle.calls.specs.Decoded.{Node}
 use Rattle.calls.specs.Lists.{Followed, GoesOn, FirstError}
 

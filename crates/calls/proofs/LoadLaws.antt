@@ -10,11 +10,11 @@ use Rattle.terms.specs.Network.{Net, column}
 use Rattle.labels.specs.Arcs.{graph}
 use Rattle.labels.specs.Chains.{Chains}
 use Rattle.labels.specs.Labels.{Least}
-use Rattle.branching.specs.Star.{Cut, RisingTails}
+use Rattle.exits.specs.Star.{Cut, RisingTails}
 use Rattle.branching.specs.Branches.{everything}
 use Rattle.branching.specs.Found.{FirstFound}
 use Rattle.branching.specs.declared.first.Found.{Found}
-use Rattle.branching.proofs.StarLaws.{star-of}
+use Rattle.exits.proofs.StarLaws.{star-of}
 use Rattle.calls.specs.Decoded.{Decoded, Loaded}
 use Rattle.calls.proofs.LabelLaws.{unbarred}
 

@@ -9,7 +9,7 @@ use Rattle.image.specs.Layout.{netOf}
 use Rattle.image.specs.Calls.{image-fault}
 use Rattle.labels.specs.Arcs.{graph, Arcs}
 use Rattle.labels.specs.Labels.{Least}
-use Rattle.branching.specs.Star.{Star, Network}
+use Rattle.exits.specs.Star.{Star, Network}
 
 -- image b is accepted, and its network has n nodes, m arcs and k columns
 pub record Accepted (b : List ℕ) (n m k : ℕ) : Type 0 where

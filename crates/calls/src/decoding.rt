@@ -1,6 +1,6 @@
 // The arcs of an accepted image in arrays, and one column as a graph in three: arc i goes from tails[i]
 // to heads[i] and costs weights[i].
-use branching::star;
+use exits::star;
 use parts::read_arcs;
 use parts::read_column;
 ghost use mathlib.Core.Path.{_≡_};

@@ -1,7 +1,7 @@
 // Node lists: whether one is a path, and where it fails.
 use super::decoding::decode_arcs;
-use branching::Arc;
-use branching::find_arc;
+use exits::Arc;
+use exits::find_arc;
 use image::Sizes;
 ghost use mathlib.Core.Path.{_≡_};
 ghost use mathlib.Core.List.{List};
@@ -10,7 +10,7 @@ ghost use lib.ListN.{length};
 ghost use Rattle.terms.specs.Network.{column};
 ghost use Rattle.terms.specs.Regret.{fault};
 ghost use Rattle.image.specs.Layout.{netOf};
-ghost use Rattle.branching.specs.Star.{Star};
+ghost use Rattle.exits.specs.Star.{Star};
 ghost use Rattle.calls.specs.Decoded.{Accepted, Node, InColumn};
 ghost use Rattle.calls.specs.Lists.{Followed, FirstError, list-fault};
 

@@ -1,7 +1,7 @@
 // One column of an accepted image made ready for the search of paths: its arcs in arrays, the arcs
 // out of and into each node, and the labels of the whole network.
 use super::decoding::decode;
-use branching::star;
+use exits::star;
 use labels::chain;
 use labels::least;
 ghost use Rattle.image.specs.Layout.{netOf};

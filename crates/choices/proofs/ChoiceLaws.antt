@@ -30,7 +30,7 @@ use Rattle.image.proofs.NetworkLaws.{accepted-network, accepted-costs, length-c
 use Rattle.parts.proofs.PartLaws.{length-arcs}
 use Rattle.image.proofs.OutcomeLaws.{then-next, then-sound, outcome-sound, after-sound}
 use Rattle.ranking.specs.Ranking.{Space}
-use Rattle.branching.specs.Star.{Star}
+use Rattle.exits.specs.Star.{Star}
 use Rattle.regret.specs.Bests.{Joined}
 use Rattle.regret.specs.Columns.{arc-pairs, network, column-costs, Columns, over}
 use Rattle.regret.proofs.BestLaws.{joined}

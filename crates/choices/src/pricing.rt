@@ -5,7 +5,7 @@ ghost use mathlib.Core.Path.{_≡_};
 ghost use Prim.Native.Nat.{_*_};
 ghost use lib.ListN.{length};
 ghost use Rattle.image.specs.Layout.{netOf};
-ghost use Rattle.branching.specs.Star.{Star};
+ghost use Rattle.exits.specs.Star.{Star};
 ghost use Rattle.calls.specs.Decoded.{Accepted};
 ghost use Rattle.choices.specs.Held.{Reached, Held};
 

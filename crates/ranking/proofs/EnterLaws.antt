@@ -21,13 +21,13 @@ use Rattle.candidates.specs.Routes.{beginning, route, routes, Fits}
 use Rattle.candidates.specs.Bars.{barred}
 use Rattle.candidates.specs.Placing.{Placed}
 use Rattle.branching.specs.Branches.{Branch, branch, In, First}
-use Rattle.branching.specs.Exits.{Unmarked}
+use Rattle.exits.specs.Exits.{Unmarked}
 use Rattle.branching.specs.Found.{Ahead, Extent, FirstFound}
 use Rattle.ranking.specs.Pool.{Candidate}
 use Rattle.ranking.specs.Ranking.{Problem, Filled, Deviation, Changed, Settled, TooDear}
-use Rattle.branching.specs.Star.{longest}
+use Rattle.exits.specs.Star.{longest}
 use Rattle.ranking.specs.State.{branch-of, Beyond, Entered, Searching, taking-over}
-use Rattle.branching.specs.Walks.{Consistent, Exit, Choice}
+use Rattle.exits.specs.Walks.{Consistent, Exit, Choice}
 use Rattle.branching.specs.declared.first.Found.{Found}
 use Rattle.branching.specs.declared.first.Found.the-variants.{Tail, Empty}
 use Rattle.branching.proofs.FirstLaws.{branch-empty, branch-floor}

@@ -20,7 +20,7 @@ use Rattle.candidates.proofs.EntryLaws.{length-entries}
 use Rattle.candidates.proofs.RouteLaws.{beginning-start, length-routes}
 use Rattle.candidates.proofs.BarLaws.{barred-start}
 use Rattle.branching.specs.Branches.{Branch, branch, In, everything}
-use Rattle.branching.specs.Flags.{Flagged}
+use Rattle.exits.specs.Flags.{Flagged}
 use Rattle.branching.specs.Found.{Idle, Ends}
 use Rattle.ranking.specs.Ranking.{Problem, Filled, Deviation, Changed, Settled, Due, Space, Blank, Begins, Stage, Ranked}
 use Rattle.ranking.specs.Search.{Search}

@@ -23,7 +23,7 @@ use Rattle.branching.specs.Branches.{Branch}
 use Rattle.branching.specs.Found.{Ends}
 use Rattle.ranking.specs.Ranking.{Problem, Ranked}
 use Rattle.ranking.specs.Search.{Search}
-use Rattle.branching.specs.Star.{Network}
+use Rattle.exits.specs.Star.{Network}
 use Rattle.ranking.specs.State.{candidate, candidates-from, Beyond, Entered, Searching}
 use Rattle.branching.proofs.FlagLaws.{flags-none}
 use Rattle.ranking.proofs.EnterLaws.{problem-within}

@@ -14,12 +14,12 @@ use Rattle.candidates.specs.Keeping.{Kept}
 use Rattle.candidates.specs.Routes.{beginning, routes, size, Fits}
 use Rattle.candidates.specs.Bars.{barred}
 use Rattle.branching.specs.Branches.{Branch, Beginning}
-use Rattle.branching.specs.Flags.{Flagged}
+use Rattle.exits.specs.Flags.{Flagged}
 use Rattle.branching.specs.Found.{Begun, Idle}
 use Rattle.branching.specs.Laid.{Laid}
-use Rattle.branching.specs.Star.{Network, Small, longest}
+use Rattle.exits.specs.Star.{Network, Small, longest}
 use Rattle.ranking.specs.State.{Entered, Searching, taking-over}
-use Rattle.branching.specs.Walks.{Consistent}
+use Rattle.exits.specs.Walks.{Consistent}
 
 -- ---- what is given
 -- the paths from s to t in a graph of n nodes that is kept in arrays, with labels to t

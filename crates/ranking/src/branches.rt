@@ -5,17 +5,17 @@ ghost use lib.ListN.{getD};
 ghost use Rattle.labels.specs.Arcs.{graph};
 ghost use Rattle.candidates.specs.Slots.{entries};
 ghost use Rattle.candidates.specs.Keeping.{Kept};
-ghost use Rattle.branching.specs.Exits.{Unmarked};
+ghost use Rattle.exits.specs.Exits.{Unmarked};
 ghost use Rattle.ranking.specs.Ranking.{Problem, Filled, Deviation, Restored, Changed, Settled, TooDear};
 ghost use Rattle.ranking.specs.State.{branch-of, taking-over};
-ghost use Rattle.branching.specs.Walks.{Choice};
+ghost use Rattle.exits.specs.Walks.{Choice};
 use branching::Found;
-use branching::Next;
 use branching::first_path;
-use branching::least_exit;
 use candidates::cost_at;
 use candidates::insert;
 use candidates::place_for;
+use exits::Next;
+use exits::least_exit;
 
 // Whether every slot is taken, and the last entry costs less than `bound`.
 fn too_dear(work: &[u32], n: usize, slots: usize, count: usize, bound: u64) -> bool

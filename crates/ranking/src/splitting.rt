@@ -11,16 +11,16 @@ ghost use Rattle.candidates.specs.Slots.{entries, none};
 ghost use Rattle.candidates.specs.Routes.{size};
 ghost use Rattle.branching.specs.Laid.{Laid};
 ghost use Rattle.ranking.specs.Ranking.{Problem, Filled, Restored, Changed, Settled, Along, Emptied, Markable, Due, Blank};
-ghost use Rattle.branching.specs.Star.{Star, Heads, Starts};
+ghost use Rattle.exits.specs.Star.{Star, Heads, Starts};
 ghost use Rattle.ranking.specs.State.{Searching, branch-of, taking-over, waiting-to};
 use crate::branches::consider;
-use branching::Arc;
-use branching::find_arc;
 use candidates::cost_at;
 use candidates::lay_out;
 use candidates::set_bars;
 use candidates::shared_at;
 use candidates::tail_length_at;
+use exits::Arc;
+use exits::find_arc;
 
 // The weight of the arc from v to y.
 fn arc_weight(heads: &[u16], weights: &[u32], first_out: &[u16], v: usize, y: u16) -> u32

@@ -15,7 +15,7 @@ use Rattle.terms.proofs.ListLaws.{getD-mem, map-numbers}
 use Rattle.labels.specs.Arcs.{graph, Arcs, At}
 use Rattle.labels.proofs.ArcLaws.{at-weight, tail-within, later-within}
 use Rattle.labels.proofs.Stores.{set-each}
-use Rattle.branching.specs.Star.{Star}
+use Rattle.exits.specs.Star.{Star}
 use Rattle.terms.proofs.PathLaws.{arcs-linked}
 use Rattle.regret.specs.Columns.{Columns, network, column-costs, over}
 use Rattle.regret.specs.Steps.{Starred, Steps, sum-of, excess, excesses, Summed}

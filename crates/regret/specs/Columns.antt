@@ -8,7 +8,7 @@ use Rattle.terms.specs.Lists.{numbers}
 use Rattle.terms.specs.Network.{Net, column, cut}
 use Rattle.terms.specs.Paths.{Route, cost}
 use Rattle.labels.specs.Arcs.{Arcs}
-use Rattle.branching.specs.Star.{Star}
+use Rattle.exits.specs.Star.{Star}
 
 -- ---- the network
 -- the arcs of tails and heads

@@ -1,6 +1,6 @@
 // The arcs of a path.
-use branching::Arc;
-use branching::find_arc;
+use exits::Arc;
+use exits::find_arc;
 ghost use mathlib.Core.Path.{_≡_};
 ghost use mathlib.Core.Bool.{true};
 ghost use mathlib.Core.List.{List};
@@ -9,7 +9,7 @@ ghost use lib.ListN.{length, getD};
 ghost use Rattle.terms.specs.Network.{linked};
 ghost use Rattle.terms.specs.Paths.{ByArcs};
 ghost use Rattle.labels.specs.Arcs.{graph, Arcs, At};
-ghost use Rattle.branching.specs.Star.{Star};
+ghost use Rattle.exits.specs.Star.{Star};
 ghost use Rattle.regret.specs.Steps.{Starred, Steps};
 
 // The index of the arc from v to y, 0 if there is none.

@@ -29,7 +29,7 @@ use Rattle.candidates.proofs.EntryLaws.{kept-readable, readable-less, length-en
 use Rattle.candidates.proofs.RootedLaws.{family-rooted, route-at-entries}
 use Rattle.candidates.proofs.RouteLaws.{length-routes}
 use Rattle.ranking.specs.Ranking.{Problem, Due, Changed, Begins}
-use Rattle.branching.specs.Star.{longest}
+use Rattle.exits.specs.Star.{longest}
 use Rattle.ranking.specs.State.{Beyond, Searching}
 use Rattle.ranking.proofs.DueLaws.{due-rooted}
 use Rattle.ranking.proofs.EnterLaws.{problem-within, path-small}

@@ -10,10 +10,10 @@ use Rattle.terms.specs.Network.{Graph}
 use Rattle.labels.specs.Arcs.{graph}
 use Rattle.branching.specs.Branches.{Beginning}
 use Rattle.branching.specs.Found.{Begun, Extent, FirstFound}
-use Rattle.branching.specs.Walks.{Consistent}
+use Rattle.exits.specs.Walks.{Consistent}
 use Rattle.branching.proofs.AllLaws.{start-begun, start-ahead, start-path, start-last}
 use Rattle.branching.proofs.BranchLaws.{beginning-start}
-use Rattle.branching.proofs.ExitLaws.{chosen-node, chosen-nothing}
+use Rattle.exits.proofs.ExitLaws.{chosen-node, chosen-nothing}
 use Rattle.branching.proofs.FirstLaws.{branch-empty}
 use Rattle.branching.proofs.FlagLaws.{flags-none}
 use Rattle.branching.proofs.NetworkLaws.{network-heads, network-starts, network-small, network-consistent}
@@ -101,7 +101,7 @@ first-path-requires c κs =
     let p = s .pre in
     let choice = chosen-node (x .least-exit .ensures .1 _ _ (p .0 .arcs) (p .0 .star)) (t .before .y .given .1) in
     let ahead = start-ahead (s .args .path .now) (p .1 .0 .1) (p .1 .0 .0) (p .1 .1 .0) in
-    rw (length-set (s .args .used .now) (s .args .start) 1) (p .0, (begun s, (ahead, ((consistent s _, p .1 .1 .1 .1), rw (last-node s) choice))))
+    rw (length-set (s .args .used .now) (s .args .start) 1) (p .0, (begun s, (ahead, ((consistent s _, network-small (p .0) (p .1 .1 .1 .1) (p .1 .1 .1 .0)), rw (last-node s) choice))))
 
 same-length-3 : tie.Need-same-length-3
 same-length-3 c =

@@ -10,13 +10,13 @@ use lib.ListN.{length, take, getD}
 use Rattle.terms.specs.Network.{Graph}
 use Rattle.labels.specs.Arcs.{graph}
 use Rattle.labels.specs.Labels.{Least}
-use Rattle.branching.specs.Exits.{Unmarked}
-use Rattle.branching.specs.Walks.{Choice}
-use Rattle.branching.specs.Flags.{Fresh}
+use Rattle.exits.specs.Exits.{Unmarked}
+use Rattle.exits.specs.Walks.{Choice}
+use Rattle.exits.specs.Flags.{Fresh}
 use Rattle.branching.specs.Found.{Begun, Extent, FirstFound}
 use Rattle.branching.specs.Laid.{Laid, Tried}
-use Rattle.branching.specs.Star.{Network}
-use Rattle.branching.proofs.ExitLaws.{usable-node, chosen-node, chosen-nothing}
+use Rattle.exits.specs.Star.{Network}
+use Rattle.exits.proofs.ExitLaws.{usable-node, chosen-node, chosen-nothing}
 use Rattle.branching.proofs.FlagLaws.{unflagged}
 use Rattle.branching.proofs.FirstLaws.{branch-empty, branch-walked, branch-stepped, tried-kept}
 use Rattle.branching.proofs.LaidLaws.{laid-place, laid-kept, tried-again}

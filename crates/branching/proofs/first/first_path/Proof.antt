@@ -19,7 +19,7 @@ start c = entry (c .before)
 abbrev walked : tie.After-slice-known4 → tie.After-attempt
 walked c = c .before .before .before .before
 
-abbrev strayed : tie.After-exact-path-arg2 → tie.After-attempt
+abbrev strayed : tie.After-sharp-path-arg2 → tie.After-attempt
 strayed c = walked (c .before .before .before)
 
 walk-tried : (c : tie.After-attempt) → let s = start c in
@@ -29,7 +29,7 @@ walk-tried c = c .attempt .ensures .0
 attempt-requires : tie.Need-attempt-requires
 attempt-requires c κs =
     let p = entry c .pre in
-    rw (p .1 .1 .1 .0 .1) (network-heads (p .0), (network-starts (p .0), (p .1 .0 .laid, choice-fresh (p .0) (p .1 .1 .1 .1))))
+    rw (p .1 .1 .1 .0 .1 .long) (network-heads (p .0), (network-starts (p .0), (p .1 .0 .laid, choice-fresh (p .0) (p .1 .1 .1 .1))))
 
 same-length : tie.Need-same-length
 same-length c = search needs
@@ -48,11 +48,11 @@ returns c =
           FirstFound.found (r .0) (r .1),
     )
 
-exact-path-requires : tie.Need-exact-path-requires
-exact-path-requires c κs =
+sharp-path-requires : tie.Need-sharp-path-requires
+sharp-path-requires c κs =
     let w = strayed c in
     let p = start w .pre in
-    rw (walk-tried w .flags) (p .0, (record { laid = laid-kept (walk-tried w .kept) (w .attempt .kept .1 .1 .1 .1 .1 .1 .0) (p .1 .0 .laid); some = p .1 .0 .some; barred-long = p .1 .0 .barred-long }, p .1 .1 .0))
+    rw (walk-tried w .flags) (p .0, (record { laid = laid-kept (walk-tried w .kept) (w .attempt .kept .1 .1 .1 .1 .1 .1 .0) (p .1 .0 .laid); some = p .1 .0 .some; barred-long = p .1 .0 .barred-long }, (p .1 .1 .0, (rw (walk-tried w .kept) (p .1 .1 .1 .0 .0), p .1 .1 .1 .0 .1))))
 
 same-length-3 : tie.Need-same-length-3
 same-length-3 c = search needs
@@ -64,7 +64,7 @@ returns-2 : tie.Need-returns-2
 returns-2 c =
     let e = c .before .before .before .before in
     let w = strayed (e .before) in
-    (kept-again (walk-tried w) (e .exact-path .ensures .0), λ s F B h. rw (walk-tried w .kept) at (e .exact-path .ensures .1 s F (rw (walk-tried w .kept) B) h))
+    (kept-again (walk-tried w) (e .sharp-path .ensures .0), λ s F B h. rw (walk-tried w .kept) at (e .sharp-path .ensures .1 s F (rw (walk-tried w .kept) B) h))
 
 pub first-path-spec : {M : Type 1} → statement M
 first-path-spec =
@@ -74,7 +74,7 @@ first-path-spec =
     same-length
     same-length-2
     returns
-    exact-path-requires
+    sharp-path-requires
     same-length-3
     same-length-4
     returns-2)

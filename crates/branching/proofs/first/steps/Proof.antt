@@ -12,13 +12,13 @@ use Rattle.terms.specs.Network.{Graph}
 use Rattle.terms.specs.Paths.{Route}
 use Rattle.labels.specs.Labels.{Least}
 use Rattle.labels.specs.Arcs.{graph}
-use Rattle.branching.specs.Flags.{Fresh}
-use Rattle.branching.specs.Star.{Network}
+use Rattle.exits.specs.Flags.{Fresh}
+use Rattle.exits.specs.Star.{Network}
 use Rattle.branching.specs.Branches.{branch, In}
 use Rattle.branching.proofs.FlagLaws.{unflagged}
 use Rattle.branching.proofs.LaidLaws.{laid-room}
 use Rattle.branching.proofs.WalkLaws.{Exact}
-use Rattle.branching.proofs.ExitLaws.{usable-node, chosen-node, chosen-nothing}
+use Rattle.exits.proofs.ExitLaws.{usable-node, chosen-node, chosen-nothing}
 use Rattle.branching.proofs.FirstLaws.{Stepping, stepping-place, stepping-more, stepping-onward, stepping-stuck, stepping-end, Onward, onward-start}
 use Rattle.branching.proofs.NetworkLaws.{network-heads, network-starts, network-arrays, network-small, network-exact}
 

@@ -3,7 +3,7 @@ use native.Mathlib.Omega.{arith}
 use mathlib.Core.Path.{_∙_}
 use borrow.Author.Needs.{needs}
 use Rattle.image.specs.Layout.{netOf}
-use Rattle.branching.proofs.StarLaws.{star-of}
+use Rattle.exits.proofs.StarLaws.{star-of}
 use Rattle.calls.specs.Decoded.{Decoded}
 use Rattle.calls.proofs.DecodeLaws.{costs-of, arc-count-is, decoded-arcs}
 use Rattle.calls.proofs.LoadLaws.{rising-tails}

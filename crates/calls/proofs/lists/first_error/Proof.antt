@@ -7,8 +7,8 @@ use lib.ListN.{length, getD}
 use borrow.Author.Count.{below-none, below-more}
 use borrow.Author.Needs.{needs}
 use Rattle.calls.specs.Lists.{GoesOn}
-use Rattle.branching.specs.Star.{Star}
-use Rattle.branching.proofs.StarLaws.{found-index, found-at, none-found}
+use Rattle.exits.specs.Star.{Star}
+use Rattle.exits.proofs.StarLaws.{found-index, found-at, none-found}
 use Rattle.calls.proofs.lists.first_error.Statement.{statement}
 use Rattle.calls.proofs.lists.first_error.Tie as tie
 

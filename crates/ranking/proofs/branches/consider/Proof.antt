@@ -8,11 +8,11 @@ use Rattle.terms.specs.Network.{Graph}
 use Rattle.labels.specs.Arcs.{graph}
 use Rattle.candidates.specs.Slots.{Entry, entries}
 use Rattle.candidates.proofs.EntryLaws.{length-entries}
-use Rattle.branching.specs.Exits.{Unmarked}
+use Rattle.exits.specs.Exits.{Unmarked}
 use Rattle.ranking.specs.Ranking.{Problem, Filled, Deviation}
-use Rattle.branching.specs.Walks.{Choice}
+use Rattle.exits.specs.Walks.{Choice}
 use Rattle.ranking.proofs.EnterLaws.{dear-facts, unchanged, choice-small, settled-none, settled-beyond, settled-dear}
-use Rattle.branching.proofs.ExitLaws.{chosen-node, chosen-nothing}
+use Rattle.exits.proofs.ExitLaws.{chosen-node, chosen-nothing}
 use Rattle.branching.proofs.LaidLaws.{laid-place}
 use Rattle.branching.proofs.NetworkLaws.{network-heads, network-starts}
 use borrow.Author.Needs.{needs}

@@ -85,7 +85,7 @@ first-path-requires : tie.Need-first-path-requires
 first-path-requires c κs = let s = entry c in
     let P = problem s in
     let D = deviation s in
-    rw (D .begun .laid .flags-long) (P .network, (D .begun, (goal-ahead P D, ((still-consistent P D, P .small .long), s .pre .1 .1 .1))))
+    rw (D .begun .laid .flags-long) (P .network, (D .begun, (goal-ahead P D, ((still-consistent P D, P .small), s .pre .1 .1 .1))))
 
 enum-known-len : tie.Need-enum-known-len
 enum-known-len c = search needs

@@ -1,7 +1,7 @@
 -- `arcs::arc_index` is the index that was found. Assumes nothing.
 use borrow.Author.Needs.{needs}
 use Rattle.labels.proofs.ArcLaws.{linked-at}
-use Rattle.branching.proofs.StarLaws.{found-at, none-found}
+use Rattle.exits.proofs.StarLaws.{found-at, none-found}
 use Rattle.regret.proofs.arcs.arc_index.Statement.{statement}
 use Rattle.regret.proofs.arcs.arc_index.Tie as tie
 

@@ -6,7 +6,7 @@ use mathlib.Core.List.{List}
 use lib.ListN.{length, length-set}
 use Rattle.terms.specs.Paths.{ByArcs}
 use Rattle.labels.specs.Arcs.{graph, Arcs}
-use Rattle.branching.specs.Star.{Star}
+use Rattle.exits.specs.Star.{Star}
 use Rattle.regret.specs.Steps.{Steps}
 use Rattle.regret.proofs.StepLaws.{step-linked, steps-more}
 use Rattle.regret.proofs.arcs.path_arcs.Statement.{statement}

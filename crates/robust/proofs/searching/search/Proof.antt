@@ -12,7 +12,7 @@ use Rattle.labels.specs.Arcs.{graph}
 use Rattle.labels.specs.Labels.{far}
 use Rattle.candidates.specs.Slots.{entry-at}
 use Rattle.ranking.specs.Ranking.{Problem, Space}
-use Rattle.branching.specs.Star.{longest}
+use Rattle.exits.specs.Star.{longest}
 use Rattle.regret.specs.Columns.{network}
 use Rattle.robust.specs.Leader.{Leading}
 use Rattle.robust.specs.Counting.{Priced, InColumn, Counting}

@@ -1,0 +1,2 @@
+pub mod StarLaws
+pub mod ExitLaws

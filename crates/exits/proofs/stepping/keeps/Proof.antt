@@ -1,0 +1,39 @@
+-- `exits::keeps` tests the label before it takes it from `want`, so that nothing wraps. Assumes nothing.
+use Rattle.exits.proofs.stepping.keeps.Statement.{statement}
+use Rattle.exits.proofs.stepping.keeps.Tie as tie
+use native.Mathlib.Omega.{arith}
+use borrow.Author.Needs.{needs}
+use Rattle.exits.specs.Exits.{Keeps}
+
+shared-slice-read-if1 : tie.Need-shared-slice-read-if1
+shared-slice-read-if1 c = search needs
+
+returns : tie.Need-returns
+returns c = Keeps.strays (λ u _. c .if1 .taken u)
+
+mul-rest : tie.Need-mul-rest
+mul-rest c = search needs
+
+shared-slice-read-rest : tie.Need-shared-slice-read-rest
+shared-slice-read-rest c = search needs
+
+returns-2 : tie.Need-returns-2
+returns-2 c = Keeps.strays (λ _ e. omega arith)
+
+returns-3 : tie.Need-returns-3
+returns-3 c = Keeps.strays (λ _ e. c .if3 .taken (omega arith))
+
+returns-4 : tie.Need-returns-4
+returns-4 c = Keeps.keeps (c .before .before .before .if1 .left) (omega arith)
+
+pub keeps-spec : {M : Type 1} → statement M
+keeps-spec =
+    tie.close
+    (tie.spec
+    shared-slice-read-if1
+    returns
+    mul-rest
+    shared-slice-read-rest
+    returns-2
+    returns-3
+    returns-4)

@@ -1,0 +1,5 @@
+pub mod Arcs
+pub mod Exits
+pub mod Flags
+pub mod Star
+pub mod Walks

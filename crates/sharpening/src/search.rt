@@ -1,0 +1,332 @@
+// The search: it takes nodes outwards from the end of a branch's beginning, and says how far it went.
+ghost use mathlib.Core.Path.{_≡_};
+ghost use Prim.Native.Nat.{ℕ, _≤_, _<_};
+ghost use lib.ListN.{length};
+ghost use Rattle.labels.specs.Labels.{far};
+ghost use Rattle.exits.specs.Star.{Heads, Starts, Small, longest};
+ghost use Rattle.sharpening.specs.Sharp.{Listed, Front};
+use exits::Next;
+use exits::tight_exit;
+use exits::via;
+use labels::FAR;
+
+// No path costs more.
+pub const LONGEST: u64 = 53418655545;
+
+// The node whose arcs are followed. Its key is the least cost of a path through it, by the labels at
+// hand; `taken` nodes were taken up to now.
+pub struct Hub {
+    pub node: usize,
+    pub key: u64,
+    pub taken: usize,
+}
+
+// How far a search went: how many nodes it took, and the key with which it came to the goal, or FAR.
+pub struct Level {
+    pub taken: usize,
+    pub key: u64,
+}
+
+// Lists y. The nodes met are nodes[..met], and those taken nodes[..taken]; if y is to be the next that is
+// taken, it comes first among the others. Returns how many are then met.
+fn list(y: usize, is_next: bool, nodes: &mut [u16], taken: usize, met: usize) -> usize
+    requires { ⌜ (y < 65536) × (taken ≤ met) × (met ≤ length (now nodes)) ⌝ }
+    ensures { λ r. ⌜ ((k : ℕ) → y < k → Listed k (now (nodes .entry)) taken met → Listed k (now (nodes .exit)) taken r) ⌝ }
+{
+    if nodes.len() <= met {
+        return met;
+    }
+    if is_next {
+        nodes[met] = nodes[taken];
+        nodes[taken] = y as u16;
+        return met + 1;
+    }
+    nodes[met] = y as u16;
+    met + 1
+}
+
+// Notes that y has that key, if it had none or a greater one.
+fn note(
+    y: usize,
+    key: u64,
+    is_next: bool,
+    keys: &mut [u64],
+    nodes: &mut [u16],
+    taken: usize,
+    met: usize,
+) -> usize
+    requires { ⌜ Front (length (now keys)) (now keys) (now nodes) taken met ⌝ }
+    requires { ⌜ (y < length (now keys)) × (key ≤ longest) ⌝ }
+    ensures { λ r. ⌜ Front (length (now (keys .entry))) (now (keys .exit)) (now (nodes .exit)) taken r ⌝ }
+{
+    let old = keys[y];
+    if old <= key {
+        return met;
+    }
+    keys[y] = key;
+    if old != FAR {
+        return met;
+    }
+    list(y, is_next, nodes, taken, met)
+}
+
+// Follows an arc from the hub, whose label is `own`, to y, with weight and label l. A y with the hub's
+// own key is next: no node has a smaller one.
+fn reach(
+    y: usize,
+    l: u64,
+    own: u64,
+    hub: Hub,
+    keys: &mut [u64],
+    nodes: &mut [u16],
+    met: usize,
+) -> usize
+    requires { ⌜ Front (length (now keys)) (now keys) (now nodes) (hub .taken) met ⌝ }
+    requires { ⌜ (y < length (now keys)) × (hub .key ≤ longest) ⌝ }
+    ensures { λ r. ⌜ Front (length (now (keys .entry))) (now (keys .exit)) (now (nodes .exit)) (hub .taken) r ⌝ }
+{
+    if l < own {
+        return met;
+    }
+    let more = l - own;
+    let key = hub.key;
+    if LONGEST - key < more {
+        return met;
+    }
+    let taken = hub.taken;
+    note(y, key + more, more == 0, keys, nodes, taken, met)
+}
+
+// Follows each arc from the hub to a node that is neither used nor barred.
+fn spread(
+    heads: &[u16],
+    weights: &[u32],
+    first_out: &[u16],
+    hub: Hub,
+    overall: &[u64],
+    used: &[u8],
+    barred: &[u8],
+    keys: &mut [u64],
+    nodes: &mut [u16],
+    met: usize,
+) -> usize
+    requires { ⌜ Heads (length (now overall)) (now heads) (now weights) × Starts (length (now overall)) (now heads) (now «first_out») ⌝ }
+    requires { ⌜ Small (length (now overall)) (now overall) × (hub .node < length (now overall)) × (hub .key ≤ longest) ⌝ }
+    requires { ⌜ (length (now used) ≡ length (now overall)) × (length (now barred) ≡ length (now overall)) ⌝ }
+    requires { ⌜ Front (length (now overall)) (now keys) (now nodes) (hub .taken) met ⌝ }
+    ensures { λ r. ⌜ Front (length (now (overall .entry))) (now (keys .exit)) (now (nodes .exit)) (hub .taken) r ⌝ }
+{
+    let x = hub.node;
+    let own = overall[x];
+    let mut listed = met;
+    let mut i = first_out[x] as usize;
+    let to = first_out[x + 1] as usize;
+    while i < to {
+        let y = heads[i] as usize;
+        let l = via(y, weights[i], overall, used, barred);
+        listed = reach(y, l, own, hub, keys, nodes, listed);
+        i += 1;
+    }
+    listed
+}
+
+// The place of a node with the least key in nodes[from..to]: the first, if its key is `floor`, than which
+// none is less.
+fn pick(nodes: &[u16], from: usize, to: usize, keys: &[u64], floor: u64) -> usize
+    requires { ⌜ Front (length (now keys)) (now keys) (now nodes) from to × (from < to) ⌝ }
+    ensures { λ r. ⌜ r < to ⌝ }
+{
+    let mut best = from;
+    let mut least = keys[nodes[from] as usize];
+    if least <= floor {
+        return from;
+    }
+    let mut i = from + 1;
+    while i < to {
+        let key = keys[nodes[i] as usize];
+        if key < least {
+            best = i;
+            least = key;
+        }
+        i += 1;
+    }
+    best
+}
+
+// Whether a walk along the labels leads from x to the goal in at most `most` steps, and meets neither a
+// used node nor one with a key that is no greater than `key`, as all nodes have that were taken.
+fn leads(
+    heads: &[u16],
+    weights: &[u32],
+    first_out: &[u16],
+    goal: usize,
+    overall: &[u64],
+    used: &[u8],
+    keys: &[u64],
+    x: usize,
+    key: u64,
+    most: usize,
+) -> bool
+    requires { ⌜ Heads (length (now overall)) (now heads) (now weights) × Starts (length (now overall)) (now heads) (now «first_out») ⌝ }
+    requires { ⌜ (x < length (now overall)) × (length (now used) ≡ length (now overall)) × (length (now keys) ≡ length (now overall)) ⌝ }
+{
+    let mut at = x;
+    let mut left = most;
+    while at != goal {
+        if left == 0 {
+            return false;
+        }
+        left -= 1;
+        let Next::Node(y, _) = tight_exit(heads, weights, first_out, at, overall, used) else {
+            return false;
+        };
+        at = y as usize;
+        if keys[at] <= key {
+            return false;
+        }
+    }
+    true
+}
+
+// How many steps that walk may have: none from the first node, where it was tried before, nor from one
+// that has the key of the last node taken, because it goes on from there; else any number.
+fn steps_allowed(taken: usize, floor: u64, key: u64, nodes: usize) -> usize {
+    if taken == 0 {
+        return 0;
+    }
+    if key <= floor {
+        return 0;
+    }
+    nodes
+}
+
+// Takes node after node, by its key, and follows its arcs, until it comes to the goal or a walk along the
+// labels leads there. The nodes taken are then nodes[..taken].
+fn search(
+    heads: &[u16],
+    weights: &[u32],
+    first_out: &[u16],
+    goal: usize,
+    overall: &[u64],
+    used: &[u8],
+    keys: &mut [u64],
+    nodes: &mut [u16],
+    met: usize,
+) -> Level
+    requires { ⌜ Heads (length (now overall)) (now heads) (now weights) × Starts (length (now overall)) (now heads) (now «first_out») ⌝ }
+    requires { ⌜ Small (length (now overall)) (now overall) × (length (now used) ≡ length (now overall)) ⌝ }
+    requires { ⌜ Front (length (now overall)) (now keys) (now nodes) 0 met ⌝ }
+    ensures { λ r. ⌜ Listed (length (now (overall .entry))) (now (nodes .exit)) 0 (r .taken) × (r .key < far → r .key ≤ longest) ⌝ }
+{
+    let mut listed = met;
+    let mut taken = 0;
+    let mut floor = 0;
+    while taken < listed {
+        let at = pick(nodes, taken, listed, keys, floor);
+        let node = nodes[at];
+        let x = node as usize;
+        let key = keys[x];
+        if LONGEST < key {
+            return Level {
+                taken: taken,
+                key: FAR,
+            };
+        }
+        let most = steps_allowed(taken, floor, key, used.len());
+        if leads(
+            heads,
+            weights,
+            first_out,
+            goal,
+            overall,
+            used,
+            keys,
+            x,
+            key,
+            most,
+        ) {
+            return Level {
+                taken: taken,
+                key: key,
+            };
+        }
+        nodes[at] = nodes[taken];
+        nodes[taken] = node;
+        taken += 1;
+        floor = key;
+        let hub = Hub {
+            node: x,
+            key: key,
+            taken: taken,
+        };
+        listed = spread(
+            heads,
+            weights,
+            first_out,
+            hub,
+            overall,
+            used,
+            used,
+            keys,
+            nodes,
+            listed,
+        );
+    }
+    Level {
+        taken: taken,
+        key: FAR,
+    }
+}
+
+// The search from v, the last node of the branch's beginning. No node has been met.
+pub fn search_from(
+    heads: &[u16],
+    weights: &[u32],
+    first_out: &[u16],
+    v: usize,
+    goal: usize,
+    overall: &[u64],
+    used: &[u8],
+    barred: &[u8],
+    keys: &mut [u64],
+    nodes: &mut [u16],
+) -> Level
+    requires { ⌜ Heads (length (now overall)) (now heads) (now weights) × Starts (length (now overall)) (now heads) (now «first_out») ⌝ }
+    requires { ⌜ Small (length (now overall)) (now overall) × (v < length (now overall)) ⌝ }
+    requires { ⌜ (length (now used) ≡ length (now overall)) × (length (now barred) ≡ length (now overall)) ⌝ }
+    requires { ⌜ Front (length (now overall)) (now keys) (now nodes) 0 0 ⌝ }
+    ensures { λ r. ⌜ Listed (length (now (overall .entry))) (now (nodes .exit)) 0 (r .taken) × (r .key < far → r .key ≤ longest) ⌝ }
+{
+    let key = overall[v];
+    if LONGEST < key {
+        return Level { taken: 0, key: FAR };
+    }
+    let hub = Hub {
+        node: v,
+        key: key,
+        taken: 0,
+    };
+    let met = spread(
+        heads,
+        weights,
+        first_out,
+        hub,
+        overall,
+        used,
+        barred,
+        keys,
+        nodes,
+        0,
+    );
+    search(
+        heads,
+        weights,
+        first_out,
+        goal,
+        overall,
+        used,
+        keys,
+        nodes,
+        met,
+    )
+}
