@@ -30,7 +30,7 @@ int main(int argc, char **argv) {
         shape++;
     if (shape == SHAPES)
         return wrong("no such shape");
-    make_network(&net, shape, 1, INDEPENDENT, (uint32_t)atoi(argv[2]));
+    make_network(&net, shape, 0, 1, INDEPENDENT, (uint32_t)atoi(argv[2]));
     struct vihrolom_reply r = counted(strcmp(argv[4], "plain") == 0 ? plain_rank : vihrolom_rank, (uint32_t)atoi(argv[3]));
     return r.refusal == 0 ? 0 : wrong("Rank refuses");
 }

@@ -9,7 +9,7 @@ static struct medians medians_on(enum shape shape, unsigned k, enum likeness lik
     static struct network net;
     static struct pair pairs[PAIRS];
     static struct measured measured[PAIRS];
-    make_network(&net, shape, k, likeness, MOST_BASE);
+    make_network(&net, shape, 0, k, likeness, MOST_BASE);
     draw_pairs(&net, pairs, PAIRS);
     measure_pairs(&net, pairs, PAIRS, wanted, measured);
     return medians_of(measured, PAIRS, true, true);

@@ -143,8 +143,8 @@ static void draw_costs(struct network *net, enum likeness likeness, uint32_t top
             net->cost[u][i] = likeness == INDEPENDENT ? 1 + draw(top) : near(base[i], likeness == WITHIN_10 ? 100 : 500);
 }
 
-void make_network(struct network *net, enum shape shape, unsigned k, enum likeness likeness, uint32_t top) {
-    seed(shape);
+void make_network(struct network *net, enum shape shape, unsigned number, unsigned k, enum likeness likeness, uint32_t top) {
+    seed(shape + 1000 * number);
     net->shape = shape;
     net->n = draw_arcs(shape);
     net->k = k;

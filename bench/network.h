@@ -27,10 +27,10 @@ struct network {
     size_t image_length;
 };
 
-// The network of that shape with k columns, and with costs or base costs from 1 to `top`. The same
-// arguments give the same network, and of two networks that differ in k alone the smaller has the first
-// columns of the other.
-void make_network(struct network *net, enum shape shape, unsigned k, enum likeness likeness, uint32_t top);
+// The network with that number among those of a shape, with k columns, and with costs or base costs from 1
+// to `top`. The same arguments give the same network, and of two networks that differ in k alone the
+// smaller has the first columns of the other.
+void make_network(struct network *net, enum shape shape, unsigned number, unsigned k, enum likeness likeness, uint32_t top);
 
 // The generator: where it begins, and its next number below the given one.
 void seed(uint32_t number);

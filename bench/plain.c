@@ -1,13 +1,14 @@
 // Rank in plain C, by the same design as the library: labels of the whole network once; each path that
 // is ranked splits its branch; the first path of a part is found by a walk along those labels, else along
-// labels with its beginning barred, else step by step; candidates stand in slots of the workspace in the
-// ranking order; a part is passed over where all slots are taken and its bound is above the last cost.
+// labels that a search outwards sharpens, else along labels with its beginning barred, else step by step;
+// candidates stand in slots of the workspace in the ranking order; a part is passed over where all slots
+// are taken and its bound is above the last cost.
 #include "rank.h"
 
 #include <stdbool.h>
 #include <string.h>
 
-enum { NODES = 200, ARCS = 1000, TAIL = 4 };
+enum { NODES = 200, ARCS = 1000, TAIL = 4, RING = 256, PATIENCE = 1000 };
 
 static const uint32_t FAR = UINT32_MAX;
 
@@ -16,9 +17,12 @@ struct engine {
     uint16_t tails[ARCS], heads[ARCS], next_in[ARCS];
     uint32_t weights[ARCS];
     uint16_t first_out[NODES + 2], first_in[NODES + 1];
-    uint32_t overall[NODES + 1], labels[NODES + 1];
+    uint32_t overall[NODES + 1], labels[NODES + 1], keys[NODES + 1];
     uint8_t used[NODES + 1], barred[NODES + 1], dirty[NODES + 1];
-    uint16_t queue[NODES + 1], path[NODES], scratch[NODES];
+    uint16_t ring[RING], path[NODES], scratch[NODES];
+    // The nodes that a search met, and before the others those that it took.
+    uint16_t nodes[NODES + 1];
+    uint32_t met, taken;
     // The slot at each place, and the slots: cost, shared, parent, length of the tail, and the tail.
     uint32_t *order, *entries;
     uint32_t slots, count;
@@ -78,34 +82,46 @@ static struct vihrolom_reply check(const uint8_t *image, size_t length) {
 
 // ---- labels
 
+// Takes the first of the dirty nodes, which stand in a ring; after many turns the one with the smallest
+// label, so that no node is taken more than once from then on.
+static uint32_t take(struct engine *e, uint32_t first, uint32_t count, uint32_t turns, const uint32_t *labels) {
+    uint32_t place = first;
+    for (uint32_t k = 1; turns >= PATIENCE && k < count; k++)
+        if (labels[e->ring[(first + k) % RING]] < labels[e->ring[place]])
+            place = (first + k) % RING;
+    uint32_t h = e->ring[place];
+    e->ring[place] = e->ring[first];
+    e->dirty[h] = 0;
+    return h;
+}
+
+// Least costs to the goal by nodes that are not barred. A node whose label falls below that of the first
+// dirty one is the next to be taken.
 static void least(struct engine *e, const uint8_t *barred, uint32_t *labels) {
     memset(labels, 255, (e->n + 1) * sizeof *labels);
     memset(e->dirty, 0, e->n + 1);
     labels[e->goal] = 0;
     e->dirty[e->goal] = 1;
-    e->queue[0] = (uint16_t)e->goal;
-    uint32_t count = 1;
-    while (count > 0) {
-        uint32_t best = 0, smallest = labels[e->queue[0]];
-        for (uint32_t k = 1; k < count; k++) {
-            uint32_t label = labels[e->queue[k]];
-            if (label < smallest) {
-                best = k;
-                smallest = label;
-            }
-        }
-        uint32_t h = e->queue[best];
-        e->queue[best] = e->queue[--count];
-        e->dirty[h] = 0;
+    e->ring[0] = (uint16_t)e->goal;
+    uint32_t first = 0, count = 1;
+    for (uint32_t turns = 0; count > 0; turns++) {
+        uint32_t h = take(e, first, count, turns, labels), rest = labels[h];
+        first = (first + 1) % RING;
+        count--;
         for (uint32_t link = e->first_in[h]; link != 0; link = e->next_in[link - 1]) {
-            uint32_t t = e->tails[link - 1], sum = e->weights[link - 1] + smallest;
-            if (!barred[t] && sum < labels[t]) {
-                labels[t] = sum;
-                if (!e->dirty[t]) {
-                    e->dirty[t] = 1;
-                    e->queue[count++] = (uint16_t)t;
-                }
-            }
+            uint32_t t = e->tails[link - 1], sum = e->weights[link - 1] + rest;
+            if (barred[t] || sum >= labels[t])
+                continue;
+            labels[t] = sum;
+            if (e->dirty[t])
+                continue;
+            e->dirty[t] = 1;
+            if (count > 0 && sum < labels[e->ring[first]]) {
+                first = (first + RING - 1) % RING;
+                e->ring[first] = (uint16_t)t;
+            } else
+                e->ring[(first + count) % RING] = (uint16_t)t;
+            count++;
         }
     }
 }
@@ -191,18 +207,117 @@ static uint32_t by_steps(struct engine *e, uint32_t d, uint32_t y) {
     return len;
 }
 
+// The first path of the branch of path[..d] by labels with path[..d] barred.
+static uint32_t exact_path(struct engine *e, uint32_t d, uint32_t *l) {
+    least(e, e->used, e->labels);
+    uint32_t y = least_exit(e, e->path[d - 1], e->labels, e->barred, l);
+    if (y == 0)
+        return 0;
+    uint32_t len = attempt(e, e->labels, d, y);
+    return len != 0 ? len : by_steps(e, d, y);
+}
+
+// ---- sharper labels: a search outwards from the end of the beginning, guided by the labels of the whole
+// network. A node's key is the least cost of a path through it by these labels.
+
+// Follows the arcs from x. A node with the key of x is the next to be taken: none has a smaller one.
+static void spread(struct engine *e, uint32_t x, uint32_t key, const uint8_t *barred) {
+    uint32_t own = e->overall[x];
+    for (uint32_t i = e->first_out[x]; i < e->first_out[x + 1]; i++) {
+        uint32_t y = e->heads[i];
+        if (e->used[y] || barred[y] || e->overall[y] == FAR)
+            continue;
+        uint32_t more = e->weights[i] + e->overall[y] - own, old = e->keys[y];
+        if (old <= key + more)
+            continue;
+        e->keys[y] = key + more;
+        if (old != FAR)
+            continue;
+        if (more == 0) {
+            e->nodes[e->met] = e->nodes[e->taken];
+            e->nodes[e->taken] = (uint16_t)y;
+        } else
+            e->nodes[e->met] = (uint16_t)y;
+        e->met++;
+    }
+}
+
+// The place of a node with the least key among those that are not taken; `floor` is the least there can be.
+static uint32_t pick(const struct engine *e, uint32_t floor) {
+    uint32_t best = e->taken, least = e->keys[e->nodes[best]];
+    if (least <= floor)
+        return best;
+    for (uint32_t i = best + 1; i < e->met; i++) {
+        uint32_t key = e->keys[e->nodes[i]];
+        if (key < least) {
+            best = i;
+            least = key;
+        }
+    }
+    return best;
+}
+
+// Whether a walk along the labels leads from x to the goal and meets no node that is used or was taken.
+static bool leads(const struct engine *e, uint32_t x, uint32_t key, uint32_t most) {
+    while (x != e->goal) {
+        if (most-- == 0)
+            return false;
+        x = tight_exit(e, x, e->overall);
+        if (x == 0 || e->keys[x] <= key)
+            return false;
+    }
+    return true;
+}
+
+// Takes node after node until the goal is reached, or a walk leads there. Gives the goal's key, or FAR.
+static uint32_t search(struct engine *e, uint32_t v) {
+    e->met = e->taken = 0;
+    memset(e->keys, 255, (e->n + 1) * sizeof *e->keys);
+    spread(e, v, e->overall[v], e->barred);
+    for (uint32_t floor = 0; e->taken < e->met;) {
+        uint32_t place = pick(e, floor), x = e->nodes[place], key = e->keys[x];
+        if (leads(e, x, key, e->taken > 0 && key > floor ? e->n : 0))
+            return key;
+        e->nodes[place] = e->nodes[e->taken];
+        e->nodes[e->taken++] = (uint16_t)x;
+        floor = key;
+        spread(e, x, key, e->used);
+    }
+    return FAR;
+}
+
+// Raises the labels of the nodes that the search took, and then each to what its exits allow, from the
+// last to the first. Says whether the labels can be relied on.
+static bool sharpen(struct engine *e, uint32_t v) {
+    uint32_t level = search(e, v);
+    memcpy(e->labels, e->overall, (e->n + 1) * sizeof *e->labels);
+    for (uint32_t i = 0; i < e->taken; i++) {
+        uint32_t x = e->nodes[i];
+        e->labels[x] = level == FAR ? FAR : e->labels[x] + (level - e->keys[x]);
+    }
+    for (uint32_t i = e->taken; i-- > 0;) {
+        uint32_t x = e->nodes[i], l;
+        least_exit(e, x, e->labels, e->used, &l);
+        if (l < e->labels[x])
+            return false;
+        e->labels[x] = l;
+    }
+    return true;
+}
+
 // The length of the first path of the branch of path[..d], or 0 if it is empty; y and l are the least
 // exit by the labels of the whole network, and l is then what the tail costs.
 static uint32_t first_path(struct engine *e, uint32_t d, uint32_t y, uint32_t *l) {
     uint32_t len = attempt(e, e->overall, d, y);
     if (len != 0)
         return len;
-    least(e, e->used, e->labels);
+    if (!sharpen(e, e->path[d - 1]))
+        return exact_path(e, d, l);
     y = least_exit(e, e->path[d - 1], e->labels, e->barred, l);
     if (y == 0)
         return 0;
     len = attempt(e, e->labels, d, y);
-    return len != 0 ? len : by_steps(e, d, y);
+    return len != 0 ? len : exact_path(e, d, l);
 }
 
 // ---- candidates

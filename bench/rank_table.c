@@ -50,7 +50,7 @@ void rank_table(void) {
     table("Rank", "| network | n | m | costs to | K | library | plain C | igraph | networkx | igraph / library | library / plain C | instructions, library | plain C |");
     for (enum shape shape = GRID; shape <= LADDER; shape++)
         for (unsigned t = 0; t < 2; t++) {
-            make_network(&net, shape, 1, INDEPENDENT, tops[t]);
+            make_network(&net, shape, 0, 1, INDEPENDENT, tops[t]);
             yen_open(&net);
             for (unsigned i = 0; i < 2; i++)
                 row(&(struct question){&net, 1, 1, net.n, wanted[i]}, tops[t]);

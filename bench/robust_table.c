@@ -49,7 +49,7 @@ void robust_table(void) {
     table("Robust", "| network | columns | K | answers | pairs | paths counted | Robust | Rank | igraph | networkx | igraph / Robust |");
     for (unsigned s = 0; s < 2; s++)
         for (enum likeness likeness = WITHIN_10; likeness < LIKENESSES; likeness++) {
-            make_network(&net, shapes[s], COLUMNS, likeness, MOST_BASE);
+            make_network(&net, shapes[s], 0, COLUMNS, likeness, MOST_BASE);
             draw_pairs(&net, pairs, MOST_PAIRS);
             for (unsigned i = 0; i < 2; i++) {
                 measure_pairs(&net, pairs, MOST_PAIRS, wanted[i], measured);
