@@ -23,9 +23,6 @@ inside c =
     let p = start c .pre in
     (omega (arith, c .costs-start .ensures, column-inside _ (p .0) _ _ (p .1) (p .2) (p .3)), length-to _ (p .0))
 
-sub-start : tie.Need-sub-start
-sub-start c = search needs
-
 mul-start : tie.Need-mul-start
 mul-start c = omega (arith, inside c)
 
@@ -38,26 +35,11 @@ add-start c = omega (arith, inside c)
 cast-start : tie.Need-cast-start
 cast-start c = omega (arith, inside c)
 
-mul-end : tie.Need-mul-end
-mul-end c = search needs
-
 add-end : tie.Need-add-end
 add-end c = omega (arith, inside c)
 
-sub-read-costs : tie.Need-sub-read-costs
-sub-read-costs c = search needs
-
-part-read-costs-start : tie.Need-part-read-costs-start
-part-read-costs-start c = search needs
-
 part-read-costs-end : tie.Need-part-read-costs-end
 part-read-costs-end c = omega (arith, inside c)
-
-read-costs-requires : tie.Need-read-costs-requires
-read-costs-requires c κs = search needs
-
-same-length : tie.Need-same-length
-same-length c = search needs
 
 returns : tie.Need-returns
 returns c = let s = c .before .before .before .before .before in
@@ -73,16 +55,16 @@ read-column-spec =
     tie.close
     (tie.spec
     costs-start-requires
-    sub-start
+    (λ c. search needs)
     mul-start
     mul-start-2
     add-start
     cast-start
-    mul-end
+    (λ c. search needs)
     add-end
-    sub-read-costs
-    part-read-costs-start
+    (λ c. search needs)
+    (λ c. search needs)
     part-read-costs-end
-    read-costs-requires
-    same-length
+    (λ c κs. search needs)
+    (λ c. search needs)
     returns)

@@ -14,16 +14,10 @@ use Rattle.parts.proofs.read_columns.Tie as tie
 costs-start-requires : tie.Need-costs-start-requires
 costs-start-requires c κs = let s = c .before .before in omega (arith, arcs-to (s .args .image .now) (s .pre .0), s .pre .1)
 
-cast-start : tie.Need-cast-start
-cast-start c = search needs
-
 cost-count-requires : tie.Need-cost-count-requires
 cost-count-requires c κs = let s = c .before .before .before in
     let b = s .args .image .now in
     (omega (arith, arcs-to b (s .pre .0), s .pre .1), omega (arith, columns-to b (s .pre .0), s .pre .2))
-
-cast-count : tie.Need-cast-count
-cast-count c = search needs
 
 -- they end where the image does
 abbrev start : tie.After-cost-count → tie.Start
@@ -39,16 +33,10 @@ sub-read-costs c = omega (arith, whole c)
 part-read-costs-start : tie.Need-part-read-costs-start
 part-read-costs-start c = omega (arith, whole c)
 
-part-read-costs-end : tie.Need-part-read-costs-end
-part-read-costs-end c = search needs
-
 read-costs-requires : tie.Need-read-costs-requires
 read-costs-requires c κs = let n = c .before .before in
     let s = start n in
     (rw to-end (omega (arith, whole n, length-drop (n .before .costs-start .result) (s .args .image .now))), omega (arith, n .cost-count .ensures .0, s .pre .3))
-
-same-length : tie.Need-same-length
-same-length c = search needs
 
 returns : tie.Need-returns
 returns c = let n = c .before .before .before .before .before in
@@ -66,12 +54,12 @@ read-columns-spec =
     tie.close
     (tie.spec
     costs-start-requires
-    cast-start
+    (λ c. search needs)
     cost-count-requires
-    cast-count
+    (λ c. search needs)
     sub-read-costs
     part-read-costs-start
-    part-read-costs-end
+    (λ c. search needs)
     read-costs-requires
-    same-length
+    (λ c. search needs)
     returns)

@@ -34,12 +34,6 @@ shortest-in-requires c κs = let e = c .before .before .before in
     let none = part-zero 201 (length (s .args .overall .now)) in
     rw k (p .0, ((record { barred-long = k; none-used = none; none-barred = none }, p .1 .0 .1), (p .1 .0 .0, (p .1 .1, refl))))
 
-same-length : tie.Need-same-length
-same-length c = search needs
-
-returns : tie.Need-returns
-returns c = search needs
-
 pub shortest-spec : {M : Type 1} → statement M
 shortest-spec =
     tie.close
@@ -49,5 +43,5 @@ shortest-spec =
     array-share-prefix-barred
     slice-aggregate-shortest-in-2
     shortest-in-requires
-    same-length
-    returns)
+    (λ c. search needs)
+    (λ c. search needs))

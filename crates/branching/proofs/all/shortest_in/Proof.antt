@@ -60,12 +60,6 @@ module _ (s : tie.Start) where
   consistent : (q : List ℕ) → Consistent (net s) (s .args .goal) (s .args .overall .now) q
   consistent = network-consistent (s .pre .0) (s .pre .1 .1 .1 .1) (s .pre .1 .1 .1 .0) (λ x. refl)
 
-slice-write-path : tie.Need-slice-write-path
-slice-write-path c = search needs
-
-slice-write-used : tie.Need-slice-write-used
-slice-write-used c = search needs
-
 least-exit-requires : tie.Need-least-exit-requires
 least-exit-requires c κs =
     let s = entry (c .before) in
@@ -73,18 +67,6 @@ least-exit-requires c κs =
     let long = p .1 .1 .1 .1 in
     rw (long, length-set (s .args .used .now) (s .args .start) 1)
     (network-heads (p .0), ((network-starts (p .0), p .1 .1 .0 .start-place), (network-small (p .0) long (p .1 .1 .1 .0), (refl, p .1 .0 .0 .barred-long))))
-
-enum-known-y : tie.Need-enum-known-y
-enum-known-y c = search needs
-
-enum-told : tie.Need-enum-told
-enum-told c = search needs
-
-same-length : tie.Need-same-length
-same-length c = search needs
-
-same-length-2 : tie.Need-same-length-2
-same-length-2 c = search needs
 
 returns : tie.Need-returns
 returns c =
@@ -123,13 +105,13 @@ pub shortest-in-spec : {M : Type 1} → statement M
 shortest-in-spec =
     tie.close
     (tie.spec
-    slice-write-path
-    slice-write-used
+    (λ c. search needs)
+    (λ c. search needs)
     least-exit-requires
-    enum-known-y
-    enum-told
-    same-length
-    same-length-2
+    (λ c. search needs)
+    (λ c. search needs)
+    (λ c. search needs)
+    (λ c. search needs)
     returns
     first-path-requires
     same-length-3

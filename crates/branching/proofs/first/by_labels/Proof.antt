@@ -103,14 +103,8 @@ least-requires c κs =
     let p = entry c .pre in
     rw (p .1 .1 .1) (network-arrays (p .0) (p .1 .0 .laid .flags-long), record { place = p .1 .1 .0 .place; free = p .1 .1 .0 .unmet })
 
-sub-v : tie.Need-sub-v
-sub-v c = search needs
-
 mul-v : tie.Need-mul-v
 mul-v c = omega (arith, begun (labelled c) .laid, start (labelled c) .good)
-
-slice-read-v : tie.Need-slice-read-v
-slice-read-v c = search needs
 
 cast-v : tie.Need-cast-v
 cast-v c = omega (arith, c .slice-known5 .given (start (labelled (c .before)) .args .d - 1))
@@ -121,18 +115,6 @@ least-exit-requires c κs =
     let s = start a in
     let n = network a in
     rw (made-long a) (network-heads n, ((network-starts n, laid-place (s .args .d - 1) (omega (arith, begun a .some)) (begun a .laid)), (network-small n (made-long a) (made-least a), (refl, begun a .barred-long))))
-
-enum-known-y : tie.Need-enum-known-y
-enum-known-y c = search needs
-
-enum-told : tie.Need-enum-told
-enum-told c = search needs
-
-same-length : tie.Need-same-length
-same-length c = search needs
-
-same-length-2 : tie.Need-same-length-2
-same-length-2 c = search needs
 
 returns : tie.Need-returns
 returns c =
@@ -147,15 +129,6 @@ attempt-requires c κs =
     let a = with-labels (chosen t) in
     let n = network a in
     rw (made-long a) (network-heads n, (network-starts n, (begun a .laid, usable t)))
-
-same-length-3 : tie.Need-same-length-3
-same-length-3 c = search needs
-
-same-length-4 : tie.Need-same-length-4
-same-length-4 c = search needs
-
-same-length-5 : tie.Need-same-length-5
-same-length-5 c = search needs
 
 returns-2 : tie.Need-returns-2
 returns-2 c =
@@ -172,12 +145,6 @@ by-steps-requires c κs =
     let a = with-labels (chosen t) in
     let p = start a .pre in
     rw (walk-tried w .flags) (p .0, ((walk-laid w, usable t), (p .1 .1 .0, made-long a)))
-
-same-length-6 : tie.Need-same-length-6
-same-length-6 c = search needs
-
-same-length-7 : tie.Need-same-length-7
-same-length-7 c = search needs
 
 same-length-8 : tie.Need-same-length-8
 same-length-8 c =
@@ -201,23 +168,23 @@ by-labels-spec =
     tie.close
     (tie.spec
     least-requires
-    sub-v
+    (λ c. search needs)
     mul-v
-    slice-read-v
+    (λ c. search needs)
     cast-v
     least-exit-requires
-    enum-known-y
-    enum-told
-    same-length
-    same-length-2
+    (λ c. search needs)
+    (λ c. search needs)
+    (λ c. search needs)
+    (λ c. search needs)
     returns
     attempt-requires
-    same-length-3
-    same-length-4
-    same-length-5
+    (λ c. search needs)
+    (λ c. search needs)
+    (λ c. search needs)
     returns-2
     by-steps-requires
-    same-length-6
-    same-length-7
+    (λ c. search needs)
+    (λ c. search needs)
     same-length-8
     returns-3)

@@ -36,17 +36,8 @@ done c =
     let s = start w in
     tried (s .args .y) (s .pre .1 .0 .0) (longer w) (cleared c .unmark .ensures)
 
-mul-path : tie.Need-mul-path
-mul-path c = search needs
-
 slice-write-path : tie.Need-slice-write-path
 slice-write-path c = room (entry c)
-
-slice-write-used : tie.Need-slice-write-used
-slice-write-used c = search needs
-
-add-steps : tie.Need-add-steps
-add-steps c = search needs
 
 steps-requires : tie.Need-steps-requires
 steps-requires c κs =
@@ -70,9 +61,6 @@ same-length-2 c =
     let w = stepped (cleared c .before) in
     w .steps .kept .1 .1 .1 .1 .1 .1 .1 .1 .0 ∙ length-set (start w .args .path .now) _ _
 
-same-length-3 : tie.Need-same-length-3
-same-length-3 c = search needs
-
 returns : tie.Need-returns
 returns c =
     let w = stepped (cleared c .before) in
@@ -83,13 +71,13 @@ pub by-steps-spec : {M : Type 1} → statement M
 by-steps-spec =
     tie.close
     (tie.spec
-    mul-path
+    (λ c. search needs)
     slice-write-path
-    slice-write-used
-    add-steps
+    (λ c. search needs)
+    (λ c. search needs)
     steps-requires
     unmark-requires
     same-length
     same-length-2
-    same-length-3
+    (λ c. search needs)
     returns)

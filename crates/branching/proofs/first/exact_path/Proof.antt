@@ -26,15 +26,6 @@ by-labels-requires c κs =
     let p = entry e .pre in
     (p .0, (p .1 .0, (p .1 .1, part-long 201 _ (nodes-fit e))))
 
-same-length : tie.Need-same-length
-same-length c = search needs
-
-same-length-2 : tie.Need-same-length-2
-same-length-2 c = search needs
-
-returns : tie.Need-returns
-returns c = search needs
-
 pub exact-path-spec : {M : Type 1} → statement M
 exact-path-spec =
     tie.close
@@ -42,6 +33,6 @@ exact-path-spec =
     array-borrow-prefix-labels
     slice-aggregate-by-labels
     by-labels-requires
-    same-length
-    same-length-2
-    returns)
+    (λ c. search needs)
+    (λ c. search needs)
+    (λ c. search needs))

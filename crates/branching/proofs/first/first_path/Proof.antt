@@ -31,12 +31,6 @@ attempt-requires c κs =
     let p = entry c .pre in
     rw (p .1 .1 .1 .0 .1 .long) (network-heads (p .0), (network-starts (p .0), (p .1 .0 .laid, choice-fresh (p .0) (p .1 .1 .1 .1))))
 
-same-length : tie.Need-same-length
-same-length c = search needs
-
-same-length-2 : tie.Need-same-length-2
-same-length-2 c = search needs
-
 returns : tie.Need-returns
 returns c =
     let w = walked (c .before) in
@@ -54,12 +48,6 @@ sharp-path-requires c κs =
     let p = start w .pre in
     rw (walk-tried w .flags) (p .0, (record { laid = laid-kept (walk-tried w .kept) (w .attempt .kept .1 .1 .1 .1 .1 .1 .0) (p .1 .0 .laid); some = p .1 .0 .some; barred-long = p .1 .0 .barred-long }, (p .1 .1 .0, (rw (walk-tried w .kept) (p .1 .1 .1 .0 .0), p .1 .1 .1 .0 .1))))
 
-same-length-3 : tie.Need-same-length-3
-same-length-3 c = search needs
-
-same-length-4 : tie.Need-same-length-4
-same-length-4 c = search needs
-
 returns-2 : tie.Need-returns-2
 returns-2 c =
     let e = c .before .before .before .before in
@@ -71,10 +59,10 @@ first-path-spec =
     tie.close
     (tie.spec
     attempt-requires
-    same-length
-    same-length-2
+    (λ c. search needs)
+    (λ c. search needs)
     returns
     sharp-path-requires
-    same-length-3
-    same-length-4
+    (λ c. search needs)
+    (λ c. search needs)
     returns-2)

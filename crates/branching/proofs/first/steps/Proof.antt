@@ -121,12 +121,6 @@ least-exit-requires c κs =
     let flags = l .loop .inv .0 .longer .laid .flags-long in
     rw (made-long a) (network-heads n, ((network-starts n, stepping-place (l .loop .inv .0)), (network-small n (made-long a) (made-least a), (flags, flags))))
 
-enum-known-y : tie.Need-enum-known-y Inv-loop μ-loop
-enum-known-y c = search needs
-
-enum-told : tie.Need-enum-told Inv-loop μ-loop
-enum-told c = search needs
-
 same-length : tie.Need-same-length Inv-loop μ-loop
 same-length c = omega arith
 
@@ -203,8 +197,8 @@ steps-spec =
     loop-holds
     least-requires
     least-exit-requires
-    enum-known-y
-    enum-told
+    (λ c. search needs)
+    (λ c. search needs)
     same-length
     same-length-2
     same-length-3

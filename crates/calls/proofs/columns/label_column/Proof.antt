@@ -62,12 +62,6 @@ label-column-in-requires c κs = let e = c .before .before .before .before .befo
     let n = part-long 201 _ (nodes-fit e) in
     (p .0, (p .1 .0, ((m, m, m, m), ((p .1 .1, n, n), part-zero 201 (length (entry e .args .labels .now))))))
 
-same-length : tie.Need-same-length
-same-length c = search needs
-
-returns : tie.Need-returns
-returns c = search needs
-
 pub label-column-spec : {M : Type 1} → statement M
 label-column-spec =
     tie.close
@@ -85,5 +79,5 @@ label-column-spec =
     array-share-prefix-barred
     slice-aggregate-label-column-in-6
     label-column-in-requires
-    same-length
-    returns)
+    (λ c. search needs)
+    (λ c. search needs))

@@ -32,24 +32,6 @@ least-requires c κs = let h = chained c in
     let r = p .1 .1 .1 .0 in
     (arrays-for (d .decode .ensures .arcs) (h .chain .ensures) (r .0) (omega (arith, r, h .chain .kept)) (r .2), record { place = omega (arith, p .1 .0, r); free = p .1 .1 .1 .1 _ })
 
-same-length : tie.Need-same-length
-same-length c = search needs
-
-same-length-2 : tie.Need-same-length-2
-same-length-2 c = search needs
-
-same-length-3 : tie.Need-same-length-3
-same-length-3 c = search needs
-
-same-length-4 : tie.Need-same-length-4
-same-length-4 c = search needs
-
-same-length-5 : tie.Need-same-length-5
-same-length-5 c = search needs
-
-same-length-6 : tie.Need-same-length-6
-same-length-6 c = search needs
-
 returns : tie.Need-returns
 returns c = let l = c .before .before in
     let h = chained (l .before) in
@@ -63,10 +45,10 @@ label-column-in-spec =
     decode-requires
     chain-requires
     least-requires
-    same-length
-    same-length-2
-    same-length-3
-    same-length-4
-    same-length-5
-    same-length-6
+    (λ c. search needs)
+    (λ c. search needs)
+    (λ c. search needs)
+    (λ c. search needs)
+    (λ c. search needs)
+    (λ c. search needs)
     returns)

@@ -13,15 +13,6 @@ read-column-requires : tie.Need-read-column-requires
 read-column-requires c κs = let s = c .before .before .before .before .before .before .before .before .before .before .before .before in
     (s .pre .0 .passes, arc-count-is (s .pre .0), s .pre .0 .from, column-counted (s .pre .0), omega arith)
 
-same-length : tie.Need-same-length
-same-length c = search needs
-
-same-length-2 : tie.Need-same-length-2
-same-length-2 c = search needs
-
-same-length-3 : tie.Need-same-length-3
-same-length-3 c = search needs
-
 returns : tie.Need-returns
 returns c = let w = c .before .before in
     let r = w .before .before .before .before .before .before in
@@ -34,7 +25,7 @@ decode-spec =
     (tie.spec
     read-arcs-requires
     read-column-requires
-    same-length
-    same-length-2
-    same-length-3
+    (λ c. search needs)
+    (λ c. search needs)
+    (λ c. search needs)
     returns)

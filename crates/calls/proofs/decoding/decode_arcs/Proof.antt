@@ -23,15 +23,6 @@ read-arcs-requires c κs = let s = c .before .before .before .before .before .be
 star-requires : tie.Need-star-requires
 star-requires c κs = rising-tails (held (c .before .before .before .before .before .before))
 
-same-length : tie.Need-same-length
-same-length c = search needs
-
-same-length-2 : tie.Need-same-length-2
-same-length-2 c = search needs
-
-same-length-3 : tie.Need-same-length-3
-same-length-3 c = search needs
-
 returns : tie.Need-returns
 returns c = let o = c .before .before in
     let r = o .before .before .before .before .before .before .before in
@@ -44,7 +35,7 @@ decode-arcs-spec =
     (tie.spec
     read-arcs-requires
     star-requires
-    same-length
-    same-length-2
-    same-length-3
+    (λ c. search needs)
+    (λ c. search needs)
+    (λ c. search needs)
     returns)

@@ -22,15 +22,6 @@ arcs-fit c = few-arcs (first-column c)
 starts-fit : (c : tie.After-struct-known2) → entry c .args .sizes .n + 2 ≤ 202
 starts-fit c = omega (arith, node-bounds (entry c .pre .0))
 
-cast-arcs : tie.Need-cast-arcs
-cast-arcs c = search needs
-
-cast-starts : tie.Need-cast-starts
-cast-starts c = search needs
-
-add-starts : tie.Need-add-starts
-add-starts c = search needs
-
 array-borrow-prefix-tails : tie.Need-array-borrow-prefix-tails
 array-borrow-prefix-tails c = arcs-fit c
 
@@ -55,16 +46,13 @@ check-list-in-requires c κs = let e = c .before .before .before in
     let m = part-long 1000 _ (arcs-fit e) in
     (first-column e, (p .1, (m, m, part-long 202 _ (starts-fit e) ∙ ap (λ n. n + 2) (p .0 .nodes-are))))
 
-returns : tie.Need-returns
-returns c = search needs
-
 pub check-list-spec : {M : Type 1} → statement M
 check-list-spec =
     tie.close
     (tie.spec
-    cast-arcs
-    cast-starts
-    add-starts
+    (λ c. search needs)
+    (λ c. search needs)
+    (λ c. search needs)
     array-borrow-prefix-tails
     slice-aggregate-check-list-in
     array-borrow-prefix-heads
@@ -72,4 +60,4 @@ check-list-spec =
     array-borrow-prefix-first-out
     slice-aggregate-check-list-in-3
     check-list-in-requires
-    returns)
+    (λ c. search needs))

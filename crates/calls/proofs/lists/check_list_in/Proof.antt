@@ -20,9 +20,6 @@ use Rattle.calls.proofs.lists.check_list_in.Tie as tie
 returns : tie.Need-returns
 returns c = sym (no-nodes _ _ _ _ (c .if1 .taken))
 
-shared-slice-read-if2 : tie.Need-shared-slice-read-if2
-shared-slice-read-if2 c = search needs
-
 cast-if2 : tie.Need-cast-if2
 cast-if2 c = omega (arith, c .shared-slice-known3 .given 0)
 
@@ -74,15 +71,6 @@ shown r e = sym e ∙ ap (λ (g : Graph). fault g (start r .args .start) (start 
 cast-t26 : tie.Need-cast-t26
 cast-t26 c = omega (arith, few (c .before))
 
-same-length : tie.Need-same-length
-same-length c = search needs
-
-same-length-2 : tie.Need-same-length-2
-same-length-2 c = search needs
-
-same-length-3 : tie.Need-same-length-3
-same-length-3 c = search needs
-
 returns-3 : tie.Need-returns-3
 returns-3 c = let f = c .before in
     let r = read f in
@@ -103,28 +91,10 @@ cast-if4 c = omega (arith, c .shared-slice-known4 .given (c .before .before .fir
 cast-t29 : tie.Need-cast-t29
 cast-t29 c = omega (arith, few (c .before .before .before))
 
-same-length-4 : tie.Need-same-length-4
-same-length-4 c = search needs
-
-same-length-5 : tie.Need-same-length-5
-same-length-5 c = search needs
-
-same-length-6 : tie.Need-same-length-6
-same-length-6 c = search needs
-
 returns-4 : tie.Need-returns-4
 returns-4 c = let f = c .before .before .before in
     let r = read f in
     shown r (wrong-last (held r .arcs) (start r .pre .1 .0) (begins r) (found f) _ (c .before .before .if3 .left) (c .if4 .taken))
-
-same-length-7 : tie.Need-same-length-7
-same-length-7 c = search needs
-
-same-length-8 : tie.Need-same-length-8
-same-length-8 c = search needs
-
-same-length-9 : tie.Need-same-length-9
-same-length-9 c = search needs
 
 returns-5 : tie.Need-returns-5
 returns-5 c = let f = c .before .before .before in
@@ -136,26 +106,26 @@ check-list-in-spec =
     tie.close
     (tie.spec
     returns
-    shared-slice-read-if2
+    (λ c. search needs)
     cast-if2
     returns-2
     decode-arcs-requires
     first-error-requires
     cast-t26
-    same-length
-    same-length-2
-    same-length-3
+    (λ c. search needs)
+    (λ c. search needs)
+    (λ c. search needs)
     returns-3
     sub-if4
     mul-if4
     shared-slice-read-if4
     cast-if4
     cast-t29
-    same-length-4
-    same-length-5
-    same-length-6
+    (λ c. search needs)
+    (λ c. search needs)
+    (λ c. search needs)
     returns-4
-    same-length-7
-    same-length-8
-    same-length-9
+    (λ c. search needs)
+    (λ c. search needs)
+    (λ c. search needs)
     returns-5)

@@ -49,12 +49,6 @@ find-arc-requires : tie.Need-find-arc-requires Inv-loop μ-loop Inv-search μ-se
 find-arc-requires c κs = let s = c .before .before .before in
     (s .search .inv .2, s .before .before .before .before .pre .within _ (s .search .inv .2))
 
-enum-told : tie.Need-enum-told Inv-loop μ-loop Inv-search μ-search
-enum-told c = search needs
-
-enum-told-2 : tie.Need-enum-told-2 Inv-loop μ-loop Inv-search μ-search
-enum-told-2 c = search needs
-
 loop-holds : tie.Need-loop-holds Inv-loop μ-loop Inv-search μ-search
 loop-holds c = (omega arith, below-none _)
 
@@ -129,8 +123,8 @@ first-error-spec =
     mul-find-arc-2
     shared-slice-read-find-arc-2
     find-arc-requires
-    enum-told
-    enum-told-2
+    (λ c. search needs)
+    (λ c. search needs)
     loop-holds
     mul-if1
     shared-slice-read-if1

@@ -48,27 +48,6 @@ least-requires c κs = let h = c .before .before .before .before .before .before
     let r = p .1 .1 in
     (arrays-for (d .decode .ensures .arcs) (h .chain .ensures) (r .labels-long) (omega (arith, r .ins-long, r .labels-long, h .chain .kept)) (part-long 201 _ (places-fit h)), record { place = omega (arith, p .0 .1, r .labels-long); free = part-zero 201 (length (start d .args .overall .now)) _ })
 
-same-length : tie.Need-same-length
-same-length c = search needs
-
-same-length-2 : tie.Need-same-length-2
-same-length-2 c = search needs
-
-same-length-3 : tie.Need-same-length-3
-same-length-3 c = search needs
-
-same-length-4 : tie.Need-same-length-4
-same-length-4 c = search needs
-
-same-length-5 : tie.Need-same-length-5
-same-length-5 c = search needs
-
-same-length-6 : tie.Need-same-length-6
-same-length-6 c = search needs
-
-same-length-7 : tie.Need-same-length-7
-same-length-7 c = search needs
-
 returns : tie.Need-returns
 returns c = let l = c .before .before in
     let h = l .before .before .before .before .before .before .before .before .before .before .before in
@@ -87,11 +66,11 @@ load-spec =
     array-share-prefix-barred
     slice-aggregate-least
     least-requires
-    same-length
-    same-length-2
-    same-length-3
-    same-length-4
-    same-length-5
-    same-length-6
-    same-length-7
+    (λ c. search needs)
+    (λ c. search needs)
+    (λ c. search needs)
+    (λ c. search needs)
+    (λ c. search needs)
+    (λ c. search needs)
+    (λ c. search needs)
     returns)

@@ -7,12 +7,6 @@ use Rattle.calls.proofs.CostLaws.{bound-row-sound}
 use Rattle.calls.proofs.rows.check_costs.Statement.{statement}
 use Rattle.calls.proofs.rows.check_costs.Tie as tie
 
-sub-if1 : tie.Need-sub-if1
-sub-if1 c = search needs
-
-mul-if1 : tie.Need-mul-if1
-mul-if1 c = search needs
-
 returns : tie.Need-returns
 returns c = absurd (omega arith)
 
@@ -20,4 +14,4 @@ returns-2 : tie.Need-returns-2
 returns-2 c = sym (outcome-sound _ (bound-row-sound (c .before .before .pre .1)))
 
 pub check-costs-spec : {M : Type 1} → statement M
-check-costs-spec = tie.close (tie.spec sub-if1 mul-if1 returns returns-2)
+check-costs-spec = tie.close (tie.spec (λ c. search needs) (λ c. search needs) returns returns-2)

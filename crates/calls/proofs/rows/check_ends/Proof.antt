@@ -12,15 +12,6 @@ use Rattle.calls.proofs.RowLaws.{refused-first, given-network, sizes-of
 use Rattle.calls.proofs.rows.check_ends.Statement.{statement}
 use Rattle.calls.proofs.rows.check_ends.Tie as tie
 
-check-requires : tie.Need-check-requires
-check-requires c κs = search needs
-
-enum-known-answer : tie.Need-enum-known-answer
-enum-known-answer c = search needs
-
-enum-told : tie.Need-enum-told
-enum-told c = search needs
-
 returns : tie.Need-returns
 returns c = refused-first _ _ _ (ap checked (c .enum-told .given .1)) (c .before .before .check .ensures)
 
@@ -35,15 +26,9 @@ start-is-node c = sym (c .before .is-node .ensures) ∙ not-false _ (c .if1 .lef
 goal-is-node : (c : tie.Else2) → is-node (c .before .before .before .before .before .answer .given .0 .0 .n) (c .before .before .before .before .before .before .before .before .before .args .goal) ≡ true
 goal-is-node c = sym (c .before .is-node2 .ensures) ∙ not-false _ (c .if2 .left)
 
-is-node-requires : tie.Need-is-node-requires
-is-node-requires c κs = search needs
-
 returns-2 : tie.Need-returns-2
 returns-2 c = let k = c .before .before .before in
     sym (outcome-fault _ (wrong-start (known k) _ _ (sym (c .before .is-node .ensures) ∙ not-true _ (c .if1 .taken))))
-
-is-node-requires-2 : tie.Need-is-node-requires-2
-is-node-requires-2 c κs = search needs
 
 returns-3 : tie.Need-returns-3
 returns-3 c = let k = c .before .before .before .before .before in
@@ -63,13 +48,13 @@ pub check-ends-spec : {M : Type 1} → statement M
 check-ends-spec =
     tie.close
     (tie.spec
-    check-requires
-    enum-known-answer
-    enum-told
+    (λ c κs. search needs)
+    (λ c. search needs)
+    (λ c. search needs)
     returns
-    is-node-requires
+    (λ c κs. search needs)
     returns-2
-    is-node-requires-2
+    (λ c κs. search needs)
     returns-3
     returns-4
     returns-5)

@@ -12,15 +12,6 @@ use borrow.Author.Needs.{needs}
 use Rattle.calls.proofs.rows.check_ranking.Statement.{statement}
 use Rattle.calls.proofs.rows.check_ranking.Tie as tie
 
-check-search-requires : tie.Need-check-search-requires
-check-search-requires c κs = search needs
-
-enum-known-answer : tie.Need-enum-known-answer
-enum-known-answer c = search needs
-
-enum-told : tie.Need-enum-told
-enum-told c = search needs
-
 returns : tie.Need-returns
 unfolding ranking-rows
 returns c = let k = c .before .before in
@@ -44,9 +35,6 @@ returns-3 : tie.Need-returns-3
 unfolding ranking-rows
 returns-3 c = let p = passes (c .before .before .before) in
     sym (outcome-fault _ (then-next _ (p .0) ∙ then-fault _ (too-many _ (c .if2 .taken))))
-
-cast-workspace : tie.Need-cast-workspace
-cast-workspace c = search needs
 
 workspace-requires : tie.Need-workspace-requires
 workspace-requires c κs = (node-bounds (passes (c .before .before .before .before) .1) .1, c .before .if2 .left)
@@ -74,13 +62,13 @@ pub check-ranking-spec : {M : Type 1} → statement M
 check-ranking-spec =
     tie.close
     (tie.spec
-    check-search-requires
-    enum-known-answer
-    enum-told
+    (λ c κs. search needs)
+    (λ c. search needs)
+    (λ c. search needs)
     returns
     returns-2
     returns-3
-    cast-workspace
+    (λ c. search needs)
     workspace-requires
     returns-4
     returns-5)

@@ -13,24 +13,12 @@ use borrow.Author.Needs.{needs}
 use Rattle.calls.proofs.rows.check_search.Statement.{statement}
 use Rattle.calls.proofs.rows.check_search.Tie as tie
 
-check-ends-requires : tie.Need-check-ends-requires
-check-ends-requires c κs = search needs
-
-enum-known-answer : tie.Need-enum-known-answer
-enum-known-answer c = search needs
-
-enum-told : tie.Need-enum-told
-enum-told c = search needs
-
 returns : tie.Need-returns
 unfolding search-rows
 returns c = let k = c .before .before in
     let a = k .before .before .args in
     let told = ap checked (c .enum-told .given .1) in
     told ∙ sym (outcome-fault _ (then-fault _ (refuses-fault (image-fault (a .image .now) then ends-row (netOf (a .image .now)) (a .start) (a .goal)) (sizes (a .image .now)) (sym told ∙ k .check-ends .ensures))))
-
-is-column-requires : tie.Need-is-column-requires
-is-column-requires c κs = search needs
 
 -- where the first rows give sizes, none of them applies and they are the image's
 abbrev start : tie.After-answer → tie.Start
@@ -50,4 +38,4 @@ returns-3 c = let p = passes (c .before .before .before) in
     ap gives (sizes-of (p .1)) ∙ sym (outcome-sound _ (then-next _ (p .0) ∙ right-column (p .1) _ (sym (c .before .is-column .ensures) ∙ not-false _ (c .if1 .left))))
 
 pub check-search-spec : {M : Type 1} → statement M
-check-search-spec = tie.close (tie.spec check-ends-requires enum-known-answer enum-told returns is-column-requires returns-2 returns-3)
+check-search-spec = tie.close (tie.spec (λ c κs. search needs) (λ c. search needs) (λ c. search needs) returns (λ c κs. search needs) returns-2 returns-3)

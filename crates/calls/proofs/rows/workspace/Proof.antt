@@ -8,20 +8,11 @@ use borrow.Author.Needs.{needs}
 use Rattle.calls.proofs.rows.workspace.Statement.{statement}
 use Rattle.calls.proofs.rows.workspace.Tie as tie
 
-add-result : tie.Need-add-result
-add-result c = search needs
-
-add-result-2 : tie.Need-add-result-2
-add-result-2 c = search needs
-
 slots : (c : tie.Start) → (c .args .wanted + 1) * (c .args .n + 16) ≤ 257 * 216
 slots c = let h : c .args .wanted + 1 ≤ 257 = omega (arith, c .pre .1) in omega (arith, mul-le-mul-right (c .args .n + 16) h, c .pre .0)
 
 mul-result : tie.Need-mul-result
 mul-result c = omega (arith, slots c)
-
-mul-result-2 : tie.Need-mul-result-2
-mul-result-2 c = search needs
 
 add-result-3 : tie.Need-add-result-3
 add-result-3 c = omega (arith, slots c, c .pre .0)
@@ -34,4 +25,4 @@ unfolding workspace
 returns c = refl
 
 pub workspace-spec : {M : Type 1} → statement M
-workspace-spec = tie.close (tie.spec add-result add-result-2 mul-result mul-result-2 add-result-3 add-result-4 returns)
+workspace-spec = tie.close (tie.spec (λ c. search needs) (λ c. search needs) mul-result (λ c. search needs) add-result-3 add-result-4 returns)

@@ -5,18 +5,9 @@ use Rattle.replies.specs.Replies.{reply-of}
 use Rattle.capi.proofs.images.vihrolom_build.Statement.{statement}
 use Rattle.capi.proofs.images.vihrolom_build.Tie as tie
 
-build-requires : tie.Need-build-requires
-build-requires c κs = search needs
-
-of-built-requires : tie.Need-of-built-requires
-of-built-requires c κs = search needs
-
-same-length : tie.Need-same-length
-same-length c = search needs
-
 returns : tie.Need-returns
 returns c = let k = c .before .before .before in
     (c .of-built .ensures ∙ ap reply-of (k .build .ensures .0), k .build .ensures .1)
 
 pub vihrolom-build-spec : {M : Type 1} → statement M
-vihrolom-build-spec = tie.close (tie.spec build-requires of-built-requires same-length returns)
+vihrolom-build-spec = tie.close (tie.spec (λ c κs. search needs) (λ c κs. search needs) (λ c. search needs) returns)

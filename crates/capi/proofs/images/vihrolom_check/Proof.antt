@@ -5,14 +5,8 @@ use Rattle.replies.specs.Replies.{reply-of}
 use Rattle.capi.proofs.images.vihrolom_check.Statement.{statement}
 use Rattle.capi.proofs.images.vihrolom_check.Tie as tie
 
-check-requires : tie.Need-check-requires
-check-requires c κs = search needs
-
-of-checked-requires : tie.Need-of-checked-requires
-of-checked-requires c κs = search needs
-
 returns : tie.Need-returns
 returns c = c .of-checked .ensures ∙ ap reply-of (c .before .check .ensures)
 
 pub vihrolom-check-spec : {M : Type 1} → statement M
-vihrolom-check-spec = tie.close (tie.spec check-requires of-checked-requires returns)
+vihrolom-check-spec = tie.close (tie.spec (λ c κs. search needs) (λ c κs. search needs) returns)

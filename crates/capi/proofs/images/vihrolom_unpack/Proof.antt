@@ -5,22 +5,10 @@ use Rattle.replies.specs.Replies.{reply-of}
 use Rattle.capi.proofs.images.vihrolom_unpack.Statement.{statement}
 use Rattle.capi.proofs.images.vihrolom_unpack.Tie as tie
 
-unpack-requires : tie.Need-unpack-requires
-unpack-requires c κs = search needs
-
-of-unpacked-requires : tie.Need-of-unpacked-requires
-of-unpacked-requires c κs = search needs
-
-same-length : tie.Need-same-length
-same-length c = search needs
-
-same-length-2 : tie.Need-same-length-2
-same-length-2 c = search needs
-
 returns : tie.Need-returns
 returns c = let k = c .before .before .before .before .before in
     (c .of-unpacked .ensures ∙ ap reply-of (k .unpack .ensures .0), k .unpack .ensures .1)
 
 pub vihrolom-unpack-spec : {M : Type 1} → statement M
 vihrolom-unpack-spec =
-    tie.close (tie.spec unpack-requires of-unpacked-requires same-length same-length-2 returns)
+    tie.close (tie.spec (λ c κs. search needs) (λ c κs. search needs) (λ c. search needs) (λ c. search needs) returns)

@@ -5,14 +5,8 @@ use Rattle.replies.specs.Replies.{reply-of}
 use Rattle.capi.proofs.paths.vihrolom_regret.Statement.{statement}
 use Rattle.capi.proofs.paths.vihrolom_regret.Tie as tie
 
-regret-requires : tie.Need-regret-requires
-regret-requires c κs = search needs
-
-of-regretted-requires : tie.Need-of-regretted-requires
-of-regretted-requires c κs = search needs
-
 returns : tie.Need-returns
 returns c = c .of-regretted .ensures ∙ ap reply-of (c .before .regret .ensures)
 
 pub vihrolom-regret-spec : {M : Type 1} → statement M
-vihrolom-regret-spec = tie.close (tie.spec regret-requires of-regretted-requires returns)
+vihrolom-regret-spec = tie.close (tie.spec (λ c κs. search needs) (λ c κs. search needs) returns)

@@ -5,19 +5,10 @@ use Rattle.replies.specs.Replies.{reply-of}
 use Rattle.capi.proofs.paths.vihrolom_shortest.Statement.{statement}
 use Rattle.capi.proofs.paths.vihrolom_shortest.Tie as tie
 
-shortest-requires : tie.Need-shortest-requires
-shortest-requires c κs = search needs
-
-of-routed-requires : tie.Need-of-routed-requires
-of-routed-requires c κs = search needs
-
-same-length : tie.Need-same-length
-same-length c = search needs
-
 returns : tie.Need-returns
 returns c = let k = c .before .before .before in
     (c .of-routed .ensures ∙ ap reply-of (k .shortest .ensures .0), k .shortest .ensures .1)
 
 pub vihrolom-shortest-spec : {M : Type 1} → statement M
 vihrolom-shortest-spec =
-    tie.close (tie.spec shortest-requires of-routed-requires same-length returns)
+    tie.close (tie.spec (λ c κs. search needs) (λ c κs. search needs) (λ c. search needs) returns)

@@ -32,21 +32,6 @@ columns-fit c = column-bounds (entry c .pre .0 .0) .1
 all-fit : (c : tie.After-struct-known3) → entry c .args .sizes .m * entry c .args .sizes .k ≤ 8000
 all-fit c = omega (arith, mul-le-mul (arcs-fit c) (columns-fit c))
 
-cast-m : tie.Need-cast-m
-cast-m c = search needs
-
-cast-k : tie.Need-cast-k
-cast-k c = search needs
-
-cast-nodes : tie.Need-cast-nodes
-cast-nodes c = search needs
-
-add-places : tie.Need-add-places
-add-places c = search needs
-
-add-starts : tie.Need-add-starts
-add-starts c = search needs
-
 mul-all : tie.Need-mul-all
 mul-all c = omega (arith, all-fit c)
 
@@ -124,24 +109,15 @@ choose-in-requires c κs =
       ),
     )
 
-same-length : tie.Need-same-length
-same-length c = search needs
-
-same-length-2 : tie.Need-same-length-2
-same-length-2 c = search needs
-
-returns : tie.Need-returns
-returns c = search needs
-
 pub choose-spec : {M : Type 1} → statement M
 choose-spec =
     tie.close
     (tie.spec
-    cast-m
-    cast-k
-    cast-nodes
-    add-places
-    add-starts
+    (λ c. search needs)
+    (λ c. search needs)
+    (λ c. search needs)
+    (λ c. search needs)
+    (λ c. search needs)
     mul-all
     cast-choose-in
     array-borrow-prefix-tails
@@ -163,6 +139,6 @@ choose-spec =
     array-borrow-prefix-bests
     slice-aggregate-choose-in-9
     choose-in-requires
-    same-length
-    same-length-2
-    returns)
+    (λ c. search needs)
+    (λ c. search needs)
+    (λ c. search needs))

@@ -15,18 +15,6 @@ least-regret-requires : tie.Need-least-regret-requires
 least-regret-requires c κs = let p = c .before .before .before .before .before .before .before .before .before .before .before .before .before .pre in
     (p .0, (p .1 .0, (p .1 .1 .0 .0, (p .1 .1 .0 .1, ((p .1 .1 .1 .0, p .1 .1 .1 .1), p .1 .1 .1 .2)))))
 
-clear-requires : tie.Need-clear-requires
-clear-requires c κs = search needs
-
-state-requires : tie.Need-state-requires
-state-requires c κs = search needs
-
-same-length : tie.Need-same-length
-same-length c = search needs
-
-same-length-2 : tie.Need-same-length-2
-same-length-2 c = search needs
-
 returns : tie.Need-returns
 returns c = let l = c .before .before .before .before .before .before .before .before .before .least-regret in
     let s = c .before .before .before .before .before .before .before .before .before .before .before .before .before .before .before .before .before .before .before .before .before .before .before in
@@ -41,8 +29,8 @@ choose-priced-spec =
     tie.close
     (tie.spec
     least-regret-requires
-    clear-requires
-    state-requires
-    same-length
-    same-length-2
+    (λ c κs. search needs)
+    (λ c κs. search needs)
+    (λ c. search needs)
+    (λ c. search needs)
     returns)

@@ -4,12 +4,6 @@ use borrow.Author.Needs.{needs}
 use Rattle.choices.proofs.choosing.state.Statement.{statement}
 use Rattle.choices.proofs.choosing.state.Tie as tie
 
-enum-known-answer : tie.Need-enum-known-answer
-enum-known-answer c = search needs
-
-enum-known-answer-2 : tie.Need-enum-known-answer-2
-enum-known-answer-2 c = search needs
-
 returns : tie.Need-returns
 returns c = state-settled _ _ _ (c .before .answer .given .1)
 
@@ -20,7 +14,7 @@ pub state-spec : {M : Type 1} → statement M
 state-spec =
     tie.close
     (tie.spec
-    enum-known-answer
-    enum-known-answer-2
+    (λ c. search needs)
+    (λ c. search needs)
     returns
     returns-2)

@@ -78,18 +78,6 @@ same-length-2 c = read c .decode-arcs .kept .1 .1 .1 .0
 same-length-3 : tie.Need-same-length-3
 same-length-3 c = read c .decode-arcs .kept .1 .1 .1 .1 .0
 
-same-length-4 : tie.Need-same-length-4
-same-length-4 c = search needs
-
-same-length-5 : tie.Need-same-length-5
-same-length-5 c = search needs
-
-same-length-6 : tie.Need-same-length-6
-same-length-6 c = search needs
-
-same-length-7 : tie.Need-same-length-7
-same-length-7 c = search needs
-
 returns : tie.Need-returns
 returns c = let m = c .before in
     let p = start (read c) .pre .0 in
@@ -107,8 +95,8 @@ measure-in-spec =
     same-length
     same-length-2
     same-length-3
-    same-length-4
-    same-length-5
-    same-length-6
-    same-length-7
+    (λ c. search needs)
+    (λ c. search needs)
+    (λ c. search needs)
+    (λ c. search needs)
     returns)

@@ -29,21 +29,6 @@ columns-fit c = column-bounds (entry c .pre .0) .1
 all-fit : (c : tie.After-struct-known3) → entry c .args .sizes .m * entry c .args .sizes .k ≤ 8000
 all-fit c = omega (arith, mul-le-mul (arcs-fit c) (columns-fit c))
 
-cast-m : tie.Need-cast-m
-cast-m c = search needs
-
-cast-k : tie.Need-cast-k
-cast-k c = search needs
-
-cast-n : tie.Need-cast-n
-cast-n c = search needs
-
-add-places : tie.Need-add-places
-add-places c = search needs
-
-add-starts : tie.Need-add-starts
-add-starts c = search needs
-
 mul-all : tie.Need-mul-all
 mul-all c = omega (arith, all-fit c)
 
@@ -105,18 +90,15 @@ measure-in-requires c κs = let e = c .before .before .before .before .before .b
       },
     )
 
-returns : tie.Need-returns
-returns c = search needs
-
 pub measure-list-spec : {M : Type 1} → statement M
 measure-list-spec =
     tie.close
     (tie.spec
-    cast-m
-    cast-k
-    cast-n
-    add-places
-    add-starts
+    (λ c. search needs)
+    (λ c. search needs)
+    (λ c. search needs)
+    (λ c. search needs)
+    (λ c. search needs)
     mul-all
     array-borrow-prefix-tails
     slice-aggregate-measure-in
@@ -133,4 +115,4 @@ measure-list-spec =
     array-borrow-prefix-bests
     slice-aggregate-measure-in-7
     measure-in-requires
-    returns)
+    (λ c. search needs))

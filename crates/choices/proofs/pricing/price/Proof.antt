@@ -52,12 +52,6 @@ column-bests-requires c κs = let r = c .before .before .before .before .before 
     let p = start r .pre in
     joined-kept (places-long r) (p .1 .1 .1) (held-joined (p .0) (p .1 .0 .0) (costs-read r) (costs-long r) (p .1 .0 .1) refl (places-long r) (part-zero 201 (length (start r .args .first-in .now))))
 
-same-length : tie.Need-same-length
-same-length c = search needs
-
-same-length-2 : tie.Need-same-length-2
-same-length-2 c = search needs
-
 returns : tie.Need-returns
 returns c = let r = c .before .before .before .before .before .before .before .before .before .before in
     let p = start r .pre in
@@ -74,6 +68,6 @@ price-spec =
     array-borrow-prefix-labels
     slice-aggregate-column-bests-2
     column-bests-requires
-    same-length
-    same-length-2
+    (λ c. search needs)
+    (λ c. search needs)
     returns)

@@ -8,12 +8,6 @@ use Rattle.exits.specs.Star.{Comes}
 returns : tie.Need-returns
 returns c = Comes.ends (λ h. absurd (omega arith))
 
-mul-t : tie.Need-mul-t
-mul-t c = search needs
-
-shared-slice-read-t : tie.Need-shared-slice-read-t
-shared-slice-read-t c = search needs
-
 cast-t : tie.Need-cast-t
 cast-t c = omega (arith, c .shared-slice-known .given (c .before .before .args .i))
 
@@ -24,4 +18,4 @@ returns-3 : tie.Need-returns-3
 returns-3 c = Comes.comes (c .before .before .if1 .left) (c .if2 .left)
 
 pub comes-spec : {M : Type 1} → statement M
-comes-spec = tie.close (tie.spec returns mul-t shared-slice-read-t cast-t returns-2 returns-3)
+comes-spec = tie.close (tie.spec returns (λ c. search needs) (λ c. search needs) cast-t returns-2 returns-3)

@@ -18,9 +18,6 @@ abbrev μ-loop : tie.MeasureT-loop
 loop-holds : tie.Need-loop-holds Inv-loop μ-loop
 loop-holds c = (refl, omega arith, record { within = omega arith; before = λ j h. absurd (omega arith); cuts = λ u h. absurd (omega arith) })
 
-comes-requires : tie.Need-comes-requires Inv-loop μ-loop
-comes-requires c κs = search needs
-
 add-i : tie.Need-add-i Inv-loop μ-loop
 add-i c = let k = came (c .before .comes .ensures) (c .if1 .taken) in omega arith
 
@@ -66,7 +63,7 @@ star-spec =
     Inv-loop
     μ-loop
     loop-holds
-    comes-requires
+    (λ c κs. search needs)
     add-i
     loop-less
     loop-again

@@ -5,17 +5,8 @@ use native.Mathlib.Omega.{arith}
 use borrow.Author.Needs.{needs}
 use Rattle.exits.specs.Exits.{Keeps}
 
-shared-slice-read-if1 : tie.Need-shared-slice-read-if1
-shared-slice-read-if1 c = search needs
-
 returns : tie.Need-returns
 returns c = Keeps.strays (λ u _. c .if1 .taken u)
-
-mul-rest : tie.Need-mul-rest
-mul-rest c = search needs
-
-shared-slice-read-rest : tie.Need-shared-slice-read-rest
-shared-slice-read-rest c = search needs
 
 returns-2 : tie.Need-returns-2
 returns-2 c = Keeps.strays (λ _ e. omega arith)
@@ -30,10 +21,10 @@ pub keeps-spec : {M : Type 1} → statement M
 keeps-spec =
     tie.close
     (tie.spec
-    shared-slice-read-if1
+    (λ c. search needs)
     returns
-    mul-rest
-    shared-slice-read-rest
+    (λ c. search needs)
+    (λ c. search needs)
     returns-2
     returns-3
     returns-4)

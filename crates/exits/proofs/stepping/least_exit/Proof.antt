@@ -9,23 +9,8 @@ use Rattle.exits.proofs.ExitLaws.{scanned-chosen, scanned-usable}
 abbrev start : tie.After-shared-slice-known8 → tie.Start
 start c = c .before .before .before .before .before .before .before .before
 
-mul-from : tie.Need-mul-from
-mul-from c = search needs
-
-shared-slice-read-from : tie.Need-shared-slice-read-from
-shared-slice-read-from c = search needs
-
 cast-from : tie.Need-cast-from
 cast-from c = omega (arith, c .shared-slice-known7 .given (c .before .before .before .before .before .before .before .args .v))
-
-add-to : tie.Need-add-to
-add-to c = search needs
-
-mul-to : tie.Need-mul-to
-mul-to c = search needs
-
-shared-slice-read-to : tie.Need-shared-slice-read-to
-shared-slice-read-to c = search needs
 
 cast-to : tie.Need-cast-to
 cast-to c = omega (arith, c .shared-slice-known8 .given (start c .args .v + 1))
@@ -45,12 +30,12 @@ pub least-exit-spec : {M : Type 1} → statement M
 least-exit-spec =
     tie.close
     (tie.spec
-    mul-from
-    shared-slice-read-from
+    (λ c. search needs)
+    (λ c. search needs)
     cast-from
-    add-to
-    mul-to
-    shared-slice-read-to
+    (λ c. search needs)
+    (λ c. search needs)
+    (λ c. search needs)
     cast-to
     scan-requires
     returns)

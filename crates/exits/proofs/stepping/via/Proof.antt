@@ -15,23 +15,11 @@ start c = c .before .before .before .before .before .before
 reached : (c : tie.Else3) → getD (start c .args .labels .now) (start c .args .y) 0 < far
 reached c = omega (arith, c .before .shared-slice-known3 .given (start c .args .y))
 
-shared-slice-read-if1 : tie.Need-shared-slice-read-if1
-shared-slice-read-if1 c = search needs
-
 returns : tie.Need-returns
 returns c = sym (via-shut _ _ _ _ _ (λ u _. c .if1 .taken (u .unused)))
 
-shared-slice-read-if2 : tie.Need-shared-slice-read-if2
-shared-slice-read-if2 c = search needs
-
 returns-2 : tie.Need-returns-2
 returns-2 c = sym (via-shut _ _ _ _ _ (λ u _. c .if2 .taken (u .free)))
-
-mul-rest : tie.Need-mul-rest
-mul-rest c = search needs
-
-shared-slice-read-rest : tie.Need-shared-slice-read-rest
-shared-slice-read-rest c = search needs
 
 returns-3 : tie.Need-returns-3
 returns-3 c = sym (via-shut _ _ _ _ _ (λ _ k. omega arith))
@@ -46,12 +34,12 @@ pub via-spec : {M : Type 1} → statement M
 via-spec =
     tie.close
     (tie.spec
-    shared-slice-read-if1
+    (λ c. search needs)
     returns
-    shared-slice-read-if2
+    (λ c. search needs)
     returns-2
-    mul-rest
-    shared-slice-read-rest
+    (λ c. search needs)
+    (λ c. search needs)
     returns-3
     add-result
     returns-4)

@@ -9,15 +9,6 @@ use borrow.Author.Needs.{needs}
 use Rattle.image.proofs.checking.check.Statement.{statement}
 use Rattle.image.proofs.checking.check.Tie as tie
 
-check-header-requires : tie.Need-check-header-requires
-check-header-requires c κs = search needs
-
-enum-known-header : tie.Need-enum-known-header
-enum-known-header c = search needs
-
-enum-told : tie.Need-enum-told
-enum-told c = search needs
-
 returns : tie.Need-returns
 unfolding check-outcome image-fault
 returns c = let h = c .before .before in
@@ -44,9 +35,9 @@ pub check-spec : {M : Type 1} → statement M
 check-spec =
     tie.close
     (tie.spec
-    check-header-requires
-    enum-known-header
-    enum-told
+    (λ c κs. search needs)
+    (λ c. search needs)
+    (λ c. search needs)
     returns
     check-body-requires
     returns-2)

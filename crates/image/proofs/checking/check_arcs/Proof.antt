@@ -68,12 +68,6 @@ read c =
     (decode-at 2 (2 * m) b (2 * i) (omega arith) ∙ ap (field 2 b) tail-at ∙ sym (c .before .before .read16 .ensures .0))
     (decode-at 2 (2 * m) b (2 * i + 1) (omega arith) ∙ ap (field 2 b) head-at ∙ sym (c .before .read162 .ensures .0))
 
-enum-told : tie.Need-enum-told Inv-loop μ-loop
-enum-told c = search needs
-
-enum-told-2 : tie.Need-enum-told-2 Inv-loop μ-loop
-enum-told-2 c = search needs
-
 returns : tie.Need-returns Inv-loop μ-loop
 returns c = let k = c .before .before in
     let e = ap verdict (c .enum-told2 .given .1) in
@@ -107,8 +101,8 @@ check-arcs-spec =
     read16-requires-2
     cast-check-arc
     check-arc-requires
-    enum-told
-    enum-told-2
+    (λ c. search needs)
+    (λ c. search needs)
     returns
     add-i
     loop-less

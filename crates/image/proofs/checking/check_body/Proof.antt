@@ -22,15 +22,9 @@ sub-check-arcs c = omega (arith, total-is (c .before .args .m) (c .before .args 
 part-check-arcs-start : tie.Need-part-check-arcs-start
 part-check-arcs-start c = omega (arith, total-is (c .before .args .m) (c .before .args .k), costs-start-is (c .before .args .m))
 
-part-check-arcs-end : tie.Need-part-check-arcs-end
-part-check-arcs-end c = search needs
-
 check-arcs-requires : tie.Need-check-arcs-requires
 check-arcs-requires c κs = let a = c .before .before .args in
     (rw to-end (omega (arith, length-drop 24 (a .image .now), total-is (a .m) (a .k), costs-start-is (a .m))), c .before .before .pre .0)
-
-enum-known-arcs : tie.Need-enum-known-arcs
-enum-known-arcs c = search needs
 
 -- what the two checks say, of the image's own lists
 arcs-is : (c : tie.After-check-arcs) → verdict (c .check-arcs .result) ≡ arcs-fault (c .before .before .before .args .n) (0, 0) 0 (pairs (c .before .before .before .args .m) (nodes-in (c .before .before .before .args .m) (c .before .before .before .args .image .now)))
@@ -56,15 +50,6 @@ returns : tie.Need-returns
 unfolding lists-fault
 returns c = sym (outcome-fault _ (then-fault _ (sym (arcs-is (c .before .before .before)) ∙ ap verdict (c .before .arcs .given .1))))
 
-enum-told : tie.Need-enum-told
-enum-told c = search needs
-
-costs-start-requires : tie.Need-costs-start-requires
-costs-start-requires c κs = search needs
-
-cast-start : tie.Need-cast-start
-cast-start c = search needs
-
 sub-check-costs : tie.Need-sub-check-costs
 sub-check-costs c = let a = c .before .before .before .before .before .before .args in
     omega (arith, total-is (a .m) (a .k), c .costs-start .ensures)
@@ -73,30 +58,15 @@ part-check-costs-start : tie.Need-part-check-costs-start
 part-check-costs-start c = let a = c .before .before .before .before .before .before .args in
     omega (arith, total-is (a .m) (a .k), c .costs-start .ensures)
 
-part-check-costs-end : tie.Need-part-check-costs-end
-part-check-costs-end c = search needs
-
-cost-count-requires : tie.Need-cost-count-requires
-cost-count-requires c κs = search needs
-
-cast-check-costs : tie.Need-cast-check-costs
-cast-check-costs c = search needs
-
 check-costs-requires : tie.Need-check-costs-requires
 check-costs-requires c κs = let s = c .before .before in
     let a = s .before .before .before .before .before .before .args in
     (rw to-end (omega (arith, length-drop (s .costs-start .result) (a .image .now), total-is (a .m) (a .k), s .costs-start .ensures, c .cost-count .ensures .0)), c .cost-count .ensures .1)
 
-enum-known-costs : tie.Need-enum-known-costs
-enum-known-costs c = search needs
-
 returns-2 : tie.Need-returns-2
 unfolding lists-fault
 returns-2 c = let k = c .before .before .before in
     sym (outcome-fault _ (then-next _ (arcs-sound (k .before .before .before .before)) ∙ sym (costs-are k) ∙ ap verdict (c .before .costs .given .1)))
-
-enum-told-2 : tie.Need-enum-told-2
-enum-told-2 c = search needs
 
 returns-3 : tie.Need-returns-3
 unfolding lists-fault
@@ -109,20 +79,20 @@ check-body-spec =
     (tie.spec
     sub-check-arcs
     part-check-arcs-start
-    part-check-arcs-end
+    (λ c. search needs)
     check-arcs-requires
-    enum-known-arcs
+    (λ c. search needs)
     returns
-    enum-told
-    costs-start-requires
-    cast-start
+    (λ c. search needs)
+    (λ c κs. search needs)
+    (λ c. search needs)
     sub-check-costs
     part-check-costs-start
-    part-check-costs-end
-    cost-count-requires
-    cast-check-costs
+    (λ c. search needs)
+    (λ c κs. search needs)
+    (λ c. search needs)
     check-costs-requires
-    enum-known-costs
+    (λ c. search needs)
     returns-2
-    enum-told-2
+    (λ c. search needs)
     returns-3)

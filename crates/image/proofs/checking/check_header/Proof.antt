@@ -18,25 +18,10 @@ unfolding outcome
 returns c = let b = c .before .before .args .image .now in
     rw (row-1 b (c .if1 .taken))
 
-read16-requires : tie.Need-read16-requires
-read16-requires c κs = search needs
-
 returns-2 : tie.Need-returns-2
 unfolding outcome edition
 returns-2 c = let b = c .before .before .before .before .args .image .now in
     rw (row-2 b (c .before .before .if1 .left) (λ e. c .if2 .taken (c .before .read16 .ensures .0 ∙ e)))
-
-read16-requires-2 : tie.Need-read16-requires-2
-read16-requires-2 c κs = search needs
-
-read16-requires-3 : tie.Need-read16-requires-3
-read16-requires-3 c κs = search needs
-
-read16-requires-4 : tie.Need-read16-requires-4
-read16-requires-4 c κs = search needs
-
-in-range-requires : tie.Need-in-range-requires
-in-range-requires c κs = search needs
 
 -- what the tests passed so far say of the image b
 abbrev image : tie.Else2 → List ℕ
@@ -103,9 +88,6 @@ image-length-requires c κs = let k = c .before .before .before in
     let f = k-is k in
     (rw e (r .arcs-to), rw f (r .columns-to))
 
-cast-if5 : tie.Need-cast-if5
-cast-if5 c = search needs
-
 returns-5 : tie.Need-returns-5
 unfolding outcome
 returns-5 c = let e = c .before .before in
@@ -123,16 +105,16 @@ check-header-spec =
     tie.close
     (tie.spec
     returns
-    read16-requires
+    (λ c κs. search needs)
     returns-2
-    read16-requires-2
-    read16-requires-3
-    read16-requires-4
-    in-range-requires
+    (λ c κs. search needs)
+    (λ c κs. search needs)
+    (λ c κs. search needs)
+    (λ c κs. search needs)
     returns-3
     fields-right-requires
     returns-4
     image-length-requires
-    cast-if5
+    (λ c. search needs)
     returns-5
     returns-6)

@@ -10,18 +10,9 @@ use borrow.Author.Needs.{needs}
 use Rattle.image.proofs.checking.fields_right.Statement.{statement}
 use Rattle.image.proofs.checking.fields_right.Tie as tie
 
-read32-requires : tie.Need-read32-requires
-read32-requires c κs = search needs
-
 returns : tie.Need-returns
 unfolding fields-right
 returns c = simp (ne-eqb _ _ (λ e. c .if1 .taken (c .before .read32 .ensures ∙ e)))
-
-read32-requires-2 : tie.Need-read32-requires-2
-read32-requires-2 c κs = search needs
-
-costs-start-requires : tie.Need-costs-start-requires
-costs-start-requires c κs = search needs
 
 -- past the first test the arcs' offset is right, past the second the costs'
 arcs-at : (c : tie.Else1) → eqb (field 4 (c .before .before .before .args .image .now) 8) 24 ≡ true
@@ -35,19 +26,10 @@ unfolding fields-right
 returns-2 c = let k = c .before in
     simp (arcs-at (k .before .before), ne-eqb _ _ (λ e. c .if2 .taken (k .before .read322 .ensures ∙ e ∙ sym (k .costs-start .ensures))))
 
-read32-requires-3 : tie.Need-read32-requires-3
-read32-requires-3 c κs = search needs
-
-image-length-requires : tie.Need-image-length-requires
-image-length-requires c κs = search needs
-
 returns-3 : tie.Need-returns-3
 unfolding fields-right
 returns-3 c = let k = c .before in
     simp (arcs-at (k .before .before .before .before .before), costs-at (k .before .before), ne-eqb _ _ (λ e. c .if3 .taken (k .before .read323 .ensures ∙ e ∙ sym (k .image-length .ensures))))
-
-read32-requires-4 : tie.Need-read32-requires-4
-read32-requires-4 c κs = search needs
 
 returns-4 : tie.Need-returns-4
 unfolding fields-right
@@ -59,13 +41,13 @@ pub fields-right-spec : {M : Type 1} → statement M
 fields-right-spec =
     tie.close
     (tie.spec
-    read32-requires
+    (λ c κs. search needs)
     returns
-    read32-requires-2
-    costs-start-requires
+    (λ c κs. search needs)
+    (λ c κs. search needs)
     returns-2
-    read32-requires-3
-    image-length-requires
+    (λ c κs. search needs)
+    (λ c κs. search needs)
     returns-3
-    read32-requires-4
+    (λ c κs. search needs)
     returns-4)

@@ -5,15 +5,9 @@ use borrow.Author.Needs.{needs}
 use Rattle.image.proofs.layout.costs_start.Statement.{statement}
 use Rattle.image.proofs.layout.costs_start.Tie as tie
 
-mul-result : tie.Need-mul-result
-mul-result c = search needs
-
-add-result : tie.Need-add-result
-add-result c = search needs
-
 returns : tie.Need-returns
 unfolding costs-start
 returns c = refl
 
 pub costs-start-spec : {M : Type 1} → statement M
-costs-start-spec = tie.close (tie.spec mul-result add-result returns)
+costs-start-spec = tie.close (tie.spec (λ c. search needs) (λ c. search needs) returns)

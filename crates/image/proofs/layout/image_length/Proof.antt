@@ -5,15 +5,6 @@ use borrow.Author.Needs.{needs}
 use Rattle.image.proofs.layout.image_length.Statement.{statement}
 use Rattle.image.proofs.layout.image_length.Tie as tie
 
-costs-start-requires : tie.Need-costs-start-requires
-costs-start-requires c κs = search needs
-
-cost-count-requires : tie.Need-cost-count-requires
-cost-count-requires c κs = search needs
-
-mul-result : tie.Need-mul-result
-mul-result c = search needs
-
 add-result : tie.Need-add-result
 unfolding costs-start
 add-result c = omega (arith)
@@ -24,4 +15,4 @@ returns c = omega (arith)
 
 pub image-length-spec : {M : Type 1} → statement M
 image-length-spec =
-    tie.close (tie.spec costs-start-requires cost-count-requires mul-result add-result returns)
+    tie.close (tie.spec (λ c κs. search needs) (λ c κs. search needs) (λ c. search needs) add-result returns)

@@ -10,15 +10,9 @@ use borrow.Author.Needs.{needs}
 use Rattle.image.proofs.rows.check_arc.Statement.{statement}
 use Rattle.image.proofs.rows.check_arc.Tie as tie
 
-is-node-requires : tie.Need-is-node-requires
-is-node-requires c κs = search needs
-
 returns : tie.Need-returns
 unfolding arc-fault row _then_
 returns c = simp (sym (c .before .is-node .ensures) ∙ not-true _ (c .if1 .taken))
-
-is-node-requires-2 : tie.Need-is-node-requires-2
-is-node-requires-2 c κs = search needs
 
 returns-2 : tie.Need-returns-2
 unfolding arc-fault row _then_
@@ -68,9 +62,9 @@ pub check-arc-spec : {M : Type 1} → statement M
 check-arc-spec =
     tie.close
     (tie.spec
-    is-node-requires
+    (λ c κs. search needs)
     returns
-    is-node-requires-2
+    (λ c κs. search needs)
     returns-2
     returns-3
     returns-4

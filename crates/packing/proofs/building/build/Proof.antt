@@ -17,20 +17,11 @@ use borrow.Author.Needs.{needs}
 use Rattle.packing.proofs.building.build.Statement.{statement}
 use Rattle.packing.proofs.building.build.Tie as tie
 
-check-lists-requires : tie.Need-check-lists-requires
-check-lists-requires c κs = search needs
-
-enum-known-lists : tie.Need-enum-known-lists
-enum-known-lists c = search needs
-
 returns : tie.Need-returns
 unfolding build-outcome
 returns c = let k = c .before .before .before in
     let f = sym (k .check-lists .ensures) ∙ ap verdict (c .before .lists .given .1) in
     (sym (outcome-fault _ f), (sym (after-fault _ _ f), λ e. reads-back _ _ _ _ _ (build-sound _ _ _ _ _ e)))
-
-enum-told : tie.Need-enum-told
-enum-told c = search needs
 
 -- past the check the lists are sound, and the image has room for them
 abbrev start : tie.After-enum-told → tie.Start
@@ -62,9 +53,6 @@ costs-start-requires : tie.Need-costs-start-requires
 unfolding half
 costs-start-requires c κs = passes (c .before .before .before .before .before .before .before .before .before) .ranges .arcs-to
 
-cast-write-costs : tie.Need-cast-write-costs
-cast-write-costs c = search needs
-
 write-costs-requires : tie.Need-write-costs-requires
 unfolding half
 write-costs-requires c κs = let e = c .before .before .before .before .before .before .before .before .before .before in
@@ -75,9 +63,6 @@ write-costs-requires c κs = let e = c .before .before .before .before .before .
 image-length-requires : tie.Need-image-length-requires
 unfolding half
 image-length-requires c κs = let r = passes (c .before .before .before .before .before .before .before .before .before .before .before .before .before) .ranges in (r .arcs-to, r .columns-to)
-
-same-length : tie.Need-same-length
-same-length c = search needs
 
 returns-2 : tie.Need-returns-2
 unfolding build-outcome half
@@ -96,16 +81,16 @@ pub build-spec : {M : Type 1} → statement M
 build-spec =
     tie.close
     (tie.spec
-    check-lists-requires
-    enum-known-lists
+    (λ c κs. search needs)
+    (λ c. search needs)
     returns
-    enum-told
+    (λ c. search needs)
     cast-m
     write-header-requires
     write-nodes-requires
     costs-start-requires
-    cast-write-costs
+    (λ c. search needs)
     write-costs-requires
     image-length-requires
-    same-length
+    (λ c. search needs)
     returns-2)

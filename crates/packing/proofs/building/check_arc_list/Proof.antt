@@ -65,12 +65,6 @@ here c = omega (arith, length-pairs (start c .args .m) (start c .args .nodes .no
 read : (c : tie.After-check-arc Inv-loop μ-loop) → getD (pairs (start c .args .m) (start c .args .nodes .now)) (head c .loop .i) (0, 0) ≡ (getD (start c .args .nodes .now) (2 * head c .loop .i) 0, getD (start c .args .nodes .now) (2 * head c .loop .i + 1) 0)
 read c = pairs-at (start c .args .m) (start c .args .nodes .now) (head c .loop .i) (omega arith)
 
-enum-told : tie.Need-enum-told Inv-loop μ-loop
-enum-told c = search needs
-
-enum-told-2 : tie.Need-enum-told-2 Inv-loop μ-loop
-enum-told-2 c = search needs
-
 returns : tie.Need-returns Inv-loop μ-loop
 returns c = let k = c .before .before in
     let e = ap verdict (c .enum-told2 .given .1) in
@@ -108,8 +102,8 @@ check-arc-list-spec =
     cast-head
     cast-check-arc
     check-arc-requires
-    enum-told
-    enum-told-2
+    (λ c. search needs)
+    (λ c. search needs)
     returns
     add-i
     loop-less

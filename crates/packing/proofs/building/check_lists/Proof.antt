@@ -20,12 +20,6 @@ unfolding half
 returns c = let a = c .before .before .before .args in
     sym (row-3 (a .n) (a .k) _ _ _ (too-many (a .n) _ (a .k) (c .if1 .taken)))
 
-cast-in-range : tie.Need-cast-in-range
-cast-in-range c = search needs
-
-in-range-requires : tie.Need-in-range-requires
-in-range-requires c κs = search needs
-
 returns-2 : tie.Need-returns-2
 unfolding half
 returns-2 c = sym (row-3 _ _ _ _ _ (sym (c .before .in-range .ensures) ∙ not-true _ (c .if2 .taken)))
@@ -41,29 +35,14 @@ ranges c = sym (c .before .in-range .ensures) ∙ not-false _ (c .if2 .left)
 returns-3 : tie.Need-returns-3
 returns-3 c = sym (row-4-odd _ _ _ _ _ (ranges (c .before)) (c .if3 .taken))
 
-cast-cost-count : tie.Need-cast-cost-count
-cast-cost-count c = search needs
-
 cost-count-requires : tie.Need-cost-count-requires
 unfolding half
 cost-count-requires c κs = let r = in-range-true (ranges (c .before)) in (r .arcs-to, r .columns-to)
-
-cast-if4 : tie.Need-cast-if4
-cast-if4 c = search needs
 
 returns-4 : tie.Need-returns-4
 unfolding half
 returns-4 c = let e = c .before .before in
     sym (row-4-costs _ _ _ _ _ (ranges (e .before)) (e .if3 .left) (λ w. c .if4 .taken (w ∙ sym (c .before .cost-count .ensures .0))))
-
-check-arc-list-requires : tie.Need-check-arc-list-requires
-check-arc-list-requires c κs = search needs
-
-enum-told : tie.Need-enum-told
-enum-told c = search needs
-
-enum-told-2 : tie.Need-enum-told-2
-enum-told-2 c = search needs
 
 -- so the lists decide, and after them the room
 abbrev origin : tie.Else4 → tie.Start
@@ -94,30 +73,15 @@ returns-5 c = let k = c .before .before in
     let e = ap verdict (c .enum-told2 .given .1) in
     e ∙ sym (decides (k .before) ∙ then-fault _ (then-fault _ (sym (k .check-arc-list .ensures) ∙ e)))
 
-check-cost-list-requires : tie.Need-check-cost-list-requires
-check-cost-list-requires c κs = search needs
-
-enum-told-3 : tie.Need-enum-told-3
-enum-told-3 c = search needs
-
-enum-told-4 : tie.Need-enum-told-4
-enum-told-4 c = search needs
-
 returns-6 : tie.Need-returns-6
 unfolding lists-fault
 returns-6 c = let k = c .before .before in
     let e = ap verdict (c .enum-told4 .given .1) in
     e ∙ sym (decides (k .before .before .before .before) ∙ then-fault _ (then-next _ (arcs-sound (k .before)) ∙ sym (k .check-cost-list .ensures) ∙ e))
 
-cast-image-length : tie.Need-cast-image-length
-cast-image-length c = search needs
-
 image-length-requires : tie.Need-image-length-requires
 unfolding half
 image-length-requires c κs = let r = in-range-true (ranges (passed c .before .before .before)) in (r .arcs-to, r .columns-to)
-
-cast-if5 : tie.Need-cast-if5
-cast-if5 c = search needs
 
 returns-7 : tie.Need-returns-7
 unfolding row half
@@ -134,24 +98,24 @@ check-lists-spec =
     tie.close
     (tie.spec
     returns
-    cast-in-range
-    in-range-requires
+    (λ c. search needs)
+    (λ c κs. search needs)
     returns-2
     returns-3
-    cast-cost-count
+    (λ c. search needs)
     cost-count-requires
-    cast-if4
+    (λ c. search needs)
     returns-4
-    check-arc-list-requires
-    enum-told
-    enum-told-2
+    (λ c κs. search needs)
+    (λ c. search needs)
+    (λ c. search needs)
     returns-5
-    check-cost-list-requires
-    enum-told-3
-    enum-told-4
+    (λ c κs. search needs)
+    (λ c. search needs)
+    (λ c. search needs)
     returns-6
-    cast-image-length
+    (λ c. search needs)
     image-length-requires
-    cast-if5
+    (λ c. search needs)
     returns-7
     returns-8)

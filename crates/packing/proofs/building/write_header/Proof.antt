@@ -7,39 +7,6 @@ use borrow.Author.Needs.{needs}
 use Rattle.packing.proofs.building.write_header.Statement.{statement}
 use Rattle.packing.proofs.building.write_header.Tie as tie
 
-write16-requires : tie.Need-write16-requires
-write16-requires c κs = search needs
-
-write16-requires-2 : tie.Need-write16-requires-2
-write16-requires-2 c κs = search needs
-
-write16-requires-3 : tie.Need-write16-requires-3
-write16-requires-3 c κs = search needs
-
-write16-requires-4 : tie.Need-write16-requires-4
-write16-requires-4 c κs = search needs
-
-write32-requires : tie.Need-write32-requires
-write32-requires c κs = search needs
-
-costs-start-requires : tie.Need-costs-start-requires
-costs-start-requires c κs = search needs
-
-write32-requires-2 : tie.Need-write32-requires-2
-write32-requires-2 c κs = search needs
-
-image-length-requires : tie.Need-image-length-requires
-image-length-requires c κs = search needs
-
-write32-requires-3 : tie.Need-write32-requires-3
-write32-requires-3 c κs = search needs
-
-write32-requires-4 : tie.Need-write32-requires-4
-write32-requires-4 c κs = search needs
-
-same-length : tie.Need-same-length
-same-length c = search needs
-
 returns : tie.Need-returns
 returns c = let c₈ = c .before .before in
     let c₇ = c₈ .before .before .before .before in
@@ -59,15 +26,15 @@ pub write-header-spec : {M : Type 1} → statement M
 write-header-spec =
     tie.close
     (tie.spec
-    write16-requires
-    write16-requires-2
-    write16-requires-3
-    write16-requires-4
-    write32-requires
-    costs-start-requires
-    write32-requires-2
-    image-length-requires
-    write32-requires-3
-    write32-requires-4
-    same-length
+    (λ c κs. search needs)
+    (λ c κs. search needs)
+    (λ c κs. search needs)
+    (λ c κs. search needs)
+    (λ c κs. search needs)
+    (λ c κs. search needs)
+    (λ c κs. search needs)
+    (λ c κs. search needs)
+    (λ c κs. search needs)
+    (λ c κs. search needs)
+    (λ c. search needs)
     returns)

@@ -21,18 +21,6 @@ use borrow.Author.Needs.{needs}
 use Rattle.packing.proofs.unpacking.unpack.Statement.{statement}
 use Rattle.packing.proofs.unpacking.unpack.Tie as tie
 
-check-requires : tie.Need-check-requires
-check-requires c κs = search needs
-
-enum-known-answer : tie.Need-enum-known-answer
-enum-known-answer c = search needs
-
-enum-told : tie.Need-enum-told
-enum-told c = search needs
-
-refusal-requires : tie.Need-refusal-requires
-refusal-requires c κs = search needs
-
 -- an accepted image's lists write it again, since its elements are bytes
 again : (c : tie.After-slice-known) (x y : ℕ) → unpack-fault (c .before .before .args .image .now) x y ≡ sound → WritesAgain (c .before .before .args .image .now)
 unfolding unpack-fault
@@ -65,17 +53,8 @@ length-is c = let s = c .answer .given .0 .0 in omega (arith, sizes-bound c .2, 
 holds-header : (c : tie.After-answer) → 24 ≤ length (image c)
 holds-header c = omega (arith, length-is c)
 
-cast-nodes-needed : tie.Need-cast-nodes-needed
-cast-nodes-needed c = search needs
-
-mul-nodes-needed : tie.Need-mul-nodes-needed
-mul-nodes-needed c = search needs
-
 cost-count-requires : tie.Need-cost-count-requires
 cost-count-requires c κs = let e = sizes-bound (c .before) in (e .0, e .1)
-
-cast-costs-needed : tie.Need-cast-costs-needed
-cast-costs-needed c = search needs
 
 returns-2 : tie.Need-returns-2
 unfolding unpack-outcome
@@ -97,9 +76,6 @@ sub-read-nodes c = holds-header (c .before .before .before .before)
 part-read-nodes-start : tie.Need-part-read-nodes-start
 part-read-nodes-start c = holds-header (c .before .before .before .before)
 
-part-read-nodes-end : tie.Need-part-read-nodes-end
-part-read-nodes-end c = search needs
-
 read-nodes-requires : tie.Need-read-nodes-requires
 read-nodes-requires c κs = let a = c .before .before .before .before .before .before in
     (rw to-end (omega (arith, length-drop 24 (image a), length-is a)), c .before .before .before .if1 .left)
@@ -107,29 +83,17 @@ read-nodes-requires c κs = let a = c .before .before .before .before .before .b
 costs-start-requires : tie.Need-costs-start-requires
 costs-start-requires c κs = sizes-bound (c .before .before .before .before .before .before .before .before .before) .0
 
-cast-start : tie.Need-cast-start
-cast-start c = search needs
-
 sub-read-costs : tie.Need-sub-read-costs
 sub-read-costs c = omega (arith, length-is (c .before .before .before .before .before .before .before .before .before .before), c .costs-start .ensures, costs-start-is (c .before .before .before .before .before .before .before .before .before .before .answer .given .0 .0 .m))
 
 part-read-costs-start : tie.Need-part-read-costs-start
 part-read-costs-start c = omega (arith, length-is (c .before .before .before .before .before .before .before .before .before .before), c .costs-start .ensures, costs-start-is (c .before .before .before .before .before .before .before .before .before .before .answer .given .0 .0 .m))
 
-part-read-costs-end : tie.Need-part-read-costs-end
-part-read-costs-end c = search needs
-
 read-costs-requires : tie.Need-read-costs-requires
 read-costs-requires c κs = let s = c .before .before in
     let n = c .before .before .before .before .before .before .before .before .before .before in
     let a = n .before .before in
     (rw to-end (omega (arith, length-drop (s .costs-start .result) (image a), length-is a, s .costs-start .ensures, costs-start-is (a .answer .given .0 .0 .m), n .cost-count .ensures .0)), c .before .before .before .before .before .before .before .before .if2 .left)
-
-same-length : tie.Need-same-length
-same-length c = search needs
-
-same-length-2 : tie.Need-same-length-2
-same-length-2 c = search needs
 
 returns-4 : tie.Need-returns-4
 unfolding unpack-outcome
@@ -152,27 +116,27 @@ pub unpack-spec : {M : Type 1} → statement M
 unpack-spec =
     tie.close
     (tie.spec
-    check-requires
-    enum-known-answer
-    enum-told
-    refusal-requires
+    (λ c κs. search needs)
+    (λ c. search needs)
+    (λ c. search needs)
+    (λ c κs. search needs)
     returns
-    cast-nodes-needed
-    mul-nodes-needed
+    (λ c. search needs)
+    (λ c. search needs)
     cost-count-requires
-    cast-costs-needed
+    (λ c. search needs)
     returns-2
     returns-3
     sub-read-nodes
     part-read-nodes-start
-    part-read-nodes-end
+    (λ c. search needs)
     read-nodes-requires
     costs-start-requires
-    cast-start
+    (λ c. search needs)
     sub-read-costs
     part-read-costs-start
-    part-read-costs-end
+    (λ c. search needs)
     read-costs-requires
-    same-length
-    same-length-2
+    (λ c. search needs)
+    (λ c. search needs)
     returns-4)

@@ -52,15 +52,6 @@ choice : (c : tie.After-known-told) → let s = entry (told c) in
     Choice (net s) (s .args .overall .now) (Unmarked (s .args .used .now) (s .args .barred .now)) (getD (s .args .path .now) (s .args .d - 1) 0) (c .before .y .given .0 .1 .0) (c .before .y .given .0 .0)
 choice c = let n = problem (entry (told c)) .network in chosen-node (told c .least-exit .ensures .1 _ _ (n .arcs) (n .star)) (c .before .y .given .1)
 
-sub-v : tie.Need-sub-v
-sub-v c = search needs
-
-mul-v : tie.Need-mul-v
-mul-v c = search needs
-
-slice-read-v : tie.Need-slice-read-v
-slice-read-v c = search needs
-
 cast-v : tie.Need-cast-v
 cast-v c = omega (arith, last-place (start c), problem (start c) .start-to, filled (start c) .kept .few)
 
@@ -69,15 +60,6 @@ least-exit-requires c κs = let s = start (c .before) in
     let P = problem s in
     let b = deviation s .begun in
     rw (P .small .long) (network-heads (P .network), ((network-starts (P .network), last-place s), (P .small, (b .laid .flags-long, b .barred-long))))
-
-enum-known-y : tie.Need-enum-known-y
-enum-known-y c = search needs
-
-enum-told : tie.Need-enum-told
-enum-told c = search needs
-
-same-length : tie.Need-same-length
-same-length c = search needs
 
 returns : tie.Need-returns
 returns c = let x = c .before .before in
@@ -88,9 +70,6 @@ returns c = let x = c .before .before in
 add-bound : tie.Need-add-bound
 add-bound c = let s = entry (told c) in omega (arith, choice-small (problem s) (choice c), deviation s .small)
 
-same-length-2 : tie.Need-same-length-2
-same-length-2 c = search needs
-
 returns-2 : tie.Need-returns-2
 returns-2 c = let k = c .before in
     let s = entry (told k) in
@@ -98,12 +77,6 @@ returns-2 c = let k = c .before in
 
 too-dear-requires : tie.Need-too-dear-requires
 too-dear-requires c κs = let F = filled (entry (told (c .before .before))) in (F .kept, F .some)
-
-same-length-3 : tie.Need-same-length-3
-same-length-3 c = search needs
-
-same-length-4 : tie.Need-same-length-4
-same-length-4 c = search needs
 
 returns-3 : tie.Need-returns-3
 returns-3 c = let x = c .before in
@@ -118,15 +91,6 @@ enter-requires c κs = let k = c .before .before .before .before .before .before
     let s = entry (told k) in
     (problem s, (filled s, (deviation s, choice k)))
 
-same-length-5 : tie.Need-same-length-5
-same-length-5 c = search needs
-
-same-length-6 : tie.Need-same-length-6
-same-length-6 c = search needs
-
-same-length-7 : tie.Need-same-length-7
-same-length-7 c = search needs
-
 returns-4 : tie.Need-returns-4
 returns-4 c = let e = c .before .before .before .before .before .before in
     (e .enter .ensures .0, (e .enter .ensures .1 .0, e .enter .ensures .1 .1 _))
@@ -135,24 +99,24 @@ pub consider-spec : {M : Type 1} → statement M
 consider-spec =
     tie.close
     (tie.spec
-    sub-v
-    mul-v
-    slice-read-v
+    (λ c. search needs)
+    (λ c. search needs)
+    (λ c. search needs)
     cast-v
     least-exit-requires
-    enum-known-y
-    enum-told
-    same-length
+    (λ c. search needs)
+    (λ c. search needs)
+    (λ c. search needs)
     returns
     add-bound
-    same-length-2
+    (λ c. search needs)
     returns-2
     too-dear-requires
-    same-length-3
-    same-length-4
+    (λ c. search needs)
+    (λ c. search needs)
     returns-3
     enter-requires
-    same-length-5
-    same-length-6
-    same-length-7
+    (λ c. search needs)
+    (λ c. search needs)
+    (λ c. search needs)
     returns-4)

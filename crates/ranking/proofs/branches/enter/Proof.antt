@@ -87,18 +87,6 @@ first-path-requires c κs = let s = entry c in
     let D = deviation s in
     rw (D .begun .laid .flags-long) (P .network, (D .begun, (goal-ahead P D, ((still-consistent P D, P .small), s .pre .1 .1 .1))))
 
-enum-known-len : tie.Need-enum-known-len
-enum-known-len c = search needs
-
-enum-told : tie.Need-enum-told
-enum-told c = search needs
-
-same-length : tie.Need-same-length
-same-length c = search needs
-
-same-length-2 : tie.Need-same-length-2
-same-length-2 c = search needs
-
 returns : tie.Need-returns
 returns c = let x = searched (c .before .before) in
     let s = start x in
@@ -117,15 +105,6 @@ place-for-requires : tie.Need-place-for-requires
 place-for-requires c κs = let s = start (told (c .before .before)) in
     let F = filled s in
     ((kept-readable (F .kept), F .entered .family), omega (arith, F .entered .border, count-is s))
-
-same-length-3 : tie.Need-same-length-3
-same-length-3 c = search needs
-
-same-length-4 : tie.Need-same-length-4
-same-length-4 c = search needs
-
-same-length-5 : tie.Need-same-length-5
-same-length-5 c = search needs
 
 returns-2 : tie.Need-returns-2
 returns-2 c = let x = placed (c .before) in
@@ -158,15 +137,6 @@ insert-requires c κs = let x = placed (c .before .before .before .before) in
     let s = start (told k) in
     (filled s .kept, (omega (arith, x .place-for .ensures .upper, count-is s), omega (arith, x .place-for .ensures .upper, count-is s, filled s .kept .upto), rest-short (problem s) (deviation s) (made (told k)) (len k) (restored (told k) .kept) (extent k .0) (extent k .1) (first k .0 .member .path)))
 
-same-length-6 : tie.Need-same-length-6
-same-length-6 c = search needs
-
-same-length-7 : tie.Need-same-length-7
-same-length-7 c = search needs
-
-same-length-8 : tie.Need-same-length-8
-same-length-8 c = search needs
-
 returns-3 : tie.Need-returns-3
 returns-3 c = let i = c .before .before in
     let x = placed (i .before .before .before .before .before) in
@@ -192,18 +162,18 @@ enter-spec =
     tie.close
     (tie.spec
     first-path-requires
-    enum-known-len
-    enum-told
-    same-length
-    same-length-2
+    (λ c. search needs)
+    (λ c. search needs)
+    (λ c. search needs)
+    (λ c. search needs)
     returns
     add-cost
     slice-reshare-prefix-place-for
     slice-aggregate-place-for
     place-for-requires
-    same-length-3
-    same-length-4
-    same-length-5
+    (λ c. search needs)
+    (λ c. search needs)
+    (λ c. search needs)
     returns-2
     cast-insert
     cast-insert-2
@@ -212,7 +182,7 @@ enter-spec =
     part-insert-start
     part-insert-end
     insert-requires
-    same-length-6
-    same-length-7
-    same-length-8
+    (λ c. search needs)
+    (λ c. search needs)
+    (λ c. search needs)
     returns-3)

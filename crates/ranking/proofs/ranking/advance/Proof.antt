@@ -26,9 +26,6 @@ filled s = s .pre .1 .0
 searching : (s : tie.Start) → Searching (s .args .n) (net s) (s .args .start) (s .args .goal) (s .args .slots) far (entries (s .args .n) (s .args .work .now) (s .args .count)) (s .args .rank) []
 searching s = s .pre .1 .1 .1
 
-add-if1 : tie.Need-add-if1
-add-if1 c = search needs
-
 returns : tie.Need-returns
 returns c = let s = start (c .before) in
     let F = filled s in
@@ -39,9 +36,6 @@ split-requires : tie.Need-split-requires
 split-requires c κs = let s = start (c .before .before) in
     (problem s, (filled s, due-next (problem s) (filled s) (s .pre .1 .1 .0) (searching s)))
 
-same-length : tie.Need-same-length
-same-length c = search needs
-
 returns-2 : tie.Need-returns-2
 returns-2 c = let E = c .before .before .split .ensures in (E .0, Stage.going (E .1))
 
@@ -49,8 +43,8 @@ pub advance-spec : {M : Type 1} → statement M
 advance-spec =
     tie.close
     (tie.spec
-    add-if1
+    (λ c. search needs)
     returns
     split-requires
-    same-length
+    (λ c. search needs)
     returns-2)

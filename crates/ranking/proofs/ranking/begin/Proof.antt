@@ -43,12 +43,6 @@ begin-in-requires c κs = let e = c .before .before .before .before in
     let p = entry e .pre in
     (p .0, (p .1, blank-parts (few e)))
 
-same-length : tie.Need-same-length
-same-length c = search needs
-
-returns : tie.Need-returns
-returns c = search needs
-
 pub begin-spec : {M : Type 1} → statement M
 begin-spec =
     tie.close
@@ -61,5 +55,5 @@ begin-spec =
     array-borrow-prefix-path
     slice-aggregate-begin-in-3
     begin-in-requires
-    same-length
-    returns)
+    (λ c. search needs)
+    (λ c. search needs))

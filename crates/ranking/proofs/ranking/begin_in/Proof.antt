@@ -28,15 +28,6 @@ space s = s .pre .1 .0
 blank : (s : tie.Start) → Blank (s .args .n) (s .args .used .now) (s .args .barred .now) (s .args .path .now)
 blank s = s .pre .1 .1
 
-reset-requires : tie.Need-reset-requires
-reset-requires c κs = search needs
-
-slice-write-path : tie.Need-slice-write-path
-slice-write-path c = search needs
-
-slice-write-used : tie.Need-slice-write-used
-slice-write-used c = search needs
-
 consider-requires : tie.Need-consider-requires
 consider-requires c κs = let x = c .before .before .before .before .before in
     let s = entry x in
@@ -53,9 +44,6 @@ same-length-2 c = let x = looked c in
     let s = entry (freed x) in
     omega (arith, x .consider .kept .1 .1 .1 .1 .1 .1 .1 .1 .1 .1 .1 .0, length-set (s .args .path .now) 0 (s .args .start))
 
-same-length-3 : tie.Need-same-length-3
-same-length-3 c = search needs
-
 returns : tie.Need-returns
 returns c = let x = looked c in
     let y = freed x in
@@ -67,11 +55,11 @@ pub begin-in-spec : {M : Type 1} → statement M
 begin-in-spec =
     tie.close
     (tie.spec
-    reset-requires
-    slice-write-path
-    slice-write-used
+    (λ c κs. search needs)
+    (λ c. search needs)
+    (λ c. search needs)
     consider-requires
     same-length
     same-length-2
-    same-length-3
+    (λ c. search needs)
     returns)

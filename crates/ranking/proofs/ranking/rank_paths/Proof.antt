@@ -34,9 +34,6 @@ net s = graph (s .args .tails .now) (s .args .heads .now) (s .args .weights .now
 problem : (s : tie.Start Inv-loop μ-loop) → Problem (s .args .n) (s .args .start) (s .args .goal) (s .args .tails .now) (s .args .heads .now) (s .args .weights .now) (s .args .first-out .now) (s .args .first-in .now) (s .args .next-in .now) (s .args .overall .now)
 problem s = s .pre .0
 
-begin-requires : tie.Need-begin-requires Inv-loop μ-loop
-begin-requires c κs = search needs
-
 loop-holds : tie.Need-loop-holds Inv-loop μ-loop
 loop-holds c = let G = first c .begin .ensures in (G .filled, Stage.going (G .search), refl, refl)
 
@@ -87,7 +84,7 @@ rank-paths-spec =
     (tie.spec
     Inv-loop
     μ-loop
-    begin-requires
+    (λ c κs. search needs)
     loop-holds
     advance-requires
     add-j

@@ -86,18 +86,6 @@ set-bars-requires-2 c κs = let y = looked (c .before .before) in
     let F′ = changed-filled r F C in
     ((part-rooted r F′, omega (arith, deviation x .begun .barred-long)), rw (entry-is r F′, same-entry r F C) (along s .lower, short s))
 
-same-length : tie.Need-same-length
-same-length c = search needs
-
-same-length-2 : tie.Need-same-length-2
-same-length-2 c = search needs
-
-same-length-3 : tie.Need-same-length-3
-same-length-3 c = search needs
-
-same-length-4 : tie.Need-same-length-4
-same-length-4 c = search needs
-
 returns : tie.Need-returns
 returns c = let z = c .before .before in
     let y = looked (z .before .before .before) in
@@ -116,8 +104,8 @@ deviate-spec =
     add-consider-2
     consider-requires
     set-bars-requires-2
-    same-length
-    same-length-2
-    same-length-3
-    same-length-4
+    (λ c. search needs)
+    (λ c. search needs)
+    (λ c. search needs)
+    (λ c. search needs)
     returns)

@@ -43,12 +43,6 @@ split-in-requires c κs = let e = c .before .before .before .before in
     let p = entry e .pre in
     (p .0, (p .1 .0, (blank-parts (few e), p .1 .1)))
 
-same-length : tie.Need-same-length
-same-length c = search needs
-
-returns : tie.Need-returns
-returns c = search needs
-
 pub split-spec : {M : Type 1} → statement M
 split-spec =
     tie.close
@@ -61,5 +55,5 @@ split-spec =
     array-borrow-prefix-path
     slice-aggregate-split-in-3
     split-in-requires
-    same-length
-    returns)
+    (λ c. search needs)
+    (λ c. search needs))

@@ -125,18 +125,6 @@ deviations-requires c κs = let x = c .before .before .before .before in
     let s = entry (first (measured (laid (flagged x)))) in
     (problem s, (due-filled (problem s) (filled s) (due s), (along x, shared-is (first (measured (laid (flagged x)))))))
 
-same-length : tie.Need-same-length
-same-length c = search needs
-
-same-length-2 : tie.Need-same-length-2
-same-length-2 c = search needs
-
-same-length-3 : tie.Need-same-length-3
-same-length-3 c = search needs
-
-same-length-4 : tie.Need-same-length-4
-same-length-4 c = search needs
-
 returns : tie.Need-returns
 returns c = let d = c .before .before .before .before .before .before .before .before in
     let x = measured (laid (flagged (counted d))) in
@@ -155,8 +143,8 @@ split-in-spec =
     mark-requires
     cost-at-requires
     deviations-requires
-    same-length
-    same-length-2
-    same-length-3
-    same-length-4
+    (λ c. search needs)
+    (λ c. search needs)
+    (λ c. search needs)
+    (λ c. search needs)
     returns)

@@ -14,26 +14,11 @@ start c = c .before .before .before .before .before .before
 before-last : (s : tie.Start) → getD (s .args .path .now) (s .args .d - 1) 0 < length (s .args .used .now)
 before-last s = laid-place (s .args .d - 1) (omega (arith, s .pre .1 .1)) (s .pre .1 .0)
 
-mul-y : tie.Need-mul-y
-mul-y c = search needs
-
-shared-slice-read-y : tie.Need-shared-slice-read-y
-shared-slice-read-y c = search needs
-
 cast-used : tie.Need-cast-used
 cast-used c = let s = start c in omega (arith, laid-place (s .args .d) (omega arith) (s .pre .1 .0), s .good)
 
 slice-write-used : tie.Need-slice-write-used
 slice-write-used c = let s = start c in omega (arith, laid-place (s .args .d) (omega arith) (s .pre .1 .0))
-
-sub-arc-weight : tie.Need-sub-arc-weight
-sub-arc-weight c = search needs
-
-mul-arc-weight : tie.Need-mul-arc-weight
-mul-arc-weight c = search needs
-
-shared-slice-read-arc-weight : tie.Need-shared-slice-read-arc-weight
-shared-slice-read-arc-weight c = search needs
 
 cast-arc-weight : tie.Need-cast-arc-weight
 cast-arc-weight c = omega (arith, before-last (start (c .before)), start (c .before) .good)
@@ -44,12 +29,6 @@ arc-weight-requires c κs = let s = start (c .before) in
     let v = before-last s in
     (omega (arith, p .1 .long), p .1 .within (getD (s .args .path .now) (s .args .d - 1) 0 + 1) (omega arith), p .0 .weights-long)
 
-cast-result : tie.Need-cast-result
-cast-result c = search needs
-
-same-length : tie.Need-same-length
-same-length c = search needs
-
 returns : tie.Need-returns
 returns c = let s = start (c .before .before) in (laid-less refl (s .pre .1 .0), λ n ts A S k. c .arc-weight .ensures n ts A S k)
 
@@ -57,15 +36,15 @@ pub step-back-spec : {M : Type 1} → statement M
 step-back-spec =
     tie.close
     (tie.spec
-    mul-y
-    shared-slice-read-y
+    (λ c. search needs)
+    (λ c. search needs)
     cast-used
     slice-write-used
-    sub-arc-weight
-    mul-arc-weight
-    shared-slice-read-arc-weight
+    (λ c. search needs)
+    (λ c. search needs)
+    (λ c. search needs)
     cast-arc-weight
     arc-weight-requires
-    cast-result
-    same-length
+    (λ c. search needs)
+    (λ c. search needs)
     returns)

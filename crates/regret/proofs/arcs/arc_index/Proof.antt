@@ -5,15 +5,6 @@ use Rattle.exits.proofs.StarLaws.{found-at, none-found}
 use Rattle.regret.proofs.arcs.arc_index.Statement.{statement}
 use Rattle.regret.proofs.arcs.arc_index.Tie as tie
 
-find-arc-requires : tie.Need-find-arc-requires
-find-arc-requires c κs = search needs
-
-enum-known-found : tie.Need-enum-known-found
-enum-known-found c = search needs
-
-enum-told : tie.Need-enum-told
-enum-told c = search needs
-
 returns : tie.Need-returns
 returns c = λ n ts ws A S l. let a = linked-at A _ _ l in
     absurd (none-found (c .before .before .find-arc .ensures) (c .enum-told .given .1) S (a .0) (a .1))
@@ -24,4 +15,4 @@ returns-2 c = λ n ts ws A S l. found-at (c .before .before .before .find-arc .e
 pub arc-index-spec : {M : Type 1} → statement M
 arc-index-spec =
     tie.close
-    (tie.spec find-arc-requires enum-known-found enum-told returns returns-2)
+    (tie.spec (λ c κs. search needs) (λ c. search needs) (λ c. search needs) returns returns-2)

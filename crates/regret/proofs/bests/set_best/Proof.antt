@@ -18,9 +18,6 @@ called c = c .before .before .before
 inside : (c : tie.After-slice-known2) → ((start c .args .u - 1) * length (start c .args .tails .now) + length (start c .args .tails .now) ≤ length (start c .args .costs .now)) × (length (start c .args .costs .now) ≤ 8000)
 inside c = let p = start c .pre in part-inside (p .0) (p .1 .0) (p .1 .1)
 
-sub-from : tie.Need-sub-from
-sub-from c = search needs
-
 mul-from : tie.Need-mul-from
 mul-from c = omega (arith, inside c)
 
@@ -29,12 +26,6 @@ add-to c = omega (arith, inside c)
 
 mul-least : tie.Need-mul-least
 mul-least c = omega (arith, inside c)
-
-sub-least : tie.Need-sub-least
-sub-least c = search needs
-
-part-least-start : tie.Need-part-least-start
-part-least-start c = search needs
 
 part-least-end : tie.Need-part-least-end
 part-least-end c = inside c .0
@@ -47,24 +38,6 @@ mul-bests : tie.Need-mul-bests
 mul-bests c = let p = start (called (c .before .before)) .pre in
     omega (arith, p .0 .start-to, nodes-few (p .0) (p .1 .0) (p .1 .1))
 
-slice-read-bests : tie.Need-slice-read-bests
-slice-read-bests c = search needs
-
-sub-bests : tie.Need-sub-bests
-sub-bests c = search needs
-
-mul-bests-2 : tie.Need-mul-bests-2
-mul-bests-2 c = search needs
-
-slice-write-bests : tie.Need-slice-write-bests
-slice-write-bests c = search needs
-
-same-length : tie.Need-same-length
-same-length c = search needs
-
-same-length-2 : tie.Need-same-length-2
-same-length-2 c = search needs
-
 returns : tie.Need-returns
 returns c = let l = c .before .before .before in
     let s = start (called l) in
@@ -75,19 +48,19 @@ pub set-best-spec : {M : Type 1} → statement M
 set-best-spec =
     tie.close
     (tie.spec
-    sub-from
+    (λ c. search needs)
     mul-from
     add-to
     mul-least
-    sub-least
-    part-least-start
+    (λ c. search needs)
+    (λ c. search needs)
     part-least-end
     least-requires
     mul-bests
-    slice-read-bests
-    sub-bests
-    mul-bests-2
-    slice-write-bests
-    same-length
-    same-length-2
+    (λ c. search needs)
+    (λ c. search needs)
+    (λ c. search needs)
+    (λ c. search needs)
+    (λ c. search needs)
+    (λ c. search needs)
     returns)

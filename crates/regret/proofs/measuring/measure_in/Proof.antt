@@ -34,21 +34,12 @@ summed : (c : tie.After-path-arcs) → Summed (length (start c .args .tails .now
 summed c = let s = start c in
     summed-path (s .args .bests .now) (s .pre .0) (s .pre .1 .0) (room c) (c .path-arcs .ensures) (s .pre .1 .1 .0 .1) (s .pre .1 .1 .1)
 
-sub-steps : tie.Need-sub-steps
-sub-steps c = search needs
-
-slice-reshare-prefix-greatest-excess : tie.Need-slice-reshare-prefix-greatest-excess
-slice-reshare-prefix-greatest-excess c = search needs
-
 slice-aggregate-greatest-excess : tie.Need-slice-aggregate-greatest-excess
 slice-aggregate-greatest-excess c = let p = c .before .before .before in
     sym (length-take-le (steps p) (found p) (omega (arith, room p)))
 
 greatest-excess-requires : tie.Need-greatest-excess-requires
 greatest-excess-requires c κs = summed (c .before .before .before)
-
-same-length : tie.Need-same-length
-same-length c = search needs
 
 returns : tie.Need-returns
 returns c = let p = c .before .before .before .before in
@@ -62,9 +53,9 @@ measure-in-spec =
     tie.close
     (tie.spec
     path-arcs-requires
-    sub-steps
-    slice-reshare-prefix-greatest-excess
+    (λ c. search needs)
+    (λ c. search needs)
     slice-aggregate-greatest-excess
     greatest-excess-requires
-    same-length
+    (λ c. search needs)
     returns)

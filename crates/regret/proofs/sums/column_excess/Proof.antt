@@ -17,32 +17,14 @@ start c = c .before .before .before
 inside : (c : tie.After-shared-slice-known3) → ((start c .args .u - 1) * start c .args .m + start c .args .m ≤ length (start c .args .costs .now)) × (length (start c .args .costs .now) ≤ 8000)
 inside c = let p = start c .pre in column-inside (start c .args .costs .now) (p .0 .columns-to) (p .0 .arcs-few) (p .0 .costs-long) (p .1 .0) (p .1 .1)
 
-sub-from : tie.Need-sub-from
-sub-from c = search needs
-
 mul-from : tie.Need-mul-from
 mul-from c = omega (arith, inside c)
 
 add-to : tie.Need-add-to
 add-to c = omega (arith, inside c)
 
-sub-best : tie.Need-sub-best
-sub-best c = search needs
-
-mul-best : tie.Need-mul-best
-mul-best c = search needs
-
-shared-slice-read-best : tie.Need-shared-slice-read-best
-shared-slice-read-best c = search needs
-
 mul-arc-sum : tie.Need-mul-arc-sum
 mul-arc-sum c = omega (arith, inside (c .before))
-
-sub-arc-sum : tie.Need-sub-arc-sum
-sub-arc-sum c = search needs
-
-part-arc-sum-start : tie.Need-part-arc-sum-start
-part-arc-sum-start c = search needs
 
 part-arc-sum-end : tie.Need-part-arc-sum-end
 part-arc-sum-end c = inside (c .before) .0
@@ -74,15 +56,15 @@ pub column-excess-spec : {M : Type 1} → statement M
 column-excess-spec =
     tie.close
     (tie.spec
-    sub-from
+    (λ c. search needs)
     mul-from
     add-to
-    sub-best
-    mul-best
-    shared-slice-read-best
+    (λ c. search needs)
+    (λ c. search needs)
+    (λ c. search needs)
     mul-arc-sum
-    sub-arc-sum
-    part-arc-sum-start
+    (λ c. search needs)
+    (λ c. search needs)
     part-arc-sum-end
     arc-sum-requires
     sub-result

@@ -6,18 +6,6 @@ use Rattle.replies.specs.Replies.{reply-of}
 use Rattle.replies.proofs.answers.of_labelled.Statement.{statement}
 use Rattle.replies.proofs.answers.of_labelled.Tie as tie
 
-enum-told : tie.Need-enum-told
-enum-told c = search needs
-
-result-requires : tie.Need-result-requires
-result-requires c κs = search needs
-
-enum-known-answer : tie.Need-enum-known-answer
-enum-known-answer c = search needs
-
-of-refusal-requires : tie.Need-of-refusal-requires
-of-refusal-requires c κs = search needs
-
 returns : tie.Need-returns
 returns c = c .result .ensures ∙ ap (λ x. reply-of (labelled x)) (sym (c .before .enum-told .given .1))
 
@@ -27,4 +15,4 @@ returns-2 c = c .of-refusal .ensures ∙ ap (λ x. reply-of (labelled x)) (sym (
 pub of-labelled-spec : {M : Type 1} → statement M
 of-labelled-spec =
     tie.close
-    (tie.spec enum-told result-requires enum-known-answer of-refusal-requires returns returns-2)
+    (tie.spec (λ c. search needs) (λ c κs. search needs) (λ c. search needs) (λ c κs. search needs) returns returns-2)

@@ -6,18 +6,6 @@ use Rattle.replies.specs.Replies.{reply-of}
 use Rattle.replies.proofs.answers.of_routed.Statement.{statement}
 use Rattle.replies.proofs.answers.of_routed.Tie as tie
 
-enum-known-answer : tie.Need-enum-known-answer
-enum-known-answer c = search needs
-
-result-requires : tie.Need-result-requires
-result-requires c κs = search needs
-
-enum-known-answer-2 : tie.Need-enum-known-answer-2
-enum-known-answer-2 c = search needs
-
-of-refusal-requires : tie.Need-of-refusal-requires
-of-refusal-requires c κs = search needs
-
 returns : tie.Need-returns
 returns c = c .result .ensures ∙ ap (λ x. reply-of (routed x)) (sym (c .before .before .answer .given .1))
 
@@ -28,9 +16,9 @@ pub of-routed-spec : {M : Type 1} → statement M
 of-routed-spec =
     tie.close
     (tie.spec
-    enum-known-answer
-    result-requires
-    enum-known-answer-2
-    of-refusal-requires
+    (λ c. search needs)
+    (λ c κs. search needs)
+    (λ c. search needs)
+    (λ c κs. search needs)
     returns
     returns-2)

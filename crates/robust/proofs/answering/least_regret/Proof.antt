@@ -66,9 +66,6 @@ search-requires : tie.Need-search-requires
 search-requires c κs = let p = start (c .before .before .before .before .before .before .before .before .before) .pre in
     (p .0, (p .1 .0, (p .1 .1 .0, (p .1 .1 .1 .0, p .1 .1 .1 .1 .0))))
 
-length-at-requires : tie.Need-length-at-requires
-length-at-requires c κs = search needs
-
 lay-out-requires : tie.Need-lay-out-requires
 lay-out-requires c κs = let k = c .before .before in
     let x = found k in
@@ -103,7 +100,7 @@ least-regret-spec =
     tie.close
     (tie.spec
     search-requires
-    length-at-requires
+    (λ c κs. search needs)
     lay-out-requires
     state-requires
     same-length

@@ -5,26 +5,11 @@ use Rattle.robust.proofs.VerdictLaws.{told-settled, told-open}
 use Rattle.robust.proofs.answering.state.Statement.{statement}
 use Rattle.robust.proofs.answering.state.Tie as tie
 
-cast-t4 : tie.Need-cast-t4
-cast-t4 c = search needs
-
-cast-t5 : tie.Need-cast-t5
-cast-t5 c = search needs
-
-cast-t7 : tie.Need-cast-t7
-cast-t7 c = search needs
-
 returns : tie.Need-returns
 returns c = (refl, λ p. sym (told-settled p (c .before .before .before .args .found) (c .before .if1 .taken)))
-
-cast-t4-2 : tie.Need-cast-t4-2
-cast-t4-2 c = search needs
-
-cast-t5-2 : tie.Need-cast-t5-2
-cast-t5-2 c = search needs
 
 returns-2 : tie.Need-returns-2
 returns-2 c = (refl, λ p. sym (told-open p (c .before .before .before .before .args .found) (c .before .before .if1 .left)))
 
 pub state-spec : {M : Type 1} → statement M
-state-spec = tie.close (tie.spec cast-t4 cast-t5 cast-t7 returns cast-t4-2 cast-t5-2 returns-2)
+state-spec = tie.close (tie.spec (λ c. search needs) (λ c. search needs) (λ c. search needs) returns (λ c. search needs) (λ c. search needs) returns-2)

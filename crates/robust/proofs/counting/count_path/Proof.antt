@@ -19,9 +19,6 @@ measured c = c .before .before .before
 abbrev net : tie.Start → Net
 net s = network (s .args .n) (length (s .args .bests .now)) (s .args .tails .now) (s .args .heads .now) (s .args .costs .now)
 
-slice-aggregate-measure-at : tie.Need-slice-aggregate-measure-at
-slice-aggregate-measure-at c = search needs
-
 measure-at-requires : tie.Need-measure-at-requires
 measure-at-requires c κs = let p = start c .pre in
     let Q = p .0 .columns in
@@ -39,4 +36,4 @@ returns-2 c = let m = measured (c .before) in
     record { no-more = omega arith; leads = λ ps h e L. counted-same (s .args .rank) L h (m .measure-at .ensures .0 ∙ ap (figure (net s) (s .args .start) (s .args .goal)) (sym e)) (c .if1 .left) }
 
 pub count-path-spec : {M : Type 1} → statement M
-count-path-spec = tie.close (tie.spec slice-aggregate-measure-at measure-at-requires returns returns-2)
+count-path-spec = tie.close (tie.spec (λ c. search needs) measure-at-requires returns returns-2)

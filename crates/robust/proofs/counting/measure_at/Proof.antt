@@ -58,9 +58,6 @@ laid o = let k = sized o in all-laid (k .length-at .result) (route (start k)) (s
 room : (o : tie.After-lay-out) → sized o .length-at .result ≤ length (places o)
 room o = let k = sized o in omega (arith, short k, start k .pre .1 .0 .1, o .lay-out .kept .1 .1 .1 .1 .1 .0)
 
-length-at-requires : tie.Need-length-at-requires
-length-at-requires c κs = search needs
-
 lay-out-requires : tie.Need-lay-out-requires
 lay-out-requires c κs = let k = c .before in
     let s = start k in
@@ -89,13 +86,10 @@ found m = let o = placed m in
     let e = measured (priced s) (take (sized o .length-at .result) (places o)) (m .measure .ensures .0) (m .measure .ensures .1) in
     (e .0 ∙ ap (figure (net s) (s .args .start) (s .args .goal)) (laid o), e .1 ∙ ap (worst (net s) (s .args .start) (s .args .goal)) (laid o))
 
-same-length : tie.Need-same-length
-same-length c = search needs
-
 returns : tie.Need-returns
 returns c = found c
 
 pub measure-at-spec : {M : Type 1} → statement M
 measure-at-spec =
     tie.close
-    (tie.spec length-at-requires lay-out-requires slice-reshare-prefix-measure slice-aggregate-measure measure-requires same-length returns)
+    (tie.spec (λ c κs. search needs) lay-out-requires slice-reshare-prefix-measure slice-aggregate-measure measure-requires (λ c. search needs) returns)

@@ -122,9 +122,6 @@ ended c = last (c .before .before)
 sub-best : tie.Need-sub-best Inv-loop μ-loop
 sub-best c = omega (arith, in-column (start c) .from)
 
-mul-best : tie.Need-mul-best Inv-loop μ-loop
-mul-best c = search needs
-
 shared-slice-read-best : tie.Need-shared-slice-read-best Inv-loop μ-loop
 shared-slice-read-best c = let s = start (c .before) in omega (arith, in-column s .from, in-column s .upto)
 
@@ -177,9 +174,6 @@ cost-at-requires c κs = let t = turn (c .before .before) in entry-readable (pro
 
 add-larger-2 : tie.Need-add-larger-2 Inv-loop μ-loop
 add-larger-2 c = let t = turn (c .before .before .before) in omega (arith, c .cost-at .ensures, due-now t .1, head t .loop .inv .4)
-
-larger-requires : tie.Need-larger-requires Inv-loop μ-loop
-larger-requires c κs = search needs
 
 split-requires : tie.Need-split-requires Inv-loop μ-loop
 split-requires c κs = let x = c .before in
@@ -237,7 +231,7 @@ search-spec =
     Inv-loop
     μ-loop
     sub-best
-    mul-best
+    (λ c. search needs)
     shared-slice-read-best
     add-slots
     begin-requires
@@ -248,7 +242,7 @@ search-spec =
     add-larger
     cost-at-requires
     add-larger-2
-    larger-requires
+    (λ c κs. search needs)
     split-requires
     add-j
     loop-less

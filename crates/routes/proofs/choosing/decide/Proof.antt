@@ -15,27 +15,9 @@ use Rattle.routes.proofs.choosing.decide.Tie as tie
 check-costs-requires : tie.Need-check-costs-requires
 check-costs-requires c κs = node-bounds (c .before .before .before .pre .0 .0)
 
-enum-told : tie.Need-enum-told
-enum-told c = search needs
-
-enum-told-2 : tie.Need-enum-told-2
-enum-told-2 c = search needs
-
-refusal-requires : tie.Need-refusal-requires
-refusal-requires c κs = search needs
-
 returns : tie.Need-returns
 returns c = let k = c .before .before .before in
     never (sym (ap checked (c .before .enum-told2 .given .1)) ∙ k .check-costs .ensures ∙ outcome-sound _ (bound-row-sound (node-bounds (k .before .before .before .before .pre .0 .0) .1)))
-
-choose-requires : tie.Need-choose-requires
-choose-requires c κs = search needs
-
-same-length : tie.Need-same-length
-same-length c = search needs
-
-same-length-2 : tie.Need-same-length-2
-same-length-2 c = search needs
 
 returns-2 : tie.Need-returns-2
 returns-2 c = let d = c .before .before .before .before .choose .ensures in
@@ -50,11 +32,11 @@ decide-spec =
     tie.close
     (tie.spec
     check-costs-requires
-    enum-told
-    enum-told-2
-    refusal-requires
+    (λ c. search needs)
+    (λ c. search needs)
+    (λ c κs. search needs)
     returns
-    choose-requires
-    same-length
-    same-length-2
+    (λ c κs. search needs)
+    (λ c. search needs)
+    (λ c. search needs)
     returns-2)

@@ -14,18 +14,6 @@ use borrow.Author.Needs.{needs}
 use Rattle.routes.proofs.choosing.robust.Statement.{statement}
 use Rattle.routes.proofs.choosing.robust.Tie as tie
 
-check-robust-requires : tie.Need-check-robust-requires
-check-robust-requires c κs = search needs
-
-enum-known-answer : tie.Need-enum-known-answer
-enum-known-answer c = search needs
-
-enum-told : tie.Need-enum-told
-enum-told c = search needs
-
-refusal-requires : tie.Need-refusal-requires
-refusal-requires c κs = search needs
-
 returns : tie.Need-returns
 unfolding robust-outcome robust-fault
 returns c = let t = c .before in
@@ -50,12 +38,6 @@ decide-requires c κs = let a = c .before .before .before in
     let g = robust-sound (s .image .now) (s .column) (s .start) (s .goal) (s .wanted) (s .path .now) (s .work .now) (p .0) in
     ((p .1, record { passes = p .1 .passes; arcs-are = p .1 .arcs-are; from = g .from; upto = g .upto }, g .ends), choice-slices (s .image .now) (s .column) (s .start) (s .goal) (s .wanted) (s .path .now) (s .work .now) (p .0))
 
-same-length : tie.Need-same-length
-same-length c = search needs
-
-same-length-2 : tie.Need-same-length-2
-same-length-2 c = search needs
-
 returns-2 : tie.Need-returns-2
 unfolding robust-outcome robust-fault
 returns-2 c = let d = c .before .before .before .before .decide .ensures in
@@ -70,12 +52,12 @@ pub robust-spec : {M : Type 1} → statement M
 robust-spec =
     tie.close
     (tie.spec
-    check-robust-requires
-    enum-known-answer
-    enum-told
-    refusal-requires
+    (λ c κs. search needs)
+    (λ c. search needs)
+    (λ c. search needs)
+    (λ c κs. search needs)
     returns
     decide-requires
-    same-length
-    same-length-2
+    (λ c. search needs)
+    (λ c. search needs)
     returns-2)

@@ -12,15 +12,6 @@ use borrow.Author.Needs.{needs}
 use Rattle.routes.proofs.finding.check_shortest.Statement.{statement}
 use Rattle.routes.proofs.finding.check_shortest.Tie as tie
 
-check-search-requires : tie.Need-check-search-requires
-check-search-requires c κs = search needs
-
-enum-known-answer : tie.Need-enum-known-answer
-enum-known-answer c = search needs
-
-enum-told : tie.Need-enum-told
-enum-told c = search needs
-
 returns : tie.Need-returns
 unfolding shortest-rows
 returns c = let k = c .before .before in
@@ -35,9 +26,6 @@ start c = c .before .before .before .before
 passes : (c : tie.After-answer) → (search-rows (start c .args .image .now) (start c .args .column) (start c .args .start) (start c .args .goal) ≡ sound) × Accepted (start c .args .image .now) (c .answer .given .0 .0 .n) (c .answer .given .0 .0 .m) (c .answer .given .0 .0 .k)
 passes c = given-sizes _ (λ e. search-sound _ _ _ _ e .accepted) (sym (ap checked (c .answer .given .1)) ∙ c .before .before .check-search .ensures)
 
-cast-if1 : tie.Need-cast-if1
-cast-if1 c = search needs
-
 returns-2 : tie.Need-returns-2
 unfolding shortest-rows
 returns-2 c = let p = passes (c .before .before .before) in
@@ -49,4 +37,4 @@ returns-3 c = let p = passes (c .before .before .before) in
     ap gives (sizes-of (p .1)) ∙ sym (outcome-sound _ (then-next _ (p .0) ∙ long-enough _ _ (omega (arith, p .1 .nodes-are, c .if1 .left))))
 
 pub check-shortest-spec : {M : Type 1} → statement M
-check-shortest-spec = tie.close (tie.spec check-search-requires enum-known-answer enum-told returns cast-if1 returns-2 returns-3)
+check-shortest-spec = tie.close (tie.spec (λ c κs. search needs) (λ c. search needs) (λ c. search needs) returns (λ c. search needs) returns-2 returns-3)

@@ -13,18 +13,6 @@ use borrow.Author.Needs.{needs}
 use Rattle.routes.proofs.finding.shortest.Statement.{statement}
 use Rattle.routes.proofs.finding.shortest.Tie as tie
 
-check-shortest-requires : tie.Need-check-shortest-requires
-check-shortest-requires c κs = search needs
-
-enum-known-answer : tie.Need-enum-known-answer
-enum-known-answer c = search needs
-
-enum-told : tie.Need-enum-told
-enum-told c = search needs
-
-refusal-requires : tie.Need-refusal-requires
-refusal-requires c κs = search needs
-
 returns : tie.Need-returns
 unfolding shortest-outcome shortest-fault
 returns c = let t = c .before in
@@ -50,9 +38,6 @@ write-shortest-requires c κs = let a = c .before .before in
     let k = passes a .1 in
     ((record { passes = k .passes; arcs-are = k .arcs-are; from = g .search .from; upto = g .search .upto }, g .search .ends), (k .nodes-are, g .room-for))
 
-same-length : tie.Need-same-length
-same-length c = search needs
-
 returns-2 : tie.Need-returns-2
 unfolding shortest-outcome shortest-fault
 returns-2 c = let w = c .before .before in
@@ -65,11 +50,11 @@ pub shortest-spec : {M : Type 1} → statement M
 shortest-spec =
     tie.close
     (tie.spec
-    check-shortest-requires
-    enum-known-answer
-    enum-told
-    refusal-requires
+    (λ c κs. search needs)
+    (λ c. search needs)
+    (λ c. search needs)
+    (λ c κs. search needs)
     returns
     write-shortest-requires
-    same-length
+    (λ c. search needs)
     returns-2)

@@ -20,18 +20,6 @@ use borrow.Author.Needs.{needs}
 use Rattle.routes.proofs.finding.write_first.Statement.{statement}
 use Rattle.routes.proofs.finding.write_first.Tie as tie
 
-find-requires : tie.Need-find-requires
-find-requires c κs = search needs
-
-enum-known-found : tie.Need-enum-known-found
-enum-known-found c = search needs
-
-enum-told : tie.Need-enum-told
-enum-told c = search needs
-
-same-length : tie.Need-same-length
-same-length c = search needs
-
 abbrev start : tie.After-find → tie.Start
 start c = c .before .before .before .before .before
 
@@ -59,18 +47,6 @@ returns c = let f = c .before .before .before .before in
 check-costs-requires : tie.Need-check-costs-requires
 check-costs-requires c κs = bounded (start (c .before .before .before .before .before))
 
-enum-told-2 : tie.Need-enum-told-2
-enum-told-2 c = search needs
-
-enum-told-3 : tie.Need-enum-told-3
-enum-told-3 c = search needs
-
-refusal-requires : tie.Need-refusal-requires
-refusal-requires c κs = search needs
-
-same-length-2 : tie.Need-same-length-2
-same-length-2 c = search needs
-
 returns-2 : tie.Need-returns-2
 returns-2 c = let k = c .before .before .before in
     never (sym (ap checked (c .before .enum-told3 .given .1)) ∙ k .check-costs .ensures ∙ outcome-sound _ (bound-row-sound (bounded (start (k .before .before .before .before .before .before)) .1)))
@@ -90,12 +66,6 @@ cast-t22 c = let k = c .before .before .before .before .before .before .before .
     let p = start (k .before .before .before .before) .pre in
     omega (arith, rest-is (p .0 .0) (p .0 .1) (first k .0) _ _ refl (reach k .1) (first k .1), path-cost (p .0 .0) (p .0 .1) (first k .0))
 
-same-length-3 : tie.Need-same-length-3
-same-length-3 c = search needs
-
-same-length-4 : tie.Need-same-length-4
-same-length-4 c = search needs
-
 returns-3 : tie.Need-returns-3
 returns-3 c = let k = c .before .before .before .before .before .before .before .before .before in
     let p = start (k .before .before .before .before) .pre in
@@ -106,20 +76,20 @@ pub write-first-spec : {M : Type 1} → statement M
 write-first-spec =
     tie.close
     (tie.spec
-    find-requires
-    enum-known-found
-    enum-told
-    same-length
+    (λ c κs. search needs)
+    (λ c. search needs)
+    (λ c. search needs)
+    (λ c. search needs)
     returns
     check-costs-requires
-    enum-told-2
-    enum-told-3
-    refusal-requires
-    same-length-2
+    (λ c. search needs)
+    (λ c. search needs)
+    (λ c κs. search needs)
+    (λ c. search needs)
     returns-2
     copy-requires
     cast-t21
     cast-t22
-    same-length-3
-    same-length-4
+    (λ c. search needs)
+    (λ c. search needs)
     returns-3)

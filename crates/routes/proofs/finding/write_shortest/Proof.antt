@@ -8,9 +8,6 @@ use borrow.Author.Needs.{needs}
 use Rattle.routes.proofs.finding.write_shortest.Statement.{statement}
 use Rattle.routes.proofs.finding.write_shortest.Tie as tie
 
-cast-places : tie.Need-cast-places
-cast-places c = search needs
-
 fits : (c : tie.After-struct-known) → c .before .before .before .args .sizes .n ≤ 200
 fits c = let p = c .before .before .before .pre in omega (arith, p .1 .0, few-nodes (p .0 .0))
 
@@ -25,19 +22,13 @@ write-first-requires c κs = let s = c .before .before in
     let p = s .before .before .before .pre in
     (p .0, (p .1 .0, part-long 200 _ (fits s) ∙ p .1 .0, p .1 .1))
 
-same-length : tie.Need-same-length
-same-length c = search needs
-
-returns : tie.Need-returns
-returns c = search needs
-
 pub write-shortest-spec : {M : Type 1} → statement M
 write-shortest-spec =
     tie.close
     (tie.spec
-    cast-places
+    (λ c. search needs)
     array-borrow-prefix-route
     slice-aggregate-write-first
     write-first-requires
-    same-length
-    returns)
+    (λ c. search needs)
+    (λ c. search needs))

@@ -15,15 +15,6 @@ use Rattle.calls.proofs.RowLaws.{refused-first, given-network, sizes-of, node-b
 use Rattle.routes.proofs.labelling.check_label.Statement.{statement}
 use Rattle.routes.proofs.labelling.check_label.Tie as tie
 
-check-requires : tie.Need-check-requires
-check-requires c κs = search needs
-
-enum-known-answer : tie.Need-enum-known-answer
-enum-known-answer c = search needs
-
-enum-told : tie.Need-enum-told
-enum-told c = search needs
-
 returns : tie.Need-returns
 unfolding label-fault
 returns c = refused-first _ _ _ (ap checked (c .enum-told .given .1)) (c .before .before .check .ensures)
@@ -39,22 +30,13 @@ goal-right c = sym (c .before .is-node .ensures) ∙ not-false _ (c .if1 .left)
 column-right : (c : tie.Else2) → (leb 1 (c .before .before .before .before .before .before .before .before .before .args .column) && leb (c .before .before .before .before .before .before .before .before .before .args .column) (c .before .before .before .before .before .answer .given .0 .0 .k)) ≡ true
 column-right c = sym (c .before .is-column .ensures) ∙ not-false _ (c .if2 .left)
 
-is-node-requires : tie.Need-is-node-requires
-is-node-requires c κs = search needs
-
 returns-2 : tie.Need-returns-2
 returns-2 c = let k = c .before .before .before in
     sym (outcome-fault _ (no-goal (known k) _ _ _ (sym (c .before .is-node .ensures) ∙ not-true _ (c .if1 .taken))))
 
-is-column-requires : tie.Need-is-column-requires
-is-column-requires c κs = search needs
-
 returns-3 : tie.Need-returns-3
 returns-3 c = let e = c .before .before in
     sym (outcome-fault _ (no-column (known (e .before .before .before)) _ _ _ (goal-right e) (sym (c .before .is-column .ensures) ∙ not-true _ (c .if2 .taken))))
-
-cast-if3 : tie.Need-cast-if3
-cast-if3 c = search needs
 
 returns-4 : tie.Need-returns-4
 returns-4 c = let f = c .before .before in
@@ -72,15 +54,15 @@ pub check-label-spec : {M : Type 1} → statement M
 check-label-spec =
     tie.close
     (tie.spec
-    check-requires
-    enum-known-answer
-    enum-told
+    (λ c κs. search needs)
+    (λ c. search needs)
+    (λ c. search needs)
     returns
-    is-node-requires
+    (λ c κs. search needs)
     returns-2
-    is-column-requires
+    (λ c κs. search needs)
     returns-3
-    cast-if3
+    (λ c. search needs)
     returns-4
     check-costs-requires
     returns-5)

@@ -16,18 +16,6 @@ use Rattle.calls.proofs.RowLaws.{given-sizes, LabelSound, label-sound}
 use Rattle.routes.proofs.labelling.label.Statement.{statement}
 use Rattle.routes.proofs.labelling.label.Tie as tie
 
-check-label-requires : tie.Need-check-label-requires
-check-label-requires c κs = search needs
-
-enum-known-answer : tie.Need-enum-known-answer
-enum-known-answer c = search needs
-
-enum-told : tie.Need-enum-told
-enum-told c = search needs
-
-refusal-requires : tie.Need-refusal-requires
-refusal-requires c κs = search needs
-
 returns : tie.Need-returns
 unfolding label-outcome
 returns c = let t = c .before in
@@ -55,9 +43,6 @@ write-labels-requires c κs = let a = c .before .before in
     let k = known a in
     (record { passes = k .passes; arcs-are = k .arcs-are; from = g .from; upto = g .upto }, ((k .nodes-are, omega (arith, k .nodes-are, g .room-for)), g .goal))
 
-same-length : tie.Need-same-length
-same-length c = search needs
-
 returns-2 : tie.Need-returns-2
 unfolding label-outcome labels-of
 returns-2 c = let w = c .before .before in
@@ -70,11 +55,11 @@ pub label-spec : {M : Type 1} → statement M
 label-spec =
     tie.close
     (tie.spec
-    check-label-requires
-    enum-known-answer
-    enum-told
-    refusal-requires
+    (λ c κs. search needs)
+    (λ c. search needs)
+    (λ c. search needs)
+    (λ c κs. search needs)
     returns
     write-labels-requires
-    same-length
+    (λ c. search needs)
     returns-2)

@@ -11,9 +11,6 @@ use Rattle.terms.proofs.RoomLaws.{part-long}
 use Rattle.routes.proofs.labelling.write_labels.Statement.{statement}
 use Rattle.routes.proofs.labelling.write_labels.Tie as tie
 
-add-places : tie.Need-add-places
-add-places c = search needs
-
 -- the array has room for the nodes
 nodes-fit : (c : tie.After-slice-known) → c .before .before .args .n + 1 ≤ 201
 nodes-fit c = omega (arith, c .before .before .pre .1 .0, few-nodes (c .before .before .pre .0))
@@ -29,9 +26,6 @@ write-labels-in-requires c κs = let e = c .before .before in
     let p = e .before .before .pre in
     (p .0, (p .1 .1, (part-long 201 _ (nodes-fit e) ∙ ap (λ n. n + 1) (p .1 .0 .0), omega (arith, p .1 .0))))
 
-same-length : tie.Need-same-length
-same-length c = search needs
-
 returns : tie.Need-returns
 returns c = let w = c .before .before .before in
     let s = w .before .before .before .before .before in
@@ -41,9 +35,9 @@ pub write-labels-spec : {M : Type 1} → statement M
 write-labels-spec =
     tie.close
     (tie.spec
-    add-places
+    (λ c. search needs)
     array-borrow-prefix-exact
     slice-aggregate-write-labels-in
     write-labels-in-requires
-    same-length
+    (λ c. search needs)
     returns)

@@ -25,12 +25,6 @@ write-narrow-requires c κs = let l = c .before .before .before .before in
     let p = l .before .before .before .before .before .pre in
     (omega (arith, exact-long l, p .1 .1), narrow-at (accepted-network _ (p .0 .passes)) (p .0 .from) (p .0 .upto) (exact-long l) (l .label-column .ensures))
 
-same-length : tie.Need-same-length
-same-length c = search needs
-
-same-length-2 : tie.Need-same-length-2
-same-length-2 c = search needs
-
 returns : tie.Need-returns
 unfolding labels-of
 returns c = let w = c .before .before in
@@ -43,4 +37,4 @@ returns c = let w = c .before .before in
 pub write-labels-in-spec : {M : Type 1} → statement M
 write-labels-in-spec =
     tie.close
-    (tie.spec label-column-requires write-narrow-requires same-length same-length-2 returns)
+    (tie.spec label-column-requires write-narrow-requires (λ c. search needs) (λ c. search needs) returns)

@@ -14,15 +14,6 @@ use borrow.Author.Needs.{needs}
 use Rattle.routes.proofs.listing.check_rank.Statement.{statement}
 use Rattle.routes.proofs.listing.check_rank.Tie as tie
 
-check-ranking-requires : tie.Need-check-ranking-requires
-check-ranking-requires c κs = search needs
-
-enum-known-answer : tie.Need-enum-known-answer
-enum-known-answer c = search needs
-
-enum-told : tie.Need-enum-told
-enum-told c = search needs
-
 returns : tie.Need-returns
 unfolding rank-rows
 returns c = let k = c .before .before in
@@ -36,9 +27,6 @@ start c = c .before .before .before .before
 
 passes : (c : tie.After-answer) → (ranking-rows (start c .args .image .now) (start c .args .column) (start c .args .start) (start c .args .goal) (start c .args .wanted) (start c .args .work) ≡ sound) × Accepted (start c .args .image .now) (c .answer .given .0 .0 .n) (c .answer .given .0 .0 .m) (c .answer .given .0 .0 .k)
 passes c = given-sizes _ (λ e. ranking-sound _ _ _ _ _ _ e .search .accepted) (sym (ap checked (c .answer .given .1)) ∙ c .before .before .check-ranking .ensures)
-
-cast-n : tie.Need-cast-n
-cast-n c = search needs
 
 mul-if1 : tie.Need-mul-if1
 mul-if1 c = let a = c .before .before in
@@ -66,4 +54,4 @@ returns-4 c = let a = c .before .before .before .before in
 pub check-rank-spec : {M : Type 1} → statement M
 check-rank-spec =
     tie.close
-    (tie.spec check-ranking-requires enum-known-answer enum-told returns cast-n mul-if1 returns-2 returns-3 returns-4)
+    (tie.spec (λ c κs. search needs) (λ c. search needs) (λ c. search needs) returns (λ c. search needs) mul-if1 returns-2 returns-3 returns-4)

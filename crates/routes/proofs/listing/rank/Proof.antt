@@ -14,18 +14,6 @@ use borrow.Author.Needs.{needs}
 use Rattle.routes.proofs.listing.rank.Statement.{statement}
 use Rattle.routes.proofs.listing.rank.Tie as tie
 
-check-rank-requires : tie.Need-check-rank-requires
-check-rank-requires c κs = search needs
-
-enum-known-answer : tie.Need-enum-known-answer
-enum-known-answer c = search needs
-
-enum-told : tie.Need-enum-told
-enum-told c = search needs
-
-refusal-requires : tie.Need-refusal-requires
-refusal-requires c κs = search needs
-
 returns : tie.Need-returns
 unfolding rank-outcome rank-fault
 returns c = let t = c .before in
@@ -50,15 +38,6 @@ write-ranked-requires c κs = let a = c .before .before .before .before in
     let g = rank-sound (s .image .now) (s .column) (s .start) (s .goal) (s .wanted) (s .rows .now) (s .costs .now) (s .work .now) (p .0) in
     ((record { passes = p .1 .passes; arcs-are = p .1 .arcs-are; from = g .from; upto = g .upto }, g .ends), (p .1 .nodes-are, rank-slices (s .image .now) (s .column) (s .start) (s .goal) (s .wanted) (s .rows .now) (s .costs .now) (s .work .now) (p .0)))
 
-same-length : tie.Need-same-length
-same-length c = search needs
-
-same-length-2 : tie.Need-same-length-2
-same-length-2 c = search needs
-
-same-length-3 : tie.Need-same-length-3
-same-length-3 c = search needs
-
 returns-2 : tie.Need-returns-2
 unfolding rank-outcome rank-fault
 returns-2 c = let w = c .before .before .before .before .before .before in
@@ -77,13 +56,13 @@ pub rank-spec : {M : Type 1} → statement M
 rank-spec =
     tie.close
     (tie.spec
-    check-rank-requires
-    enum-known-answer
-    enum-told
-    refusal-requires
+    (λ c κs. search needs)
+    (λ c. search needs)
+    (λ c. search needs)
+    (λ c κs. search needs)
     returns
     write-ranked-requires
-    same-length
-    same-length-2
-    same-length-3
+    (λ c. search needs)
+    (λ c. search needs)
+    (λ c. search needs)
     returns-2)

@@ -22,30 +22,9 @@ bounded s = (omega (arith, s .pre .0 .1 .start-in, s .pre .1 .0), omega (arith, 
 check-costs-requires : tie.Need-check-costs-requires
 check-costs-requires c κs = bounded (c .before .before .before .before)
 
-enum-told : tie.Need-enum-told
-enum-told c = search needs
-
-enum-told-2 : tie.Need-enum-told-2
-enum-told-2 c = search needs
-
-refusal-requires : tie.Need-refusal-requires
-refusal-requires c κs = search needs
-
 returns : tie.Need-returns
 returns c = let k = c .before .before .before in
     never (sym (ap checked (c .before .enum-told2 .given .1)) ∙ k .check-costs .ensures ∙ outcome-sound _ (bound-row-sound (bounded (k .before .before .before .before .before) .1)))
-
-list-requires : tie.Need-list-requires
-list-requires c κs = search needs
-
-same-length : tie.Need-same-length
-same-length c = search needs
-
-same-length-2 : tie.Need-same-length-2
-same-length-2 c = search needs
-
-same-length-3 : tie.Need-same-length-3
-same-length-3 c = search needs
 
 abbrev start : tie.After-list → tie.Start
 start c = c .before .before .before .before .before .before .before .before .before .before .before
@@ -70,15 +49,6 @@ cast-t21 c = let l = c .before .before .before .before .before .before .before i
     let s = start l .args in
     omega (arith, l .list .ensures .0, few-listed (s .image .now) (s .column) (s .start) (s .goal) (s .wanted), start l .pre .1 .1 .wanted-to)
 
-same-length-4 : tie.Need-same-length-4
-same-length-4 c = search needs
-
-same-length-5 : tie.Need-same-length-5
-same-length-5 c = search needs
-
-same-length-6 : tie.Need-same-length-6
-same-length-6 c = search needs
-
 returns-3 : tie.Need-returns-3
 returns-3 c = let l = c .before .before .before .before .before .before .before in
     let s = start l .args in
@@ -100,17 +70,17 @@ write-ranked-spec =
     tie.close
     (tie.spec
     check-costs-requires
-    enum-told
-    enum-told-2
-    refusal-requires
+    (λ c. search needs)
+    (λ c. search needs)
+    (λ c κs. search needs)
     returns
-    list-requires
-    same-length
-    same-length-2
-    same-length-3
+    (λ c κs. search needs)
+    (λ c. search needs)
+    (λ c. search needs)
+    (λ c. search needs)
     returns-2
     cast-t21
-    same-length-4
-    same-length-5
-    same-length-6
+    (λ c. search needs)
+    (λ c. search needs)
+    (λ c. search needs)
     returns-3)

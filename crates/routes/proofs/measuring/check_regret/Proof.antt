@@ -14,15 +14,6 @@ use Rattle.calls.proofs.RowLaws.{given-sizes, sizes-of, node-bounds, ends-sound
 use Rattle.routes.proofs.measuring.check_regret.Statement.{statement}
 use Rattle.routes.proofs.measuring.check_regret.Tie as tie
 
-check-ends-requires : tie.Need-check-ends-requires
-check-ends-requires c κs = search needs
-
-enum-known-answer : tie.Need-enum-known-answer
-enum-known-answer c = search needs
-
-enum-told : tie.Need-enum-told
-enum-told c = search needs
-
 returns : tie.Need-returns
 returns c = let k = c .before .before in
     let a = k .before .before .before .args in
@@ -43,15 +34,9 @@ check-list-requires : tie.Need-check-list-requires
 check-list-requires c κs = let a = c .before in
     (known a, ends-sound _ _ _ (then-sound _ _ (passes a .0) .1) .start-in)
 
-enum-known-list : tie.Need-enum-known-list
-enum-known-list c = search needs
-
 returns-2 : tie.Need-returns-2
 returns-2 c = let l = c .before .before .before in
     sym (outcome-fault _ (no-path-at _ _ _ _ (passes (l .before .before) .0) (sym (ap list-fault (c .before .list .given .1)) ∙ l .check-list .ensures)))
-
-enum-told-2 : tie.Need-enum-told-2
-enum-told-2 c = search needs
 
 check-costs-requires : tie.Need-check-costs-requires
 check-costs-requires c κs = node-bounds (known (c .before .before .before .before))
@@ -66,13 +51,13 @@ pub check-regret-spec : {M : Type 1} → statement M
 check-regret-spec =
     tie.close
     (tie.spec
-    check-ends-requires
-    enum-known-answer
-    enum-told
+    (λ c κs. search needs)
+    (λ c. search needs)
+    (λ c. search needs)
     returns
     check-list-requires
-    enum-known-list
+    (λ c. search needs)
     returns-2
-    enum-told-2
+    (λ c. search needs)
     check-costs-requires
     returns-3)

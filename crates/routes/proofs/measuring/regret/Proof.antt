@@ -13,18 +13,6 @@ use Rattle.calls.proofs.RowLaws.{given-sizes, RegretSound, regret-sound}
 use Rattle.routes.proofs.measuring.regret.Statement.{statement}
 use Rattle.routes.proofs.measuring.regret.Tie as tie
 
-check-regret-requires : tie.Need-check-regret-requires
-check-regret-requires c κs = search needs
-
-enum-known-answer : tie.Need-enum-known-answer
-enum-known-answer c = search needs
-
-enum-told : tie.Need-enum-told
-enum-told c = search needs
-
-refusal-requires : tie.Need-refusal-requires
-refusal-requires c κs = search needs
-
 returns : tie.Need-returns
 unfolding regret-outcome
 returns c = let t = c .before in
@@ -57,10 +45,10 @@ pub regret-spec : {M : Type 1} → statement M
 regret-spec =
     tie.close
     (tie.spec
-    check-regret-requires
-    enum-known-answer
-    enum-told
-    refusal-requires
+    (λ c κs. search needs)
+    (λ c. search needs)
+    (λ c. search needs)
+    (λ c κs. search needs)
     returns
     measure-list-requires
     returns-2)

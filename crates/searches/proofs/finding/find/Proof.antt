@@ -22,12 +22,6 @@ nodes-fit c = omega (arith, entry c .pre .1, few-nodes (entry c .pre .0 .0))
 outs-fit : (c : tie.After-slice-known) → length (entry c .args .route .now) + 2 ≤ 202
 outs-fit c = omega (arith, nodes-fit c)
 
-add-places : tie.Need-add-places
-add-places c = search needs
-
-add-starts : tie.Need-add-starts
-add-starts c = search needs
-
 cast-find-in : tie.Need-cast-find-in
 cast-find-in c = omega (arith, entry c .pre .0 .1 .start-in, few-nodes (entry c .pre .0 .0))
 
@@ -81,18 +75,12 @@ find-in-requires c κs =
     let long = part-long 201 _ (nodes-fit e) ∙ ap (λ n. n + 1) (p .1) in
     (p .0, (record { tails-long = m; heads-long = m; weights-long = m; nexts-long = m }, (record { outs-long = part-long 202 _ (outs-fit e) ∙ ap (λ n. n + 2) (p .1); ins-long = long; labels-long = long }, p .1)))
 
-same-length : tie.Need-same-length
-same-length c = search needs
-
-returns : tie.Need-returns
-returns c = search needs
-
 pub find-spec : {M : Type 1} → statement M
 find-spec =
     tie.close
     (tie.spec
-    add-places
-    add-starts
+    (λ c. search needs)
+    (λ c. search needs)
     cast-find-in
     array-borrow-prefix-tails
     slice-aggregate-find-in
@@ -109,5 +97,5 @@ find-spec =
     array-borrow-prefix-overall
     slice-aggregate-find-in-7
     find-in-requires
-    same-length
-    returns)
+    (λ c. search needs)
+    (λ c. search needs))

@@ -23,30 +23,6 @@ shortest-requires c κs = let l = loaded c in
     let long = L .labels-long in
     (L .network _ long, ((record { start-from = e .start-in .from; start-place = omega (arith, e .start-in, long); goal-place = omega (arith, e .goal-in, long); apart = e .apart }, omega (arith, long, p .1 .1 .1)), L .least))
 
-same-length : tie.Need-same-length
-same-length c = search needs
-
-same-length-2 : tie.Need-same-length-2
-same-length-2 c = search needs
-
-same-length-3 : tie.Need-same-length-3
-same-length-3 c = search needs
-
-same-length-4 : tie.Need-same-length-4
-same-length-4 c = search needs
-
-same-length-5 : tie.Need-same-length-5
-same-length-5 c = search needs
-
-same-length-6 : tie.Need-same-length-6
-same-length-6 c = search needs
-
-same-length-7 : tie.Need-same-length-7
-same-length-7 c = search needs
-
-same-length-8 : tie.Need-same-length-8
-same-length-8 c = search needs
-
 returns : tie.Need-returns
 returns c = let f = c .before .before in
     (f .shortest .ensures .0, found-in-column (loaded (f .before) .load .ensures) (f .shortest .ensures .1))
@@ -57,12 +33,12 @@ find-in-spec =
     (tie.spec
     load-requires
     shortest-requires
-    same-length
-    same-length-2
-    same-length-3
-    same-length-4
-    same-length-5
-    same-length-6
-    same-length-7
-    same-length-8
+    (λ c. search needs)
+    (λ c. search needs)
+    (λ c. search needs)
+    (λ c. search needs)
+    (λ c. search needs)
+    (λ c. search needs)
+    (λ c. search needs)
+    (λ c. search needs)
     returns)

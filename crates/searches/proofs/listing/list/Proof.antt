@@ -24,18 +24,6 @@ places-fit c = omega (arith, nodes-fit c)
 starts-fit : (c : tie.After-struct-known2) → entry c .args .sizes .n + 2 ≤ 202
 starts-fit c = omega (arith, nodes-fit c)
 
-cast-arcs : tie.Need-cast-arcs
-cast-arcs c = search needs
-
-cast-nodes : tie.Need-cast-nodes
-cast-nodes c = search needs
-
-add-places : tie.Need-add-places
-add-places c = search needs
-
-add-starts : tie.Need-add-starts
-add-starts c = search needs
-
 cast-list-in : tie.Need-cast-list-in
 cast-list-in c = omega (arith, entry c .pre .0 .1 .start-in, few-nodes (entry c .pre .0 .0))
 
@@ -97,26 +85,14 @@ list-in-requires c κs =
       ),
     )
 
-same-length : tie.Need-same-length
-same-length c = search needs
-
-same-length-2 : tie.Need-same-length-2
-same-length-2 c = search needs
-
-same-length-3 : tie.Need-same-length-3
-same-length-3 c = search needs
-
-returns : tie.Need-returns
-returns c = search needs
-
 pub list-spec : {M : Type 1} → statement M
 list-spec =
     tie.close
     (tie.spec
-    cast-arcs
-    cast-nodes
-    add-places
-    add-starts
+    (λ c. search needs)
+    (λ c. search needs)
+    (λ c. search needs)
+    (λ c. search needs)
     cast-list-in
     array-borrow-prefix-tails
     slice-aggregate-list-in
@@ -133,7 +109,7 @@ list-spec =
     array-borrow-prefix-overall
     slice-aggregate-list-in-7
     list-in-requires
-    same-length
-    same-length-2
-    same-length-3
-    returns)
+    (λ c. search needs)
+    (λ c. search needs)
+    (λ c. search needs)
+    (λ c. search needs))

@@ -30,27 +30,6 @@ slice-read-if1 : tie.Need-slice-read-if1
 slice-read-if1 c = let l = c .before .before .before .before .before .before .before .before .before .before .before .before .before .before .before in
     omega (arith, start l .pre .0 .1 .start-in, l .load .ensures .labels-long)
 
-same-length : tie.Need-same-length
-same-length c = search needs
-
-same-length-2 : tie.Need-same-length-2
-same-length-2 c = search needs
-
-same-length-3 : tie.Need-same-length-3
-same-length-3 c = search needs
-
-same-length-4 : tie.Need-same-length-4
-same-length-4 c = search needs
-
-same-length-5 : tie.Need-same-length-5
-same-length-5 c = search needs
-
-same-length-6 : tie.Need-same-length-6
-same-length-6 c = search needs
-
-same-length-7 : tie.Need-same-length-7
-same-length-7 c = search needs
-
 returns : tie.Need-returns
 returns c = let l = c .before .before .before .before .before .before .before .before .before .before .before .before .before .before .before .before in
     let s = start l .args in
@@ -116,13 +95,13 @@ list-in-spec =
     load-requires
     mul-if1
     slice-read-if1
-    same-length
-    same-length-2
-    same-length-3
-    same-length-4
-    same-length-5
-    same-length-6
-    same-length-7
+    (λ c. search needs)
+    (λ c. search needs)
+    (λ c. search needs)
+    (λ c. search needs)
+    (λ c. search needs)
+    (λ c. search needs)
+    (λ c. search needs)
     returns
     sub-n
     list-loaded-requires

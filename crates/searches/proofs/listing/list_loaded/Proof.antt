@@ -24,18 +24,6 @@ write-rows-requires c κs = let r = c .before .before .before .before .before in
     let p = start r .pre in
     ((kept-readable (R .kept), R .entered .family), (entry-room R (p .1 .0), entry-costs R (p .1 .1)))
 
-clear-requires : tie.Need-clear-requires
-clear-requires c κs = search needs
-
-same-length : tie.Need-same-length
-same-length c = search needs
-
-same-length-2 : tie.Need-same-length-2
-same-length-2 c = search needs
-
-same-length-3 : tie.Need-same-length-3
-same-length-3 c = search needs
-
 returns : tie.Need-returns
 returns c = let r = c .before .before .before .before .before .before .before .before .before .before .before .before .before .before in
     let R = r .rank-paths .ensures in
@@ -49,8 +37,8 @@ list-loaded-spec =
     (tie.spec
     rank-paths-requires
     write-rows-requires
-    clear-requires
-    same-length
-    same-length-2
-    same-length-3
+    (λ c κs. search needs)
+    (λ c. search needs)
+    (λ c. search needs)
+    (λ c. search needs)
     returns)

@@ -16,19 +16,10 @@ room s = omega (arith, s .pre, length-choice (s .args .path .now) (s .args .figu
 write-route-requires : tie.Need-write-route-requires
 write-route-requires c κs = omega (arith, room (c .before .before .before))
 
-slice-aggregate-write-pair : tie.Need-slice-aggregate-write-pair
-slice-aggregate-write-pair c = search needs
-
-slice-aggregate-write-pair-2 : tie.Need-slice-aggregate-write-pair-2
-slice-aggregate-write-pair-2 c = search needs
-
 write-pair-requires : tie.Need-write-pair-requires
 unfolding regret-line
 write-pair-requires c κs = let w = c .before .before .before .before .before in
     wrote-room (w .write-route .ensures) _ (room (w .before .before .before .before))
-
-same-length : tie.Need-same-length
-same-length c = search needs
 
 returns : tie.Need-returns
 unfolding choice-lines regret-line
@@ -36,4 +27,4 @@ returns c = let w = c .before .before in
     wrote-both (w .before .before .before .before .before .before .write-route .ensures) (w .write-pair .ensures)
 
 pub write-choice-spec : {M : Type 1} → statement M
-write-choice-spec = tie.close (tie.spec write-route-requires slice-aggregate-write-pair slice-aggregate-write-pair-2 write-pair-requires same-length returns)
+write-choice-spec = tie.close (tie.spec write-route-requires (λ c. search needs) (λ c. search needs) write-pair-requires (λ c. search needs) returns)

@@ -14,9 +14,6 @@ use Rattle.sheet.proofs.lines.write_node.Tie as tie
 room : (s : tie.Start) → s .args .at + (1 + length (decimal (s .args .node))) ≤ length (s .args .text .now)
 room s = omega (arith, s .pre, length-node-text (s .args .node))
 
-slice-aggregate-write-word : tie.Need-slice-aggregate-write-word
-slice-aggregate-write-word c = search needs
-
 write-word-requires : tie.Need-write-word-requires
 write-word-requires c κs = omega (arith, room (c .before .before .before))
 
@@ -24,13 +21,10 @@ write-number-requires : tie.Need-write-number-requires
 write-number-requires c κs = let w = c .before .before .before in
     wrote-room (w .write-word .ensures) _ (room (w .before .before .before .before))
 
-same-length : tie.Need-same-length
-same-length c = search needs
-
 returns : tie.Need-returns
 unfolding node-text
 returns c = let w = c .before .before in
     wrote-both (w .before .before .before .before .write-word .ensures) (w .write-number .ensures)
 
 pub write-node-spec : {M : Type 1} → statement M
-write-node-spec = tie.close (tie.spec slice-aggregate-write-word write-word-requires write-number-requires same-length returns)
+write-node-spec = tie.close (tie.spec (λ c. search needs) write-word-requires write-number-requires (λ c. search needs) returns)

@@ -16,19 +16,10 @@ room s = let a = s .args in omega (arith, s .pre, length-answer-open (a .path .n
 write-choice-requires : tie.Need-write-choice-requires
 write-choice-requires c κs = omega (arith, room (c .before .before .before))
 
-slice-aggregate-write-pair : tie.Need-slice-aggregate-write-pair
-slice-aggregate-write-pair c = search needs
-
-slice-aggregate-write-pair-2 : tie.Need-slice-aggregate-write-pair-2
-slice-aggregate-write-pair-2 c = search needs
-
 write-pair-requires : tie.Need-write-pair-requires
 unfolding open-line
 write-pair-requires c κs = let w = c .before .before .before .before .before in
     wrote-room (w .write-choice .ensures) _ (room (w .before .before .before .before))
-
-same-length : tie.Need-same-length
-same-length c = search needs
 
 returns : tie.Need-returns
 unfolding answer-text open-line
@@ -36,4 +27,4 @@ returns c = let w = c .before .before in
     wrote-both (w .before .before .before .before .before .before .write-choice .ensures) (w .write-pair .ensures)
 
 pub write-open-spec : {M : Type 1} → statement M
-write-open-spec = tie.close (tie.spec write-choice-requires slice-aggregate-write-pair slice-aggregate-write-pair-2 write-pair-requires same-length returns)
+write-open-spec = tie.close (tie.spec write-choice-requires (λ c. search needs) (λ c. search needs) write-pair-requires (λ c. search needs) returns)

@@ -54,14 +54,8 @@ write-word-requires-2 c κs = omega (arith, room₂ (c .before .before .before))
 write-number-requires-2 : tie.Need-write-number-requires-2
 write-number-requires-2 c κs = omega (arith, room₃ (c .before .before .before))
 
-slice-aggregate-write-word : tie.Need-slice-aggregate-write-word
-slice-aggregate-write-word c = search needs
-
 write-word-requires-3 : tie.Need-write-word-requires-3
 write-word-requires-3 c κs = room₄ (c .before .before .before .before)
-
-same-length : tie.Need-same-length
-same-length c = search needs
 
 returns : tie.Need-returns
 unfolding two-numbers
@@ -72,4 +66,4 @@ returns c = let w₅ = c .before .before in
     wrote-both (word w₂ .write-word .ensures) (wrote-both (w₂ .write-number .ensures) (wrote-both (w₃ .write-word2 .ensures) (wrote-both (w₄ .write-number2 .ensures) (w₅ .write-word3 .ensures))))
 
 pub write-pair-spec : {M : Type 1} → statement M
-write-pair-spec = tie.close (tie.spec write-word-requires write-number-requires write-word-requires-2 write-number-requires-2 slice-aggregate-write-word write-word-requires-3 same-length returns)
+write-pair-spec = tie.close (tie.spec write-word-requires write-number-requires write-word-requires-2 write-number-requires-2 (λ c. search needs) write-word-requires-3 (λ c. search needs) returns)

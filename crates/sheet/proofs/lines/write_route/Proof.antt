@@ -18,23 +18,14 @@ room₁ c = wrote-room (c .write-word .ensures) _ (room (c .before .before .befo
 room₂ : (c : tie.After-write-nodes) → c .write-nodes .result + 1 ≤ length (c .write-nodes .last .0)
 room₂ c = wrote-room (c .write-nodes .ensures) _ (room₁ (c .before .before .before .before))
 
-slice-aggregate-write-word : tie.Need-slice-aggregate-write-word
-slice-aggregate-write-word c = search needs
-
 write-word-requires : tie.Need-write-word-requires
 write-word-requires c κs = omega (arith, room (c .before .before .before .before))
 
 write-nodes-requires : tie.Need-write-nodes-requires
 write-nodes-requires c κs = omega (arith, room₁ (c .before .before .before))
 
-slice-aggregate-write-word-2 : tie.Need-slice-aggregate-write-word-2
-slice-aggregate-write-word-2 c = search needs
-
 write-word-requires-2 : tie.Need-write-word-requires-2
 write-word-requires-2 c κs = room₂ (c .before .before .before .before)
-
-same-length : tie.Need-same-length
-same-length c = search needs
 
 returns : tie.Need-returns
 unfolding route-line
@@ -43,4 +34,4 @@ returns c = let w₃ = c .before .before in
     wrote-both (w₂ .before .before .before .before .write-word .ensures) (wrote-both (w₂ .write-nodes .ensures) (w₃ .write-word2 .ensures))
 
 pub write-route-spec : {M : Type 1} → statement M
-write-route-spec = tie.close (tie.spec slice-aggregate-write-word write-word-requires write-nodes-requires slice-aggregate-write-word-2 write-word-requires-2 same-length returns)
+write-route-spec = tie.close (tie.spec (λ c. search needs) write-word-requires write-nodes-requires (λ c. search needs) write-word-requires-2 (λ c. search needs) returns)

@@ -20,13 +20,10 @@ write-count-requires : tie.Need-write-count-requires
 write-count-requires c κs = let w = c .before .before .before in
     wrote-room (w .write-choice .ensures) _ (room (w .before .before .before .before))
 
-same-length : tie.Need-same-length
-same-length c = search needs
-
 returns : tie.Need-returns
 unfolding answer-text
 returns c = let w = c .before .before in
     wrote-both (w .before .before .before .before .write-choice .ensures) (w .write-count .ensures)
 
 pub write-settled-spec : {M : Type 1} → statement M
-write-settled-spec = tie.close (tie.spec write-choice-requires write-count-requires same-length returns)
+write-settled-spec = tie.close (tie.spec write-choice-requires write-count-requires (λ c. search needs) returns)

@@ -17,21 +17,6 @@ unfolding sheet-outcome
 returns c = let e = too-short (length (c .before .before .before .args .text .now)) (c .if1 .taken) in
     (sym (outcome-fault _ e), sym (after-fault _ _ e))
 
-slice-aggregate-write-sheet : tie.Need-slice-aggregate-write-sheet
-slice-aggregate-write-sheet c = search needs
-
-slice-aggregate-write-sheet-2 : tie.Need-slice-aggregate-write-sheet-2
-slice-aggregate-write-sheet-2 c = search needs
-
-write-sheet-requires : tie.Need-write-sheet-requires
-write-sheet-requires c κs = search needs
-
-cast-t13 : tie.Need-cast-t13
-cast-t13 c = search needs
-
-same-length : tie.Need-same-length
-same-length c = search needs
-
 returns-2 : tie.Need-returns-2
 unfolding sheet-outcome
 returns-2 c = let w = c .before .before .before .before in
@@ -45,9 +30,9 @@ sheet-spec =
     tie.close
     (tie.spec
     returns
-    slice-aggregate-write-sheet
-    slice-aggregate-write-sheet-2
-    write-sheet-requires
-    cast-t13
-    same-length
+    (λ c. search needs)
+    (λ c. search needs)
+    (λ c κs. search needs)
+    (λ c. search needs)
+    (λ c. search needs)
     returns-2)

@@ -25,12 +25,6 @@ short : (c : tie.After-struct-known) → let k = c .before .before in
     length (answer-text (settled (take (d .length) (entry k .args .path .now)) (d .figure) (d .worst) (d .count))) ≤ 1024
 short c = settled-short (path-fits (c .before .before)) (omega (arith, c .struct-known .given)) (omega (arith, c .struct-known .given)) (omega (arith, c .struct-known .given))
 
-enum-known-answer : tie.Need-enum-known-answer
-enum-known-answer c = search needs
-
-cast-nodes : tie.Need-cast-nodes
-cast-nodes c = search needs
-
 slice-aggregate-write-settled : tie.Need-slice-aggregate-write-settled
 slice-aggregate-write-settled c = sym (length-take-le _ _ (path-fits (c .before .before .before .before) .within))
 
@@ -51,12 +45,6 @@ short-open : (c : tie.After-struct-known2) → let k = c .before .before in
 short-open c =
     open-short (path-fits-open (c .before .before)) (omega (arith, c .struct-known2 .given)) (omega (arith, c .struct-known2 .given)) (omega (arith, c .struct-known2 .given)) (omega (arith, c .before .known-told2 .given))
 
-enum-known-answer-2 : tie.Need-enum-known-answer-2
-enum-known-answer-2 c = search needs
-
-cast-nodes-2 : tie.Need-cast-nodes-2
-cast-nodes-2 c = search needs
-
 slice-aggregate-write-open : tie.Need-slice-aggregate-write-open
 slice-aggregate-write-open c = sym (length-take-le _ _ (path-fits-open (c .before .before .before .before) .within))
 
@@ -64,32 +52,17 @@ write-open-requires : tie.Need-write-open-requires
 write-open-requires c κs = let k = c .before .before in omega (arith, short-open k, entry-open (k .before .before) .pre .0)
 
 -- ---- a refusal
-enum-known-answer-3 : tie.Need-enum-known-answer-3
-enum-known-answer-3 c = search needs
-
-write-refused-requires : tie.Need-write-refused-requires
-write-refused-requires c κs = search needs
-
-same-length : tie.Need-same-length
-same-length c = search needs
-
 returns : tie.Need-returns
 returns c = let w = c .before .before in
     let k = w .before .before .before in
     let q = k .before .before in
     (wrote-as (sym (ap (λ a. decided-text a (entry q .args .path .now)) (q .answer .given .1))) (w .write-settled .ensures), omega (arith, short k, w .write-settled .ensures .behind))
 
-same-length-2 : tie.Need-same-length-2
-same-length-2 c = search needs
-
 returns-2 : tie.Need-returns-2
 returns-2 c = let w = c .before .before in
     let k = w .before .before .before in
     let q = k .before .before in
     (wrote-as (sym (ap (λ a. decided-text a (entry-open q .args .path .now)) (q .answer2 .given .1))) (w .write-open .ensures), omega (arith, short-open k, w .write-open .ensures .behind))
-
-same-length-3 : tie.Need-same-length-3
-same-length-3 c = search needs
 
 returns-3 : tie.Need-returns-3
 returns-3 c = let w = c .before .before in
@@ -100,19 +73,19 @@ pub write-answer-spec : {M : Type 1} → statement M
 write-answer-spec =
     tie.close
     (tie.spec
-    enum-known-answer
-    cast-nodes
+    (λ c. search needs)
+    (λ c. search needs)
     slice-aggregate-write-settled
     write-settled-requires
-    enum-known-answer-2
-    cast-nodes-2
+    (λ c. search needs)
+    (λ c. search needs)
     slice-aggregate-write-open
     write-open-requires
-    enum-known-answer-3
-    write-refused-requires
-    same-length
+    (λ c. search needs)
+    (λ c κs. search needs)
+    (λ c. search needs)
     returns
-    same-length-2
+    (λ c. search needs)
     returns-2
-    same-length-3
+    (λ c. search needs)
     returns-3)

@@ -19,24 +19,9 @@ first c = c .before .before
 short : (c : tie.After-place) → length (refused-line (first c .number .result) (c .place .result)) ≤ 1024
 short c = refused-short (first c .number .result) (c .place .result) (omega (arith, first c .number .ok)) (omega (arith, c .place .ok))
 
-slice-aggregate-write-pair : tie.Need-slice-aggregate-write-pair
-slice-aggregate-write-pair c = search needs
-
-number-requires : tie.Need-number-requires
-number-requires c κs = search needs
-
-slice-aggregate-write-pair-2 : tie.Need-slice-aggregate-write-pair-2
-slice-aggregate-write-pair-2 c = search needs
-
-place-requires : tie.Need-place-requires
-place-requires c κs = search needs
-
 write-pair-requires : tie.Need-write-pair-requires
 unfolding refused-line
 write-pair-requires c κs = omega (arith, short c, start c .pre)
-
-same-length : tie.Need-same-length
-same-length c = search needs
 
 returns : tie.Need-returns
 unfolding refused-line
@@ -45,4 +30,4 @@ returns c = let w = c .before .before in
     (wrote-as (ap₂ refused-line (first p .number .ensures) (p .place .ensures)) (w .write-pair .ensures), omega (arith, short p, w .write-pair .ensures .behind))
 
 pub write-refused-spec : {M : Type 1} → statement M
-write-refused-spec = tie.close (tie.spec slice-aggregate-write-pair number-requires slice-aggregate-write-pair-2 place-requires write-pair-requires same-length returns)
+write-refused-spec = tie.close (tie.spec (λ c. search needs) (λ c κs. search needs) (λ c. search needs) (λ c κs. search needs) write-pair-requires (λ c. search needs) returns)

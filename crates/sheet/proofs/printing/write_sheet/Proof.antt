@@ -16,24 +16,6 @@ use Rattle.sheet.proofs.printing.write_sheet.Tie as tie
 abbrev start : tie.After-check → tie.Start
 start c = c .before .before .before .before .before
 
-check-requires : tie.Need-check-requires
-check-requires c κs = search needs
-
-enum-known-answer : tie.Need-enum-known-answer
-enum-known-answer c = search needs
-
-enum-told : tie.Need-enum-told
-enum-told c = search needs
-
-refusal-requires : tie.Need-refusal-requires
-refusal-requires c κs = search needs
-
-write-refused-requires : tie.Need-write-refused-requires
-write-refused-requires c κs = search needs
-
-same-length : tie.Need-same-length
-same-length c = search needs
-
 -- the image is refused
 returns : tie.Need-returns
 returns c = let w = c .before .before in
@@ -51,24 +33,12 @@ accepted c = given-network (sym (ap checked (c .answer .given .1)) ∙ c .before
 abbrev answer : tie.After-robust → tie.After-answer
 answer c = c .before .before .before .before
 
-robust-requires : tie.Need-robust-requires
-robust-requires c κs = search needs
-
 write-answer-requires : tie.Need-write-answer-requires
 write-answer-requires c κs = let q = c .before .before .before .before .before .before in
     let a = answer q in
     let s = start (a .before .before) in
     let r = q .robust in
     (omega (arith, s .pre), sheet-printable (s .args .image .now) (accepted a .passes) (r .result) (r .last .1 .1 .1 .1 .1 .0) (s .args .path .now) (s .args .work .now) (accepted a .nodes-are) (s .pre .1) (s .pre .2) (r .ensures .0) (r .ensures .1 .0) (r .kept .1 .1 .1 .1 .1 .0 ∙ s .pre .1))
-
-same-length-2 : tie.Need-same-length-2
-same-length-2 c = search needs
-
-same-length-3 : tie.Need-same-length-3
-same-length-3 c = search needs
-
-same-length-4 : tie.Need-same-length-4
-same-length-4 c = search needs
 
 returns-2 : tie.Need-returns-2
 returns-2 c = let w = c .before .before in
@@ -82,16 +52,16 @@ pub write-sheet-spec : {M : Type 1} → statement M
 write-sheet-spec =
     tie.close
     (tie.spec
-    check-requires
-    enum-known-answer
-    enum-told
-    refusal-requires
-    write-refused-requires
-    same-length
+    (λ c κs. search needs)
+    (λ c. search needs)
+    (λ c. search needs)
+    (λ c κs. search needs)
+    (λ c κs. search needs)
+    (λ c. search needs)
     returns
-    robust-requires
+    (λ c κs. search needs)
     write-answer-requires
-    same-length-2
-    same-length-3
-    same-length-4
+    (λ c. search needs)
+    (λ c. search needs)
+    (λ c. search needs)
     returns-2)

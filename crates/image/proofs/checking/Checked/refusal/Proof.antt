@@ -6,12 +6,6 @@ use borrow.Author.Needs.{needs}
 use Rattle.image.proofs.checking.Checked.refusal.Statement.{statement}
 use Rattle.image.proofs.checking.Checked.refusal.Tie as tie
 
-enum-known-self : tie.Need-enum-known-self
-enum-known-self c = search needs
-
-enum-told : tie.Need-enum-told
-enum-told c = search needs
-
 returns : tie.Need-returns
 returns c = λ p e. let known = c .before .self .given .1 in cc
 
@@ -19,4 +13,4 @@ returns-2 : tie.Need-returns-2
 returns-2 c = λ p e. let known = c .enum-told .given .1 in let z : _≡_ {A = ℕ} 0 1 = cc in absurd (omega arith)
 
 pub refusal-spec : {M : Type 1} → statement M
-refusal-spec = tie.close (tie.spec enum-known-self enum-told returns returns-2)
+refusal-spec = tie.close (tie.spec (λ c. search needs) (λ c. search needs) returns returns-2)
