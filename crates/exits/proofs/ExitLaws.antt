@@ -4,7 +4,7 @@ use native.Mathlib.Omega.{arith}
 use native.Mathlib.Nat.{eq-or-lt-of-le}
 use mathlib.Core.Path.{_≡_, refl, sym, _∙_}
 use mathlib.Core.Bool.{Bool, true, false, _&&_}
-use mathlib.Core.Logic.{_≢_, ⊎-elim}
+use mathlib.Core.Logic.{_⊎_, inl, inr, _≢_, ⊎-elim}
 use mathlib.Core.List.{List}
 use lib.Dec.{eqb, ltb}
 use lib.ListN.{length, getD}
@@ -16,7 +16,7 @@ use Rattle.labels.specs.Labels.{far}
 use Rattle.labels.proofs.ArcLaws.{linked-at, at-linked, at-weight}
 use Rattle.exits.specs.Flags.{Fresh}
 use Rattle.exits.specs.Walks.{Exit, Choice, Tight}
-use Rattle.exits.specs.Exits.{Unmarked, Unused, via, via-arc, Best, Scanned, Usable, Chosen, Keeps, Stepped}
+use Rattle.exits.specs.Exits.{Below, Unmarked, Unused, via, via-arc, Best, Scanned, Usable, Chosen, Keeps, Stepped}
 use Rattle.exits.specs.Star.{Star, Heads, longest}
 use Rattle.exits.proofs.StarLaws.{arc-at, arc-among}
 use Rattle.exits.specs.declared.stepping.Next.{Next}
@@ -38,9 +38,24 @@ module _ (ls used barred : List ℕ) (y w : ℕ) where
   unfolding via
   via-shut n = by-cond (λ (x : ℕ). x ≡ far) _ (λ t. let h = tests t in absurd (n (h .0) (h .1))) (λ _. refl)
 
+  -- it is one of the two
+  pub via-either : (via ls used barred y w ≡ far) ⊎ ((getD ls y 0 < far) × (via ls used barred y w ≡ w + getD ls y 0))
+  unfolding via
+  via-either = by-cond (λ (x : ℕ). (x ≡ far) ⊎ ((getD ls y 0 < far) × (x ≡ w + getD ls y 0))) _ (λ t. inr (tests t .1, refl)) (λ _. inl refl)
+
+  pub via-most : w ≤ 4294967295 → (getD ls y 0 < far → getD ls y 0 ≤ longest) → via ls used barred y w ≤ far
+  via-most h small = ⊎-elim (λ e. omega arith) (λ e. omega (arith, small (e .0))) via-either
+
+  -- it is no less than a number to which the label does not come
+  pub via-no-less : {best : ℕ} → best ≤ far → best ≤ w + getD ls y 0 → best ≤ via ls used barred y w
+  via-no-less h k = ⊎-elim (λ e. omega arith) (λ e. omega arith) via-either
+
   via-below : via ls used barred y w < far → Unmarked used barred y × (getD ls y 0 < far) × (via ls used barred y w ≡ w + getD ls y 0)
   unfolding via
   via-below h = ⊎-elim (λ t. let k = tests (t .0) in (k .0, k .1, via-open (k .0) (k .1))) (λ t. absurd (omega arith)) (of-cond (λ (x : ℕ). x < far) _ h)
+
+pub none-below : {x best : ℕ} → best ≤ far → x ≤ far → best ≤ x → Below x best far
+none-below h m b = record { is = λ k. absurd (omega arith); no-less = λ _. b; at-most = m }
 
 -- what holds from a to below i, and at i, holds to below i + 1
 pub up-to : (P : ℕ → Type 0) (a i : ℕ) → ((j : ℕ) → a ≤ j → j < i → P j) → P i → (j : ℕ) → a ≤ j → j < i + 1 → P j

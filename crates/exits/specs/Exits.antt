@@ -29,6 +29,12 @@ via ls used barred y w = cond (eqb (getD used y 0) 0 && (eqb (getD barred y 0) 0
 abbrev pub via-arc : List ℕ → List ℕ → List ℕ → List ℕ → List ℕ → ℕ → ℕ
 via-arc hs ws ls used barred i = via ls used barred (getD hs i 0) (getD ws i 0)
 
+-- r is the number x if that is less than `best`, and tells if not that x is no less
+pub record Below (x best r : ℕ) : Type 0 where
+  pub is : r < best → x ≡ r
+  pub no-less : best ≤ r → best ≤ x
+  pub at-most : x ≤ far
+
 -- ---- over the arcs at the indices from a to below e, with a number for each
 -- l, below the mark, is the least of the numbers, `place` the first that has it, and y the head there
 pub record Best (number : ℕ → ℕ) (hs : List ℕ) (a e l y : ℕ) : Type 0 where

@@ -11,4 +11,4 @@ pub use outs::star;
 pub use stepping::Next;
 pub use stepping::least_exit;
 pub use stepping::tight_exit;
-pub use stepping::via;
+pub use stepping::via_below;

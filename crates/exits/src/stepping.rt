@@ -5,7 +5,7 @@ ghost use Prim.Native.Nat.{ℕ, _≤_, _<_};
 ghost use lib.ListN.{length, getD};
 ghost use Rattle.labels.specs.Arcs.{graph, Arcs};
 ghost use Rattle.labels.specs.Labels.{far};
-ghost use Rattle.exits.specs.Exits.{Unmarked, Unused, via, via-arc, Scanned, Usable, Chosen, Keeps, Stepped};
+ghost use Rattle.exits.specs.Exits.{Unmarked, Unused, via, via-arc, Below, Scanned, Usable, Chosen, Keeps, Stepped};
 ghost use Rattle.exits.specs.Star.{Star, Heads, Starts, Small, longest};
 use labels::FAR;
 
@@ -16,23 +16,28 @@ pub enum Next {
     Nothing,
 }
 
-// Weight and label of an arc to y, or FAR if y is used, barred or not reached.
-pub fn via(y: usize, w: u32, labels: &[u64], used: &[u8], barred: &[u8]) -> u64
+// Weight and label of an arc to y, if y is neither used nor barred and that is less than `best`; else FAR.
+// The label is looked at first, since most arcs lead no better.
+pub fn via_below(y: usize, w: u32, best: u64, labels: &[u64], used: &[u8], barred: &[u8]) -> u64
     requires { ⌜ (y < length (now labels)) × (getD (now labels) y 0 < far → getD (now labels) y 0 ≤ longest) ⌝ }
     requires { ⌜ (length (now used) ≡ length (now labels)) × (length (now barred) ≡ length (now labels)) ⌝ }
-    ensures { λ r. ⌜ r ≡ via (now (labels .entry)) (now (used .entry)) (now (barred .entry)) y w ⌝ }
+    ensures { λ r. ⌜ Below (via (now (labels .entry)) (now (used .entry)) (now (barred .entry)) y w) best r ⌝ }
 {
+    let rest = labels[y];
+    if best <= rest {
+        return FAR;
+    }
+    let l = w as u64 + rest;
+    if best <= l {
+        return FAR;
+    }
     if used[y] != 0 {
         return FAR;
     }
     if barred[y] != 0 {
         return FAR;
     }
-    let rest = labels[y];
-    if rest == FAR {
-        return FAR;
-    }
-    w as u64 + rest
+    l
 }
 
 // The least weight and label over the arcs at the indices from..to, and the first head that has it.
@@ -55,7 +60,7 @@ fn scan(
     let mut i = from;
     while i < to {
         let y = heads[i];
-        let l = via(y as usize, weights[i], labels, used, barred);
+        let l = via_below(y as usize, weights[i], best, labels, used, barred);
         if l < best {
             best = l;
             node = y;
@@ -96,15 +101,15 @@ fn keeps(y: usize, w: u32, labels: &[u64], used: &[u8], want: u64) -> bool
     requires { ⌜ (y < length (now labels)) × (length (now used) ≡ length (now labels)) ⌝ }
     ensures { λ r. ⌜ Keeps (now (labels .entry)) (now (used .entry)) y w want r ⌝ }
 {
-    if used[y] != 0 {
-        return false;
-    }
     let rest = labels[y];
     if want < rest {
         return false;
     }
     let w = w as u64;
     if want - rest != w {
+        return false;
+    }
+    if used[y] != 0 {
         return false;
     }
     true

@@ -7,7 +7,7 @@ ghost use Rattle.exits.specs.Star.{Heads, Starts, Small, longest};
 ghost use Rattle.sharpening.specs.Sharp.{Listed, Front};
 use exits::Next;
 use exits::tight_exit;
-use exits::via;
+use exits::via_below;
 use labels::FAR;
 
 // No path costs more.
@@ -123,7 +123,7 @@ fn spread(
     let to = first_out[x + 1] as usize;
     while i < to {
         let y = heads[i] as usize;
-        let l = via(y, weights[i], overall, used, barred);
+        let l = via_below(y, weights[i], FAR, overall, used, barred);
         listed = reach(y, l, own, hub, keys, nodes, listed);
         i += 1;
     }

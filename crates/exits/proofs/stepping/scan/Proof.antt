@@ -1,12 +1,12 @@
--- `exits::scan` goes through the indices once. The loop: the least number so far, and the first head that has it. Assumes nothing.
-use Rattle.exits.proofs.stepping.scan.Statement.{statement}
-use Rattle.exits.proofs.stepping.scan.Tie as tie
-use mathlib.Core.Logic.{⊎-elim}
-use mathlib.Core.Path.{sym}
+-- `stepping::scan` goes through the indices once. The loop: the least number so far, and the first head that has it. Assumes nothing.
 use Prim.Native.Nat.{_-_, _≤_}
 use native.Mathlib.Omega.{arith}
+use mathlib.Core.Logic.{⊎-elim}
+use mathlib.Core.Path.{refl}
 use Rattle.exits.specs.Exits.{via-arc}
 use Rattle.exits.proofs.ExitLaws.{Scan, scan-start, scan-take, scan-pass, scan-none, scan-best}
+use Rattle.exits.proofs.stepping.scan.Statement.{statement}
+use Rattle.exits.proofs.stepping.scan.Tie as tie
 
 abbrev Inv-loop : tie.InvT-loop
 Inv-loop heads weights from to labels used barred best₀ node₀ i₀ best node i =
@@ -18,7 +18,7 @@ abbrev μ-loop : tie.MeasureT-loop
 abbrev start : tie.At-loop Inv-loop μ-loop → tie.Start Inv-loop μ-loop
 start c = c .before .before .before .before .before .before
 
-abbrev head : tie.After-via Inv-loop μ-loop → tie.At-loop Inv-loop μ-loop
+abbrev head : tie.After-via-below Inv-loop μ-loop → tie.At-loop Inv-loop μ-loop
 head c = c .before .before .before .before
 
 loop-holds : tie.Need-loop-holds Inv-loop μ-loop
@@ -30,17 +30,17 @@ mul-y c = omega arith
 shared-slice-read-y : tie.Need-shared-slice-read-y Inv-loop μ-loop
 shared-slice-read-y c = omega arith
 
-cast-via : tie.Need-cast-via Inv-loop μ-loop
-cast-via c = omega (arith, c .shared-slice-known6 .given (c .before .before .loop .i))
+cast-via-below : tie.Need-cast-via-below Inv-loop μ-loop
+cast-via-below c = omega (arith, c .shared-slice-known6 .given (c .before .before .loop .i))
 
-mul-via : tie.Need-mul-via Inv-loop μ-loop
-mul-via c = omega arith
+mul-via-below : tie.Need-mul-via-below Inv-loop μ-loop
+mul-via-below c = omega arith
 
-shared-slice-read-via : tie.Need-shared-slice-read-via Inv-loop μ-loop
-shared-slice-read-via c = omega arith
+shared-slice-read-via-below : tie.Need-shared-slice-read-via-below Inv-loop μ-loop
+shared-slice-read-via-below c = omega arith
 
-via-requires : tie.Need-via-requires Inv-loop μ-loop
-via-requires c κs =
+via-below-requires : tie.Need-via-below-requires Inv-loop μ-loop
+via-below-requires c κs =
     let l = c .before .before .before in
     let p = start l .pre in
     ((p .0 .head-in _ (omega arith), p .1 .0 .0 .low _), p .1 .1)
@@ -54,11 +54,12 @@ loop-less c = omega arith
 loop-again : tie.Need-loop-again Inv-loop μ-loop
 loop-again c =
     let v = c .before in
-    let l = head v in (
+    let l = head v in
+    let b = v .via-below .ensures in (
       omega arith,
       omega arith,
-      ⊎-elim (λ w. rw (w .1, w .2) (scan-take (omega arith) (sym (v .via .ensures)) (w .0 .taken) (l .loop .inv .2)))
-          (λ w. rw (w .1, w .2) (scan-pass (sym (v .via .ensures)) (w .0 .left) (omega arith) (l .loop .inv .2))) (c .if1 .came),
+      ⊎-elim (λ w. rw (w .1, w .2) (scan-take (omega arith) (b .is (w .0 .taken)) (w .0 .taken) (l .loop .inv .2)))
+          (λ w. rw (w .1, w .2) (scan-pass refl (b .no-less (w .0 .left)) (b .at-most) (l .loop .inv .2))) (c .if1 .came),
     )
 
 returns : tie.Need-returns Inv-loop μ-loop
@@ -76,10 +77,10 @@ scan-spec =
     loop-holds
     mul-y
     shared-slice-read-y
-    cast-via
-    mul-via
-    shared-slice-read-via
-    via-requires
+    cast-via-below
+    mul-via-below
+    shared-slice-read-via-below
+    via-below-requires
     add-i
     loop-less
     loop-again

@@ -52,14 +52,14 @@ shared-slice-read-y c = arc-in (c .before)
 cast-y : tie.Need-cast-y Inv-loop μ-loop
 cast-y c = omega (arith, head-in (c .before))
 
-mul-via : tie.Need-mul-via Inv-loop μ-loop
-mul-via c = omega (arith, arc-in (c .before))
+mul-via-below : tie.Need-mul-via-below Inv-loop μ-loop
+mul-via-below c = omega (arith, arc-in (c .before))
 
-shared-slice-read-via : tie.Need-shared-slice-read-via Inv-loop μ-loop
-shared-slice-read-via c = let t = c .before .before in omega (arith, arc-in t, start (t .before) .pre .0 .0 .weights-long)
+shared-slice-read-via-below : tie.Need-shared-slice-read-via-below Inv-loop μ-loop
+shared-slice-read-via-below c = let t = c .before .before in omega (arith, arc-in t, start (t .before) .pre .0 .0 .weights-long)
 
-via-requires : tie.Need-via-requires Inv-loop μ-loop
-via-requires c κs = let t = c .before .before in let p = start (t .before) .pre in ((head-in t, p .1 .0 .0 .low _), p .1 .1 .0)
+via-below-requires : tie.Need-via-below-requires Inv-loop μ-loop
+via-below-requires c κs = let t = c .before .before in let p = start (t .before) .pre in ((head-in t, p .1 .0 .0 .low _), p .1 .1 .0)
 
 reach-requires : tie.Need-reach-requires Inv-loop μ-loop
 reach-requires c κs =
@@ -95,9 +95,9 @@ spread-spec =
     mul-y
     shared-slice-read-y
     cast-y
-    mul-via
-    shared-slice-read-via
-    via-requires
+    mul-via-below
+    shared-slice-read-via-below
+    via-below-requires
     reach-requires
     add-i
     (λ c. search needs)
