@@ -3,7 +3,7 @@ images and sheets that the test program `trial_sheet` is held to.
 
     python3 examples/make.py
 
-S is network S of document 01. Two more examples are grids of 10 times 10 nodes with arcs between
+S is network S of docs/REFERENCE.md. Two more examples are grids of 10 times 10 nodes with arcs between
 neighbours, both ways, and 4 columns of costs. In `close` the columns differ little, and the
 stopping rule needs few paths; in `apart` they differ much, and 48 paths are not enough.
 
@@ -174,7 +174,7 @@ def s_with_cost(index, cost):
 
 
 # Each image with its sheet, in the order of the test program. A refusal's number and place are
-# those of document 01's table.
+# those of the table (REFERENCE, section 6.2).
 CASES = {
     # settled
     "S": solved(S),

@@ -1,4 +1,5 @@
 // Vihrolom: cheapest, ranked and least-regret routes over a network of time columns. C99 and C++.
+// docs/REFERENCE.md states all rules.
 //
 // Every call has an answer for every input: its result, or one numbered refusal of the table below. A
 // refusal changes no lent list. A result writes only what the call names; other places keep their content.

@@ -1,5 +1,5 @@
-// Calls the eight C functions on the cases of document 01 and on an example of each refusal. Every lent
-// list stands at the beginning of a longer buffer that holds a pattern, and after each call the whole
+// Calls the eight C functions on the cases of docs/REFERENCE.md and on an example of each refusal. Every
+// lent list stands at the beginning of a longer buffer that holds a pattern, and after each call the whole
 // buffer is held to what it has to be: what is written, what is kept, and what lies behind the list.
 // Prints the number of checks; stops at the first that fails, with exit status 1. C99, and C++ as well.
 #include "vihrolom.h"
@@ -325,7 +325,7 @@ static struct list built(uint32_t n, struct list arcs, struct list costs) {
     return bytes(made.is.bytes, made.length);
 }
 
-// The three cases of document 01 that are not on S.
+// The three cases of REFERENCE, section 8, that are not on S.
 static void other_networks(void) {
     const uint16_t ring[] = {1, 3, 2, 3, 2, 4, 3, 2, 3, 4}, ranked[] = {1, 3, 2, 4, 1, 3, 4, 0};
     const uint32_t nothing[] = {0, 0, 0, 0, 0};

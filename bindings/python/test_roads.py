@@ -12,7 +12,7 @@ import roads
 FOLDER = os.path.dirname(os.path.abspath(__file__))
 EXAMPLE = os.path.join(FOLDER, "..", "..", "examples", "roads.csv")
 
-# network S of document 01
+# network S of REFERENCE, section 8.1
 S = """from,to,calm,rush
 A,B,2,4
 A,C,5,1

@@ -1,7 +1,7 @@
-"""Holds the module to the cases of document 01, and to a plain enumeration of all loopless paths.
+"""Holds the module to the cases of docs/REFERENCE.md and to a plain enumeration of all loopless paths.
 
 Two rows of the refusal table are not reached: 13, since the module sizes every slice, and 16, for
-which document 01 knows no example.
+which there is no example.
 """
 import ctypes
 import glob
@@ -48,7 +48,7 @@ def read(name):
 
 
 class Cases(unittest.TestCase):
-    """The cases of document 01; start 1, goal 4 on network S unless stated."""
+    """The cases of REFERENCE, section 8; start 1, goal 4 on network S unless stated."""
 
     def test_build_and_unpack(self):
         self.assertEqual(len(S), 84)

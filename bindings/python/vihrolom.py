@@ -1,16 +1,17 @@
-"""Routes whose worst disappointment is smallest: the calls of document 01 on network images.
+"""Routes whose worst disappointment is smallest: the calls on network images.
 
-Each function takes the bytes of a network image and passes them to the proved core in a shared
-library. The core examines every image, list and number itself; the functions here only size the
-slices that it writes to. A call gives its result or raises `Refusal`.
+docs/REFERENCE.md says what each call gives. Each function takes the bytes of a network image and
+passes them to the proved core in a shared library. The core examines every image, list and number
+itself; the functions here only size the slices that it writes to. A call gives its result or raises
+`Refusal`.
 
 The library's file is named by the environment variable VIHROLOM_LIBRARY; if that is not set, it is
 target/sharedlib/libvihrolom.so of the repository, which tools/build-library makes. It is loaded by
 the first call.
 
 Numbers may be any whole numbers. One that does not fit the 32 bits of its parameter, or the 16 bits
-of a node in a list, is never cut down to them: it is refused as document 01 refuses it, since it is
-outside 1..n, 1..k or 1..256 or above 1,000,000. Document 01 has no row for a negative cost; that
+of a node in a list, is never cut down to them: it is refused by the refusal table, since it is
+outside 1..n, 1..k or 1..256 or above 1,000,000. The table has no row for a negative cost; that
 raises ValueError. What is no whole number raises TypeError.
 """
 from __future__ import annotations
@@ -31,7 +32,7 @@ _NOT_REACHED = _GREATEST_32
 _MOST_PATHS = 256
 _SHEET_PATHS = 48
 
-# The rows of document 01's refusal table, from 1 on. Its remarks on places are left out.
+# The rows of the refusal table (REFERENCE, section 6.2), from 1 on, without their places.
 _ROWS = (
     "image under 24 bytes",
     "edition isn't 1",
@@ -53,7 +54,7 @@ _ROWS = (
 
 
 class Refusal(Exception):
-    """A refusal of document 01: the number of its row, its place (0 if it names none), and its words."""
+    """A refusal: the number of its row, its place (0 if it names none), and its words."""
 
     def __init__(self, number: int, place: int) -> None:
         super().__init__(number, place)

@@ -56,7 +56,7 @@ impl fmt::Display for State {
     }
 }
 
-/// The three lines of document 01's sheet, without the last newline.
+/// The three lines of the sheet, without the last newline.
 impl fmt::Display for Choice {
     fn fmt(&self, f: &mut fmt::Formatter<'_>) -> fmt::Result {
         f.write_str("route")?;

@@ -1,5 +1,5 @@
-//! The calls of document 01 over slices that the caller lends. They are safe for slices of any length
-//! and content: one that is too short is refused.
+//! The calls of docs/REFERENCE.md, section 4, over slices that the caller lends. They are safe for
+//! slices of any length and content: one that is too short is refused.
 //!
 //! A call that is refused changes no slice. Places beyond those that a call is said to write keep their
 //! content. A workspace needs (K+1)(n+16) + 16n + 64 places, and all of it is 0 after a result.
@@ -62,7 +62,7 @@ pub fn regret(image: &[u8], start: u32, goal: u32, nodes: &[u16]) -> Reply {
 
 /// Rank: writes the first K paths, one a row of n places filled up with 0, and their costs; needs
 /// K times n places and K. Value: count.
-#[allow(clippy::too_many_arguments)] // they are those of document 01
+#[allow(clippy::too_many_arguments)] // they are those of the C function
 pub fn rank(
     image: &[u8],
     column: u32,

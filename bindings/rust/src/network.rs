@@ -14,8 +14,8 @@ const UNREACHED: u32 = u32::MAX;
 /// A network whose image the core has accepted: 2 to 200 nodes, up to 1,000 arcs, 1 to 8 columns,
 /// costs up to 1,000,000.
 ///
-/// Nodes and columns are numbered from 1. Any number may be given to a call; what document 01 doesn't
-/// admit is refused.
+/// Nodes and columns are numbered from 1. Any number may be given to a call; what is not
+/// admitted is refused.
 #[derive(Clone, Debug, PartialEq, Eq, Hash)]
 pub struct Network {
     image: Vec<u8>,

@@ -3,7 +3,7 @@
 //! A slice passes as a pointer and a length in elements. A function asks nothing of its caller but that
 //! its slices are what they say: the pointer is not null, also where the length is 0, so many elements
 //! lie behind it, and one that is written overlaps no other. It reads and writes only inside them, keeps
-//! no pointer, and refuses whatever document 01 refuses. The safe form is [`crate::calls`].
+//! no pointer, and refuses whatever the refusal table refuses. The safe form is [`crate::calls`].
 
 use crate::Refusal;
 

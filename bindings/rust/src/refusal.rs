@@ -1,4 +1,4 @@
-//! The refusal table of document 01.
+//! The refusal table (docs/REFERENCE.md, section 6).
 
 use std::error::Error;
 use std::fmt;

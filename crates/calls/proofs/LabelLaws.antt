@@ -1,4 +1,4 @@
--- The exact labels of a column, as document 01's, and in 32 bits. Assumes nothing.
+-- The exact labels of a column, as Label writes them, in 32 bits. Assumes nothing.
 -- only the flags of the nodes matter
 use Prim.Native.Nat.{ℕ, _+_, _-_, _≤_, _<_}
 use native.Mathlib.Omega.{arith}
@@ -91,7 +91,7 @@ module _ {net : Net} {u t : ℕ} {ls : List ℕ} (ok : Admitted net) (from : 1 �
   in-column : (v : ℕ) → 1 ≤ v → v ≤ net .nodes → label (net .nodes) (column net u) t v ≡ narrowed (getD ls v 0)
   in-column v lo hi = let held = column-held ok from upto in rw (← held .graph-is) (exact-at (held .arcs) (rw (← held .graph-is) at l) long v lo hi)
 
-  -- the labels of the nodes 1 to n are document 01's
+  -- the labels of the nodes 1 to n are those of REFERENCE, section 4.2
   pub labels-are : map narrowed (drop 1 ls) ≡ labels (net .nodes) (column net u) t
   unfolding labels
   labels-are = ext-getD 0 _ _ lengths (λ i h. at-place i (omega (arith, length-narrowed ls)))

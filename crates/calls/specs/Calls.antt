@@ -1,4 +1,4 @@
--- Document 01, calls 2 to 6: what Label, Shortest, Regret, Rank and Robust come to, for every image, list, number and length of a lent slice. Assumes nothing.
+-- docs/REFERENCE.md, sections 4.2 to 4.6 and 6: what Label, Shortest, Regret, Rank and Robust come to, for every image, list, number and length of a lent slice. Assumes nothing.
 use Prim.Native.Nat.{ℕ, _+_, _*_}
 use mathlib.Core.Bool.{not, _&&_, _||_}
 use mathlib.Core.List.{List, [], _∷_, map}
@@ -19,18 +19,18 @@ use Rattle.image.specs.Layout.{netOf}
 use Rattle.image.specs.Calls.{image-fault}
 
 -- ---- rows that calls share
--- row 10: "start or goal outside 1..n, or equal"; Label has no start
+-- row 10: start or goal is outside 1..n, or they are equal; Label has no start
 unfoldable pub goal-row : Net → ℕ → Fault
 goal-row net t = row 10 0 (not (is-node (net .nodes) t))
 
 unfoldable pub ends-row : Net → ℕ → ℕ → Fault
 ends-row net s t = row 10 0 (not (is-node (net .nodes) s && is-node (net .nodes) t) || eqb s t)
 
--- row 11: "column outside 1..k"
+-- row 11: the column is outside 1..k
 unfoldable pub column-row : Net → ℕ → Fault
 column-row net u = row 11 0 (not (leb 1 u && leb u (length (net .columns))))
 
--- row 12: "K outside 1..256"
+-- row 12: K is outside 1..256
 unfoldable pub count-row : ℕ → Fault
 count-row K = row 12 0 (not (leb 1 K && leb K 256))
 
@@ -38,16 +38,16 @@ count-row K = row 12 0 (not (leb 1 K && leb K 256))
 unfoldable pub room-row : ℕ → ℕ → Fault
 room-row room need = row 13 0 (ltb room need)
 
--- row 14: "the node list is no path", with its place
+-- row 14: the node list is no path, with its place
 unfoldable pub list-row : Option ℕ → Fault
 list-row none = sound
 list-row (some place) = fault 14 place
 
--- row 15: "no path exists"
+-- row 15: there is no path
 unfoldable pub no-path-row : ℕ → Graph → ℕ → ℕ → Fault
 no-path-row n g s t = row 15 0 (eqb (length (paths n g s t)) 0)
 
--- row 16: "a path cost exceeds 4,000,000,000"
+-- row 16: a path costs more than 4,000,000,000
 unfoldable pub dearest : ℕ → Graph → ℕ → ℕ → ℕ
 dearest n g s t = largest (map (cost g) (paths n g s t))
 
@@ -58,7 +58,7 @@ cost-row c = row 16 0 (ltb 4000000000 c)
 unfoldable pub search-rows : List ℕ → ℕ → ℕ → ℕ → Fault
 search-rows b u s t = (image-fault b then ends-row (netOf b) s t) then column-row (netOf b) u
 
--- "Rank and Robust borrow a workspace of at least (K+1)(n+16) + 16n + 64 32-bit numbers"
+-- the numbers of the workspace that Rank and Robust borrow (REFERENCE, section 3.5)
 unfoldable pub workspace : ℕ → ℕ → ℕ
 workspace n K = (K + 1) * (n + 16) + 16 * n + 64
 
@@ -69,11 +69,11 @@ ranking-rows b u s t K work =
     then count-row K
     then room-row work (workspace (netOf b .nodes) K)
 
--- the workspace: "after a result .. all of it is 0"
+-- the workspace: after a result all of it is 0
 unfoldable pub cleared : Fault → List ℕ → List ℕ
 cleared f work = after f (replicate (length work) 0) work
 
--- ---- Label: column u, goal t; "writes for each node the least cost to the goal, or 4,294,967,295 if it can't be reached, in n 32-bit places"
+-- ---- Label: column u, goal t; writes a label for each node, in n places
 unfoldable pub label-fault : List ℕ → ℕ → ℕ → ℕ → Fault
 label-fault b u t room =
     image-fault b
@@ -89,7 +89,7 @@ label-outcome b u t room = outcome (label-fault b u t room) []
 unfoldable pub labels-of : List ℕ → ℕ → ℕ → List ℕ
 labels-of b u t = labels (netOf b .nodes) (column (netOf b) u) t
 
--- ---- Shortest: column u, start s, goal t; "writes the first path of the ranking order, gives length and cost"
+-- ---- Shortest: column u, start s, goal t; writes the first path of the ranking order, gives its length and cost
 -- the rows before 15
 unfoldable pub shortest-rows : List ℕ → ℕ → ℕ → ℕ → ℕ → Fault
 shortest-rows b u s t room = search-rows b u s t then room-row room (netOf b .nodes)
@@ -114,7 +114,7 @@ shortest-values b u s t = length (shortest-of b u s t) ∷ cost (column (netOf b
 unfoldable pub shortest-outcome : List ℕ → ℕ → ℕ → ℕ → ℕ → Outcome
 shortest-outcome b u s t room = outcome (shortest-fault b u s t room) (shortest-values b u s t)
 
--- ---- Regret: start s, goal t, a node list; "gives figure and worst column"
+-- ---- Regret: start s, goal t, a node list; gives its figure and worst column
 -- the dearest path over all columns, which this call reads all
 unfoldable pub dearest-anywhere : Net → ℕ → ℕ → ℕ
 dearest-anywhere net s t = largest (map (λ u. dearest (net .nodes) (column net u) s t) (numbers 1 (length (net .columns))))
@@ -130,7 +130,7 @@ unfoldable pub regret-outcome : List ℕ → ℕ → ℕ → List ℕ → Outcom
 regret-outcome b s t nodes = outcome (regret-fault b s t nodes) (figure (netOf b) s t nodes ∷ worst (netOf b) s t nodes ∷ [])
 
 -- ---- Rank: column u, start s, goal t, K
--- the rows before 15, for slices of these lengths: "Rank: K times n, and K costs"
+-- the rows before 15, for slices of these lengths: K times n for the rows, and K for the costs
 unfoldable pub rank-rows : List ℕ → ℕ → ℕ → ℕ → ℕ → ℕ → ℕ → ℕ → Fault
 rank-rows b u s t K rows costs work =
     ranking-rows b u s t K work
@@ -140,27 +140,27 @@ rank-rows b u s t K rows costs work =
 unfoldable pub rank-fault : List ℕ → ℕ → ℕ → ℕ → ℕ → ℕ → ℕ → ℕ → Fault
 rank-fault b u s t K rows costs work = rank-rows b u s t K rows costs work then path-rows b u s t
 
--- "the first min(K, number of paths) paths"
+-- the first K paths of the ranked list, or all
 unfoldable pub rank-of : List ℕ → ℕ → ℕ → ℕ → ℕ → List Route
 rank-of b u s t K = take K (ranked (netOf b .nodes) (column (netOf b) u) s t)
 
--- what is written: the paths, "one a row of n places, each row filled up with 0, and their costs"
+-- what is written: the paths, one a row of n places that is filled up with 0, and their costs
 unfoldable pub rank-rows-of : List ℕ → ℕ → ℕ → ℕ → ℕ → List ℕ
 rank-rows-of b u s t K = rows-of (netOf b .nodes) (rank-of b u s t K)
 
 unfoldable pub rank-costs-of : List ℕ → ℕ → ℕ → ℕ → ℕ → List ℕ
 rank-costs-of b u s t K = map (cost (column (netOf b) u)) (rank-of b u s t K)
 
--- "gives the count"
+-- the count
 unfoldable pub rank-outcome : List ℕ → ℕ → ℕ → ℕ → ℕ → ℕ → ℕ → ℕ → Outcome
 rank-outcome b u s t K rows costs work = outcome (rank-fault b u s t K rows costs work) (length (rank-of b u s t K) ∷ [])
 
 -- ---- Robust: column r, start s, goal t, K
--- the rows before 15, for slices of these lengths: "a written node list needs n places"
+-- the rows before 15, for slices of these lengths: n for the path
 unfoldable pub robust-rows : List ℕ → ℕ → ℕ → ℕ → ℕ → ℕ → ℕ → Fault
 robust-rows b r s t K path work = ranking-rows b r s t K work then room-row path (netOf b .nodes)
 
--- "with N = 0 row 15 applies"; row 16 is about all columns, which this call reads
+-- row 15 applies if the ranked list is empty; row 16 is about all columns, which this call reads
 unfoldable pub choice-rows : List ℕ → ℕ → ℕ → ℕ → Fault
 choice-rows b r s t =
     no-path-row (netOf b .nodes) (column (netOf b) r) s t
@@ -179,7 +179,7 @@ chosen (settled p f w c) = p
 chosen (left-open p f w c floor) = p
 chosen no-path = []
 
--- "gives that path's length, figure and worst column, and the count"; then the state, 1 settled or 2 open, and the floor, 0 if settled
+-- the path's length, figure and worst column, and the count; then the state, 1 settled or 2 open, and the floor, 0 if settled
 unfoldable pub robust-values : Answer → List ℕ
 robust-values (settled p f w c) = length p ∷ f ∷ w ∷ c ∷ 1 ∷ 0 ∷ []
 robust-values (left-open p f w c floor) = length p ∷ f ∷ w ∷ c ∷ 2 ∷ floor ∷ []

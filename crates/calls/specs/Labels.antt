@@ -1,4 +1,4 @@
--- Labels in 64 bits, as the label loop gives them, and in the 32 bits of document 01. Assumes nothing.
+-- Labels in 64 bits, as the label loop gives them, and in the 32 bits that Label writes. Assumes nothing.
 use Prim.Native.Nat.{ℕ, _≤_}
 use mathlib.Core.Path.{_≡_}
 use mathlib.Core.Bool.{cond}
@@ -6,7 +6,7 @@ use lib.Dec.{eqb}
 use Rattle.terms.specs.Regret.{mark}
 use Rattle.labels.specs.Labels.{far}
 
--- a label with document 01's mark in the place of far
+-- a label with the mark of REFERENCE, section 4.2, in the place of far
 unfoldable pub narrowed : ℕ → ℕ
 narrowed l = cond (eqb l far) mark l
 

@@ -20,7 +20,7 @@ pub record GoesOn (ts hs nodes : List ℕ) (i : ℕ) : Type 0 where
   pub arc : (j : ℕ) × At ts hs (getD nodes (i - 1) 0) (getD nodes i 0) j
   pub new : (j : ℕ) → j < i → getD nodes j 0 ≡ getD nodes i 0 → ⊥
 
--- "the first position whose node repeats or has no arc from the node before"; the length if there is none
+-- the first position whose node repeats or has no arc from the node before; the length if there is none
 pub record FirstError (ts hs nodes : List ℕ) (place : ℕ) : Type 0 where
   pub after-first : 1 ≤ place
   pub upto : place ≤ length nodes

@@ -15,7 +15,7 @@ ghost use Rattle.packing.specs.Calls.{build-fault, build-outcome, unpack-fault,
 ghost use Rattle.packing.specs.RoundTrip.{ReadsBack, WritesAgain};
 ghost use Rattle.replies.specs.Replies.{numbers, reply-of};
 
-// Document 01, call 1. v0 to v2: n, m and k.
+// REFERENCE, section 4.1. v0 to v2: n, m and k.
 #[no_mangle]
 pub extern "C" fn vihrolom_check(image: &[u8]) -> Reply
     ensures { λ r. ⌜ numbers r ≡ reply-of (check-outcome (now (image .entry))) ⌝ }
@@ -24,7 +24,7 @@ pub extern "C" fn vihrolom_check(image: &[u8]) -> Reply
     of_checked(answer)
 }
 
-// Document 01, call 7. v0: the image's length.
+// REFERENCE, section 4.7. v0: the image's length.
 #[no_mangle]
 pub extern "C" fn vihrolom_build(
     n: u32,
@@ -41,7 +41,7 @@ pub extern "C" fn vihrolom_build(
     of_built(answer)
 }
 
-// Document 01, call 7. v0 to v2: n, m and k.
+// REFERENCE, section 4.8. v0 to v2: n, m and k.
 #[no_mangle]
 pub extern "C" fn vihrolom_unpack(image: &[u8], nodes: &mut [u16], costs: &mut [u32]) -> Reply
     ensures { λ r. ⌜ numbers r ≡ reply-of (unpack-outcome (now (image .entry)) (length (now (nodes .entry))) (length (now (costs .entry)))) ⌝ }

@@ -1,6 +1,6 @@
-// The calls of document 01 as C functions. Slices pass as pointer and length, in elements; the answer
-// is returned by value. No function asks anything of its caller but that the slices are what they say.
-// include/vihrolom.h declares them.
+// The calls as C functions (REFERENCE, section 4.9). Slices pass as pointer and length, in elements;
+// the answer is returned by value. No function asks anything of its caller but that the slices are what
+// they say. include/vihrolom.h declares them.
 
 mod images;
 mod paths;

@@ -17,7 +17,7 @@ ghost use Rattle.calls.specs.Calls.{cleared, label-fault, label-outcome, labels
 ghost use Rattle.calls.specs.Demands.{Kept3};
 ghost use Rattle.replies.specs.Replies.{numbers, reply-of};
 
-// Document 01, call 2. No values.
+// REFERENCE, section 4.2. No values.
 #[no_mangle]
 pub extern "C" fn vihrolom_label(image: &[u8], column: u32, goal: u32, labels: &mut [u32]) -> Reply
     ensures { λ r. ⌜ numbers r ≡ reply-of (label-outcome (now (image .entry)) column goal (length (now (labels .entry)))) ⌝ }
@@ -27,7 +27,7 @@ pub extern "C" fn vihrolom_label(image: &[u8], column: u32, goal: u32, labels: &
     of_labelled(answer)
 }
 
-// Document 01, call 3. v0: the path's length; v1: its cost.
+// REFERENCE, section 4.3. v0: the path's length; v1: its cost.
 #[no_mangle]
 pub extern "C" fn vihrolom_shortest(
     image: &[u8],
@@ -43,7 +43,7 @@ pub extern "C" fn vihrolom_shortest(
     of_routed(answer)
 }
 
-// Document 01, call 4. v0: the figure; v1: the worst column.
+// REFERENCE, section 4.4. v0: the figure; v1: the worst column.
 #[no_mangle]
 pub extern "C" fn vihrolom_regret(image: &[u8], start: u32, goal: u32, nodes: &[u16]) -> Reply
     ensures { λ r. ⌜ numbers r ≡ reply-of (regret-outcome (now (image .entry)) start goal (now (nodes .entry))) ⌝ }
@@ -52,7 +52,7 @@ pub extern "C" fn vihrolom_regret(image: &[u8], start: u32, goal: u32, nodes: &[
     of_regretted(answer)
 }
 
-// Document 01, call 5. v0: the number of paths.
+// REFERENCE, section 4.5. v0: the number of paths.
 #[no_mangle]
 pub extern "C" fn vihrolom_rank(
     image: &[u8],
@@ -73,7 +73,7 @@ pub extern "C" fn vihrolom_rank(
     of_listed(answer)
 }
 
-// Document 01, call 6. v0: the path's length; v1: its figure; v2: its worst column; v3: the count;
+// REFERENCE, section 4.6. v0: the path's length; v1: its figure; v2: its worst column; v3: the count;
 // v4: the state, 1 settled or 2 open; v5: the floor, 0 if settled.
 #[no_mangle]
 pub extern "C" fn vihrolom_robust(

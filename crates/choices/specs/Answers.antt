@@ -1,4 +1,4 @@
--- What Robust's answer says: 01's values, or the refusal's number and place. Assumes nothing.
+-- What Robust's answer says: the values, or the refusal's number and place. Assumes nothing.
 use mathlib.Core.List.{[], _∷_}
 use Rattle.image.specs.Outcome.{Outcome, gives}
 use Rattle.image.specs.Answers.{refused}

@@ -1,4 +1,4 @@
-// A plain enumeration of all loopless paths in a network of 2 to 8 nodes, and what document 01 says
+// A plain enumeration of all loopless paths in a network of 2 to 8 nodes, and what REFERENCE says
 // of them. The tests hold the library to it. It shares no code with the library and has no
 // cleverness: every path is written down with its cost in every column, and each answer is read off
 // these rows.

@@ -1,4 +1,4 @@
--- What an accepted image promises to the layers above: its network is one that document 01 admits. Assumes nothing.
+-- What an accepted image promises to the layers above: its network is admitted. Assumes nothing.
 -- ---- arcs
 use Prim.Native.Nat.{ℕ, zero, suc, _+_, _*_, _≤_}
 use native.Mathlib.Omega.{arith}

@@ -1,4 +1,4 @@
--- What Check's answer says: 01's values, or the refusal's number and place. Assumes nothing.
+-- What Check's answer says: n, m and k, or the refusal's number and place. Assumes nothing.
 use mathlib.Core.List.{List, [], _∷_}
 use Prim.Native.Nat.{ℕ}
 use Rattle.image.specs.declared.refusal.Refusal.{Refusal}

@@ -1,4 +1,4 @@
--- Document 01, "The network image": "all numbers are unsigned, low byte first". Assumes nothing.
+-- docs/REFERENCE.md, section 2.1: numbers as bytes, unsigned, low byte first. Assumes nothing.
 use Prim.Native.Nat.{ℕ, zero, suc, _+_, _*_, _/_, _%_}
 use mathlib.Core.List.{List, [], _∷_, _++_}
 use lib.ListN.{take, drop}

@@ -1,4 +1,4 @@
--- Document 01, call 1: what Check comes to, for every image. Assumes nothing.
+-- docs/REFERENCE.md, section 4.1: what Check comes to, for every image. Assumes nothing.
 use Prim.Native.Nat.{ℕ}
 use mathlib.Core.Bool.{not}
 use mathlib.Core.List.{List, [], _∷_}
@@ -21,7 +21,7 @@ header-fault b =
 unfoldable pub image-fault : List ℕ → Fault
 image-fault b = header-fault b then lists-fault (node-count b) (pairs (arc-count b) (node-list b)) (cost-list b)
 
--- "Check: image; gives n, m, k"
+-- Check gives n, m and k
 unfoldable pub sizes : List ℕ → List ℕ
 sizes b = node-count b ∷ arc-count b ∷ column-count b ∷ []
 

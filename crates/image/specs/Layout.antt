@@ -1,4 +1,4 @@
--- Document 01, "The network image": the fields and lists of an image, the image that lists are written to, and the network it means. Assumes nothing.
+-- docs/REFERENCE.md, section 2: the fields and lists of an image, the image that lists are written to, and the network it means. Assumes nothing.
 use Prim.Native.Nat.{ℕ, _+_, _*_, _/_}
 use mathlib.Core.Bool.{Bool, _&&_}
 use mathlib.Core.List.{List, [], _∷_, _++_}
@@ -8,7 +8,7 @@ use Rattle.terms.specs.Network.{Net, cut}
 use Rattle.image.specs.Bytes.{field, decode, encode}
 use Rattle.image.specs.Rows.{pairs}
 
--- ---- "the 24-byte header holds, by byte offset"
+-- ---- the header of 24 bytes, by offset
 unfoldable pub edition : List ℕ → ℕ
 edition b = field 2 b 0
 
@@ -22,24 +22,24 @@ arc-count b = field 2 b 4
 unfoldable pub column-count : List ℕ → ℕ
 column-count b = field 2 b 6
 
--- where the costs start, "24 + 4m", and the total length, "24 + 4m + 4mk"
+-- where the costs start, 24 + 4m, and the total length, 24 + 4m + 4mk
 unfoldable pub costs-start : ℕ → ℕ
 costs-start m = 24 + 4 * m
 
 unfoldable pub total : ℕ → ℕ → ℕ
 total m k = costs-start m + 4 * (m * k)
 
--- "8 offset of the arcs, 24; 12 offset of the costs, 24 + 4m; 16 total length, 24 + 4m + 4mk; 20 reserved, 0"
+-- at 8 the offset of the arcs, at 12 that of the costs, at 16 the total, at 20 the reserved field, 0
 unfoldable pub fields-right : List ℕ → ℕ → ℕ → Bool
 fields-right b m k =
     eqb (field 4 b 8) 24 && (eqb (field 4 b 12) (costs-start m) && (eqb (field 4 b 16) (total m k) && eqb (field 4 b 20) 0))
 
 -- ---- the lists of an image
--- "arcs: m records of tail and head, 2 bytes each"
+-- arcs: m records of tail and head, 2 bytes each
 unfoldable pub nodes-in : ℕ → List ℕ → List ℕ
 nodes-in m b = decode 2 (2 * m) (drop 24 b)
 
--- "costs: k columns of m 4-byte numbers, in arc order"
+-- costs: k columns of m numbers of 4 bytes, in arc order
 unfoldable pub costs-in : ℕ → ℕ → List ℕ → List ℕ
 costs-in m k b = decode 4 (m * k) (drop (costs-start m) b)
 
@@ -53,7 +53,7 @@ cost-list b = costs-in (arc-count b) (column-count b) b
 unfoldable pub header : ℕ → ℕ → ℕ → List ℕ
 header n m k = encode 2 (1 ∷ n ∷ m ∷ k ∷ []) ++ encode 4 (24 ∷ costs-start m ∷ total m k ∷ 0 ∷ [])
 
--- "in Build m is half the list's length rounded down"
+-- in Build m is half the list's length, rounded down
 unfoldable pub half : List ℕ → ℕ
 half nodes = length nodes / 2
 

@@ -15,7 +15,7 @@ row number place true = fault number place
 row number place false = sound
 
 infixr 20 _then_
--- "the lowest number that applies is given": the rows of the left side stand before those of the right
+-- the first row that applies is given: the rows of the left side stand before those of the right
 unfoldable pub _then_ : Fault → Fault → Fault
 sound then f = f
 fault number place then f = fault number place
@@ -29,7 +29,7 @@ unfoldable pub outcome : Fault → List ℕ → Outcome
 outcome sound values = gives values
 outcome (fault number place) values = refuses number place
 
--- a lent slice after the call: a result is written over its beginning, "a refusal changes no lent slice"
+-- a lent slice after the call: a result is written over its beginning, and a refusal changes nothing
 unfoldable pub after : Fault → List ℕ → List ℕ → List ℕ
 after sound new old = new ++ drop (length new) old
 after (fault number place) new old = old

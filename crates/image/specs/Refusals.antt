@@ -1,4 +1,4 @@
--- Document 01, "The refusal table": the number and the place of each refusal. Assumes nothing.
+-- docs/REFERENCE.md, section 6: the number and the place of each refusal. Assumes nothing.
 use Prim.Native.Nat.{ℕ}
 use Rattle.image.specs.declared.refusal.Refusal.{Refusal}
 use Rattle.image.specs.declared.refusal.Refusal.the-variants.{ImageTooShort, WrongEdition, SizeOutOfRange, WrongField, WrongLength, ArcOutOfRange, ArcToItself, ArcNotRising, CostTooLarge, WrongEnds, WrongColumn, WrongPathCount, SliceTooShort, NotAPath, NoPath, CostOverflow}
@@ -6,7 +6,7 @@ use Rattle.image.specs.declared.refusal.Verdict.{Verdict}
 use Rattle.image.specs.declared.refusal.Verdict.the-variants.{Sound, Refused}
 use Rattle.image.specs.Outcome.{Fault, sound, fault}
 
--- "a refusal gives its number .."
+-- the number of a refusal
 abbrev pub numberOf : Refusal → ℕ
 numberOf ImageTooShort = 1
 numberOf WrongEdition = 2
@@ -25,7 +25,7 @@ numberOf (NotAPath position) = 14
 numberOf NoPath = 15
 numberOf CostOverflow = 16
 
--- ".. and a place", which "is 0 unless the row names one"
+-- its place, which is 0 unless the row names one
 abbrev pub placeOf : Refusal → ℕ
 placeOf ImageTooShort = 0
 placeOf WrongEdition = 0

@@ -1,4 +1,4 @@
--- Document 01, "The refusal table", rows 3 and 6 to 9: what is asked of a network's numbers, arcs and costs. Assumes nothing.
+-- docs/REFERENCE.md, section 6.2, rows 3 and 6 to 9: what is asked of a network's numbers, arcs and costs. Assumes nothing.
 use Prim.Native.Nat.{ℕ, zero, suc}
 use mathlib.Core.Bool.{Bool, not, _&&_}
 use mathlib.Core.List.{List, [], _∷_}
@@ -7,7 +7,7 @@ use lib.ListN.{getD, drop}
 use Rattle.terms.specs.Network.{below}
 use Rattle.image.specs.Outcome.{Fault, sound, row, _then_}
 
--- "n is 2 to 200, m 0 to 1,000, k 1 to 8"
+-- n is 2 to 200, m 0 to 1,000, k 1 to 8
 unfoldable pub in-range : ℕ → ℕ → ℕ → Bool
 in-range n m k = leb 2 n && (leb n 200 && (leb m 1000 && (leb 1 k && leb k 8)))
 
@@ -26,12 +26,12 @@ arc-fault n last i a =
     then row 7 i (eqb (a .0) (a .1))
     then row 8 i (not (below last a))
 
--- "arcs are examined by index from 0, and for one arc 6, 7, 8 in that order"
+-- arcs are looked at by index from 0, and each by rows 6, 7 and 8 in that order
 unfoldable pub arcs-fault : ℕ → ℕ × ℕ → ℕ → List (ℕ × ℕ) → Fault
 arcs-fault n last i [] = sound
 arcs-fault n last i (a ∷ l) = arc-fault n last i a then arcs-fault n a (suc i) l
 
--- row 9: "cost above 1,000,000; place: first such index in the costs, from 0"
+-- row 9: a cost is above 1,000,000; the place is the index of the first such in the costs, from 0
 unfoldable pub costs-fault : ℕ → List ℕ → Fault
 costs-fault i [] = sound
 costs-fault i (c ∷ l) = row 9 i (ltb 1000000 c) then costs-fault (suc i) l

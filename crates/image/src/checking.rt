@@ -1,4 +1,4 @@
-// Check: whether an image is a network of document 01, and its sizes.
+// Check: whether an image is accepted, and its sizes.
 use super::bytes::read16;
 use super::bytes::read32;
 use super::layout::cost_count;
@@ -141,7 +141,7 @@ fn check_body(image: &[u8], n: u32, m: u32, k: u32) -> Checked
     Checked::Network(Sizes { n, m, k })
 }
 
-// Document 01, call 1.
+// REFERENCE, section 4.1.
 pub fn check(image: &[u8]) -> Checked
     ensures { λ r. ⌜ checked r ≡ check-outcome (now (image .entry)) ⌝ }
 {

@@ -1,4 +1,4 @@
-// The rows of document 01's refusal table, with their numbers and places.
+// The rows of the refusal table (REFERENCE, section 6.2), with their numbers and places.
 ghost use mathlib.Core.Path.{_≡_};
 ghost use Rattle.image.specs.Refusals.{numberOf, placeOf};
 

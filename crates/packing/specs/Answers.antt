@@ -1,4 +1,4 @@
--- What the answers of Unpack and Build say: 01's values, or the refusal's number and place. Assumes nothing.
+-- What the answers of Unpack and Build say: the values, or the refusal's number and place. Assumes nothing.
 use mathlib.Core.List.{[], _∷_}
 use Rattle.image.specs.Outcome.{Outcome, gives}
 use Rattle.image.specs.Answers.{triple, refused}

@@ -1,4 +1,4 @@
--- Document 01, call 7: what Build and Unpack come to, for every image, list, number and length of a lent slice. Assumes nothing.
+-- docs/REFERENCE.md, sections 4.7 and 4.8: what Build and Unpack come to, for every image, list, number and length of a lent slice. Assumes nothing.
 use Prim.Native.Nat.{ℕ, _*_, _%_}
 use mathlib.Core.Bool.{not, _&&_, _||_}
 use mathlib.Core.List.{List, [], _∷_}
@@ -10,18 +10,18 @@ use Rattle.image.specs.Layout.{arc-count, column-count, total, half}
 use Rattle.image.specs.Calls.{image-fault, sizes}
 
 -- ---- Unpack
--- row 13 for lent slices of these lengths: "Unpack 2m and mk"
+-- row 13 for lent slices of these lengths: it needs 2m and mk places
 unfoldable pub unpack-fault : List ℕ → ℕ → ℕ → Fault
 unpack-fault b nodes-room costs-room =
     image-fault b
     then row 13 0 (ltb nodes-room (2 * arc-count b) || ltb costs-room (arc-count b * column-count b))
 
--- "Unpack: writes both lists from an image, gives n, m, k"
+-- Unpack gives n, m and k; both lists are written
 unfoldable pub unpack-outcome : List ℕ → ℕ → ℕ → Outcome
 unpack-outcome b nodes-room costs-room = outcome (unpack-fault b nodes-room costs-room) (sizes b)
 
 -- ---- Build
--- "in Build, odd node list or costs not mk": row 4; the rows of the lists; row 13: "Build the image's total in bytes"
+-- row 4: the node list is odd, or the costs are not mk; the rows of the lists; row 13: the image's total is needed, in bytes
 unfoldable pub build-fault : ℕ → ℕ → List ℕ → List ℕ → ℕ → Fault
 build-fault n k nodes costs room =
     row 3 0 (not (in-range n (half nodes) k))
@@ -29,6 +29,6 @@ build-fault n k nodes costs room =
     then lists-fault n (pairs (half nodes) nodes) costs
     then row 13 0 (ltb room (total (half nodes) k))
 
--- "Build: writes an image of edition 1, gives its length"
+-- Build gives the length of the image; an image of edition 1 is written
 unfoldable pub build-outcome : ℕ → ℕ → List ℕ → List ℕ → ℕ → Outcome
 build-outcome n k nodes costs room = outcome (build-fault n k nodes costs room) (total (half nodes) k ∷ [])

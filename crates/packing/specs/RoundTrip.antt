@@ -1,4 +1,4 @@
--- Demand 2 of the buyers, on images: "Network images written from lists read back as those lists, and an accepted image's lists write that image again". Assumes nothing.
+-- docs/REFERENCE.md, section 9.2, (b) and (c): an image written from lists reads back as these lists, and the lists of an accepted image write that image again. Assumes nothing.
 use Prim.Native.Nat.{ℕ, _≤_}
 use mathlib.Core.Path.{_≡_}
 use mathlib.Core.List.{List, [], _∷_}

@@ -134,7 +134,7 @@ fn write_costs(image: &mut [u8], start: usize, costs: &[u32])
     }
 }
 
-// Document 01, call 7.
+// REFERENCE, section 4.7.
 pub fn build(n: u32, k: u32, nodes: &[u16], costs: &[u32], image: &mut [u8]) -> Built
     ensures { λ r. ⌜ built r ≡ build-outcome n k (now (nodes .entry)) (now (costs .entry)) (length (now (image .entry))) ⌝ }
     ensures { λ _. ⌜ now (image .exit) ≡ after (build-fault n k (now (nodes .entry)) (now (costs .entry)) (length (now (image .entry)))) (image-of n k (now (nodes .entry)) (now (costs .entry))) (now (image .entry)) ⌝ }

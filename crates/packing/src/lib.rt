@@ -1,4 +1,4 @@
-// Build and Unpack of document 01, which ask nothing of their caller: lists written as an image, and an
+// Build and Unpack, which ask nothing of their caller: lists written as an image, and an
 // image's lists.
 
 mod building;

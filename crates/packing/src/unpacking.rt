@@ -36,7 +36,7 @@ fn read_nodes(source: &[u8], count: usize, nodes: &mut [u16])
     }
 }
 
-// Document 01, call 7.
+// REFERENCE, section 4.8.
 pub fn unpack(image: &[u8], nodes: &mut [u16], costs: &mut [u32]) -> Unpacked
     ensures { λ r. ⌜ unpacked r ≡ unpack-outcome (now (image .entry)) (length (now (nodes .entry))) (length (now (costs .entry))) ⌝ }
     ensures { λ _. ⌜ now (nodes .exit) ≡ after (unpack-fault (now (image .entry)) (length (now (nodes .entry))) (length (now (costs .entry)))) (node-list (now (image .entry))) (now (nodes .entry)) ⌝ }

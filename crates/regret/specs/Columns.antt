@@ -17,7 +17,7 @@ arc-pairs [] hs = []
 arc-pairs (t ∷ ts) [] = []
 arc-pairs (t ∷ ts) (h ∷ hs) = (t, h) ∷ arc-pairs ts hs
 
--- the network that the arrays hold: n nodes, and "k columns of m numbers, in arc order"
+-- the network that the arrays hold: n nodes, and k columns of m numbers, in arc order
 unfoldable pub network : ℕ → ℕ → List ℕ → List ℕ → List ℕ → Net
 network n k ts hs costs = record { nodes = n; arcs = arc-pairs ts hs; columns = cut k (length ts) costs }
 
@@ -25,7 +25,7 @@ network n k ts hs costs = record { nodes = n; arcs = arc-pairs ts hs; columns = 
 abbrev pub column-costs : ℕ → List ℕ → ℕ → List ℕ
 column-costs m costs u = take m (drop ((u - 1) * m) costs)
 
--- the arrays hold k columns of arcs between n nodes, within 01's ranges; outs says where the arcs out of each node begin
+-- the arrays hold k columns of arcs between n nodes, within the ranges of an image; outs says where the arcs out of each node begin
 pub record Columns (n k : ℕ) (ts hs outs costs : List ℕ) : Type 0 where
   pub columns-from : 1 ≤ k
   pub columns-to : k ≤ 8
@@ -35,6 +35,6 @@ pub record Columns (n k : ℕ) (ts hs outs costs : List ℕ) : Type 0 where
   pub costs-to : (i : ℕ) → i < length costs → getD costs i 0 ≤ 1000000
 
 -- ---- deviations
--- what a path costs beyond the bests, in each column from 1 on; 01's deviations, where they are each column's least cost
+-- what a path costs beyond the bests, in each column from 1 on; its deviations, where the bests are each column's least cost
 unfoldable pub over : Net → List ℕ → Route → List ℕ
 over net bests p = map (λ u. cost (column net u) p - getD bests (u - 1) 0) (numbers 1 (length (net .columns)))

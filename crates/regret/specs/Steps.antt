@@ -16,7 +16,7 @@ pub record Starred (hs first path : List ℕ) : Type 0 where
 pub record Steps (ts hs path arcs : List ℕ) (c : ℕ) : Type 0 where
   pub step : (i : ℕ) → suc i < c → At ts hs (getD path i 0) (getD path (suc i) 0) (getD arcs i 0)
 
--- "the sum over its arcs": what the arcs weigh together
+-- what the arcs weigh together
 unfoldable pub sum-of : List ℕ → List ℕ → ℕ
 sum-of ws [] = 0
 sum-of ws (a ∷ arcs) = getD ws a 0 + sum-of ws arcs

@@ -1,11 +1,11 @@
--- What Robust's answer says: 01's values for each of its cases. Assumes nothing.
+-- What Robust's answer says: the values of each of its cases (REFERENCE, section 4.6). Assumes nothing.
 use Prim.Native.Nat.{ℕ}
 use Rattle.terms.specs.Paths.{Route}
 use Rattle.terms.specs.Robust as terms
 use Rattle.robust.specs.declared.answering.Answer.{Answer}
 use Rattle.robust.specs.declared.answering.Answer.the-variants.{Settled, Open}
 
--- "that path's length"
+-- the path's length
 abbrev pub chosen-length : Answer → ℕ
 chosen-length (Settled c count) = c .length
 chosen-length (Open c count floor) = c .length

@@ -1,4 +1,4 @@
--- Document 01, call 6, while paths are counted: the earliest with the least figure, and the stopping rule so far. Assumes nothing.
+-- docs/REFERENCE.md, section 5, while paths are counted: the earliest with the least figure, and the stopping rule so far. Assumes nothing.
 use Prim.Native.Nat.{ℕ, _≤_, _<_}
 use mathlib.Core.Path.{_≡_}
 use mathlib.Core.List.{List, []}
@@ -7,7 +7,7 @@ use Rattle.terms.specs.Paths.{Route}
 use Rattle.terms.specs.Robust.{least-figure}
 
 -- ---- over a ranked list ps, with its paths' deviations, figures and worst columns
--- the path at a place is "the earliest path with the least figure" among the first j, and has this figure and worst column
+-- the path at a place is the earliest with the least figure among the first j, and has this figure and worst column
 pub record Leads (fig wst : Route → ℕ) (ps : List Route) (j place figure worst : ℕ) : Type 0 where
   pub counted : place < j
   pub within : place < length ps

@@ -1,4 +1,4 @@
--- What the search found, and what Robust's answer says: 01's path, figure, worst column, count and floor. Assumes nothing.
+-- What the search found, and what Robust's answer says: path, figure, worst column, count and floor. Assumes nothing.
 use Prim.Native.Nat.{ℕ, _≤_}
 use mathlib.Core.Path.{_≡_}
 use mathlib.Core.Bool.{cond}

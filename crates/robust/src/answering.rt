@@ -46,8 +46,8 @@ fn state(found: Verdict, length: usize) -> Answer
     Answer::Open(choice, found.count as u32, found.floor as u32)
 }
 
-// Document 01, call 6, on arrays: writes the chosen path over the beginning of route. In the column there
-// is a path; overall are labels to the goal, and bests the least cost in each column.
+// Robust (REFERENCE, section 5) on arrays: writes the chosen path over the beginning of route. In the
+// column there is a path; overall are labels to the goal, and bests the least cost in each column.
 pub fn least_regret(
     tails: &[u16],
     heads: &[u16],

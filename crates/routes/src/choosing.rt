@@ -65,7 +65,7 @@ fn decide(
     choose(image, sizes, column, start, goal, wanted, path, work)
 }
 
-// Document 01, call 6. The first three promises say what is given and written; the last one is demand 3.
+// REFERENCE, section 4.6. The first three promises say what is given and written; the last one is demand 3, section 9.3.
 pub fn robust(
     image: &[u8],
     column: u32,

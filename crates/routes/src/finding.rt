@@ -106,7 +106,7 @@ fn write_shortest(
     )
 }
 
-// Document 01, call 3.
+// REFERENCE, section 4.3.
 pub fn shortest(image: &[u8], column: u32, start: u32, goal: u32, path: &mut [u16]) -> Routed
     ensures { λ r. ⌜ routed r ≡ shortest-outcome (now (image .entry)) column start goal (length (now (path .entry))) ⌝ }
     ensures { λ _. ⌜ now (path .exit) ≡ after (shortest-fault (now (image .entry)) column start goal (length (now (path .entry)))) (shortest-of (now (image .entry)) column start goal) (now (path .entry)) ⌝ }

@@ -46,7 +46,7 @@ fn check_label(image: &[u8], column: u32, goal: u32, room: usize) -> Checked
     check_costs(sizes)
 }
 
-// A label in 32 bits: document 01's mark for FAR.
+// A label in 32 bits: Label's mark in the place of FAR.
 fn narrow(label: u64) -> u32
     requires { ⌜ Narrow label ⌝ }
     ensures { λ r. ⌜ r ≡ narrowed label ⌝ }
@@ -100,7 +100,7 @@ fn write_labels(image: &[u8], n: u32, m: u32, column: u32, goal: u32, labels: &m
     write_labels_in(image, m, column, goal, &mut exact[..places], labels);
 }
 
-// Document 01, call 2.
+// REFERENCE, section 4.2.
 pub fn label(image: &[u8], column: u32, goal: u32, labels: &mut [u32]) -> Labelled
     ensures { λ r. ⌜ labelled r ≡ label-outcome (now (image .entry)) column goal (length (now (labels .entry))) ⌝ }
     ensures { λ _. ⌜ now (labels .exit) ≡ after (label-fault (now (image .entry)) column goal (length (now (labels .entry)))) (labels-of (now (image .entry)) column goal) (now (labels .entry)) ⌝ }

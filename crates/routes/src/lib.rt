@@ -1,4 +1,4 @@
-// The path layer's calls on images: Label, Shortest, Regret, Rank and Robust of document 01. No call asks anything of its caller.
+// The path layer's calls on images: Label, Shortest, Regret, Rank and Robust. No call asks anything of its caller.
 
 mod choosing;
 mod finding;

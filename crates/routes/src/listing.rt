@@ -83,7 +83,7 @@ fn write_ranked(
     Listed::Paths(count as u32)
 }
 
-// Document 01, call 5.
+// REFERENCE, section 4.5.
 pub fn rank(
     image: &[u8],
     column: u32,

@@ -35,7 +35,7 @@ fn check_regret(image: &[u8], start: u32, goal: u32, nodes: &[u16]) -> Checked
     check_costs(sizes)
 }
 
-// Document 01, call 4.
+// REFERENCE, section 4.4.
 pub fn regret(image: &[u8], start: u32, goal: u32, nodes: &[u16]) -> Regretted
     ensures { λ r. ⌜ regretted r ≡ regret-outcome (now (image .entry)) start goal (now (nodes .entry)) ⌝ }
 {

@@ -1,4 +1,4 @@
--- Document 01, "Network S and the sheet": the bytes of network S's image, the sheet that 01 prints for it, and the theorem that the definition gives this sheet. Assumes nothing.
+-- docs/REFERENCE.md, sections 7.2 and 8.1: the bytes of network S's image, the sheet that is printed there, and the theorem that the definition gives this sheet. Assumes nothing.
 use Prim.Native.Nat.{ℕ}
 use mathlib.Core.Path.{_≡_, refl, _∙_, ap₂}
 use mathlib.Core.List.{List, [], _∷_, flatMap}
@@ -47,7 +47,7 @@ prints : answer-text (settled (1 ∷ 3 ∷ 4 ∷ []) 3 2 2) ≡ sheet-of-S
 unfolding digits decimal node-text nodes-text two-numbers route-line regret-line settled-line choice-lines answer-text
 prints = refl
 
--- "Total 84 bytes. .. For S the sheet is"
+-- the image has 84 bytes, and its sheet is the one above
 pub record SampleSheet : Type 0 where
   pub bytes : length image-of-S ≡ 84
   pub printed : sheet image-of-S ≡ sheet-of-S

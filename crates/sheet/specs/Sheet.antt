@@ -1,4 +1,4 @@
--- Document 01, "Network S and the sheet": the text that the program prints, as ASCII bytes. Assumes nothing.
+-- docs/REFERENCE.md, section 7: the text that the program prints, as ASCII bytes. Assumes nothing.
 use Prim.Native.Nat.{ℕ}
 use mathlib.Core.List.{List, [], _∷_, _++_}
 use Rattle.terms.specs.Paths.{Route}
@@ -8,7 +8,7 @@ use Rattle.image.specs.Layout.{netOf}
 use Rattle.calls.specs.Calls.{robust-fault, robust-of}
 use Rattle.sheet.specs.Text.{decimal}
 
--- ---- words: "one space between words, each line closed by a newline"
+-- ---- words: one space stands between two, and a newline ends each line
 -- " "
 abbrev pub space : List ℕ
 space = 32 ∷ []
@@ -78,7 +78,7 @@ settled-line c = ranked-word ++ (decimal c ++ settled-word)
 unfoldable pub open-line : ℕ → ℕ → List ℕ
 open-line c floor = two-numbers ranked-word c floor-word floor
 
--- "a refusal prints only `refused N at P`, number and place"
+-- "refused N at P": number and place
 unfoldable pub refused-line : ℕ → ℕ → List ℕ
 refused-line number place = two-numbers refused-word number at-word place
 
@@ -98,7 +98,7 @@ unfoldable pub sheet-of : Fault → Answer → List ℕ
 sheet-of sound answer = answer-text answer
 sheet-of (fault number place) answer = refused-line number place
 
--- "the program .. runs Robust with column 1, start 1, goal n, K = 48", on slices that are long enough for every image: 200 nodes, and the workspace of 200 nodes
+-- the program runs Robust with column 1, start 1, goal n and K = 48, on slices that are long enough for every image: 200 nodes, and the workspace of 200 nodes
 unfoldable pub program-fault : List ℕ → Fault
 program-fault b = robust-fault b 1 1 (netOf b .nodes) 48 200 13848
 

@@ -6,7 +6,7 @@ use mathlib.Core.List.{List, [], _∷_, _++_}
 use lib.Dec.{ltb}
 use lib.ListN.{length, take, drop}
 
--- ---- "all in decimal digits"
+-- ---- numbers in decimal digits
 -- the byte of a digit, "0" to "9"
 abbrev pub digit : ℕ → ℕ
 digit d = 48 + d

@@ -1,5 +1,5 @@
-// The sheet of document 01: Robust's answer on an image as lines of text. No call asks anything of
-// its caller.
+// The sheet (REFERENCE, section 7): Robust's answer on an image as lines of text. No call asks
+// anything of its caller.
 
 mod lines;
 mod printing;

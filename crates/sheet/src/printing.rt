@@ -73,7 +73,7 @@ fn write_sheet(image: &[u8], text: &mut [u8], path: &mut [u16], work: &mut [u32]
     write_answer(text, path, found)
 }
 
-// Document 01, "Network S and the sheet": column 1, start 1, goal n, K = 48. A sheet has at most
+// REFERENCE, sections 7.1 and 7.5: column 1, start 1, goal n, K = 48. A sheet has at most
 // 1,024 bytes: a slice of so many places is long enough for every image.
 pub fn sheet(image: &[u8], text: &mut [u8]) -> Printed
     ensures { λ r. ⌜ printed r ≡ sheet-outcome (now (image .entry)) (length (now (text .entry))) ⌝ }

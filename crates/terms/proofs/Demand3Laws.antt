@@ -1,4 +1,4 @@
--- Demand 3 holds of document 01's definition of Robust, and which kind of answer comes is settled exactly by its conditions. Assumes nothing.
+-- Demand 3 (REFERENCE, section 9.3) holds of the definition of Robust, and which kind of answer comes is settled exactly by its conditions. Assumes nothing.
 use Prim.Native.Nat.{ℕ, _≤_, _<_}
 use native.Mathlib.Omega.{arith}
 use mathlib.Core.Path.{_≡_, refl}
@@ -109,7 +109,7 @@ module _ (net : Net) (r s t : ℕ) (ok : Admitted net) (s-lo : 1 ≤ s) (s-hi : 
         between : (l : ℕ) → LeastRegret net r s t l → (dev (getD ps K []) ≤ l) × (l ≤ fig p)
         between l m = (floor-under l m, m .least p (chosen-path c))
 
-    -- demand 3, of document 01's definition of Robust
+    -- demand 3, of the definition of Robust
     pub demand-3 : Demand3 net r s t K (robust net r s t K)
     unfolding robust
     demand-3 = ⊎-elim some empty (le-or-lt 1 (length ps))
@@ -144,7 +144,7 @@ needs-path {net} {r} {s} {t} n =
     (getD (ranked-in net r s t) 0 [], ranked-path (net .nodes) (column net r) s t (getD-mem (ranked-in net r s t) [] 0 (omega (arith, n .one-at-least, n .all-at-most))))
 
 module _ {net : Net} {r s t K : ℕ} where
-  -- "'no path' comes exactly when there is no loopless path from start to goal"
+  -- (a) "no path" comes exactly if there is no loopless path from start to goal
   pub no-path-exactly : {a : Answer} → Demand3 net r s t K a
       → (a ≡ no-path → (p : Route) → Path (column net r) s t p → ⊥)
       × (((p : Route) → Path (column net r) s t p → ⊥) → a ≡ no-path)
@@ -152,7 +152,7 @@ module _ {net : Net} {r s t K : ℕ} where
   no-path-exactly (closed {p} d) = (λ e q k. let z : _≡_ {A = ℕ} 0 1 = cc in omega arith, λ h. absurd (h p (d .is-path)))
   no-path-exactly (unsettled {p} d) = (λ e q k. let z : _≡_ {A = ℕ} 0 1 = cc in omega arith, λ h. absurd (h p (d .is-path)))
 
-  -- "settled exactly when 01's stopping rule needs at most K paths"
+  -- (b) settled exactly if the stopping rule needs at most K paths
   pub settled-exactly : {a : Answer} → Demand3 net r s t K a
       → (IsSettled a → (j : ℕ) × Needs net r s t j × (j ≤ K))
       × ((j : ℕ) → Needs net r s t j → j ≤ K → IsSettled a)
@@ -160,7 +160,7 @@ module _ {net : Net} {r s t K : ℕ} where
   settled-exactly (closed {c} d) = (λ _. (c, d .count-needed, d .count-within), λ j n l. is-settled)
   settled-exactly (unsettled d) = (λ i. elim i [ ], λ j n l. absurd (omega (arith, d .needs-more j n)))
 
-  -- "and open exactly when it needs more"
+  -- (c) open exactly if it needs more than K
   pub open-exactly : {a : Answer} → Demand3 net r s t K a
       → (IsOpen a → ((p : Route) × Path (column net r) s t p) × ((j : ℕ) → Needs net r s t j → K < j))
       × ((p : Route) → Path (column net r) s t p → ((j : ℕ) → Needs net r s t j → K < j) → IsOpen a)

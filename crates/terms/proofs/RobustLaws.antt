@@ -132,7 +132,7 @@ module _ (dev fig : Route → ℕ) (ps : List Route) where
   unfolding needed
   needed-is r = smallest-unique (smallest-is-smallest (enough dev fig ps) 1 (length ps - 1)) (of-stops r)
 
--- "the number of paths that the stopping rule needs": J of call 6 is one, if any path is ranked, and no other number is
+-- J is a number of paths that the stopping rule needs, if any path is ranked, and no other number is
 pub needed-needs : (net : Net) (r s t : ℕ) → 1 ≤ length (ranked-in net r s t)
     → Needs net r s t (needed (λ p. deviation net s t p r) (figure net s t) (ranked-in net r s t))
 needed-needs net r s t some =

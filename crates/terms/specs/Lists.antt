@@ -1,4 +1,4 @@
--- Functions on lists that document 01's terms are made of. Assumes nothing.
+-- Functions on lists that the terms of docs/REFERENCE.md are made of. Assumes nothing.
 use Prim.Native.Nat.{ℕ, zero, suc, min, max}
 use mathlib.Core.Bool.{Bool, false, _||_, cond}
 use mathlib.Core.List.{List, [], _∷_, foldr, List·Memᴰ}

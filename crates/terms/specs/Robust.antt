@@ -1,4 +1,4 @@
--- Document 01, call 6: the stopping rule and Robust's answer. Assumes nothing.
+-- docs/REFERENCE.md, section 5: the stopping rule and Robust's answer. Assumes nothing.
 use Prim.Native.Nat.{ℕ, _-_}
 use mathlib.Core.Bool.{Bool, _||_, cond}
 use mathlib.Core.List.{List, [], _∷_, map}
@@ -11,19 +11,19 @@ use Rattle.terms.specs.Ranking.{ranked}
 use Rattle.terms.specs.Regret.{deviation, figure, worst}
 
 -- ---- over a ranked list P1, P2, .. PN, with its paths' deviations in r and their figures
--- Bj: "the least figure among the first j"
+-- Bj: the least figure among the first j
 unfoldable pub least-figure : (Route → ℕ) → List Route → ℕ → ℕ
 least-figure fig ps j = least (map fig (take j ps))
 
--- does the stopping rule hold at j: "j = N or deviation in r of P(j+1) at least Bj"
+-- does the stopping rule hold at j: j = N, or the deviation of P(j+1) in r is at least Bj
 unfoldable pub enough : (Route → ℕ) → (Route → ℕ) → List Route → ℕ → Bool
 enough dev fig ps j = eqb j (length ps) || leb (least-figure fig ps j) (dev (getD ps j []))
 
--- J, the number of paths that the stopping rule needs: "the smallest j" at which it holds
+-- J, the number of paths that the stopping rule needs: the smallest j at which it holds
 unfoldable pub needed : (Route → ℕ) → (Route → ℕ) → List Route → ℕ
 needed dev fig ps = smallest (enough dev fig ps) 1 (length ps - 1)
 
--- "the earliest path with the least figure among those counted", the first j
+-- the earliest path with the least figure among those counted, the first j
 unfoldable pub choice : (Route → ℕ) → List Route → ℕ → Route
 choice fig ps j = getD ps (index (λ p. eqb (fig p) (least-figure fig ps j)) ps) []
 
@@ -33,10 +33,10 @@ pub data Answer : Type 0 where
   settled : Route → ℕ → ℕ → ℕ → Answer
   -- open: the same, and the floor
   left-open : Route → ℕ → ℕ → ℕ → ℕ → Answer
-  -- "with N = 0 row 15 applies"
+  -- N = 0, where row 15 applies
   no-path : Answer
 
--- "if J is at most K the answer is settled with count J. Otherwise it is open with count K and a floor: the deviation in r of P(K+1)"
+-- settled with count J if J is at most K; else open with count K and a floor, the deviation of P(K+1) in r
 unfoldable pub answer : (Route → ℕ) → (Route → ℕ) → (Route → ℕ) → List Route → ℕ → Answer
 answer dev fig wst [] K = no-path
 answer dev fig wst (p ∷ ps) K =

@@ -88,7 +88,7 @@ pub fn note_network(
     report.note(REBUILD, rebuild_agrees(image))
 }
 
-// Network S's image, with document 01's numbers.
+// Network S's image, with the numbers of REFERENCE, section 8.1.
 fn note_s(image: &[u8]) -> Report {
     let report = note_network(Report::new(), 4, 2, &S_NODES, &S_COSTS, image);
     let built = build_agrees(4, 2, &S_NODES, &S_COSTS, 84, single(84), image);

@@ -1,10 +1,10 @@
 // The tests of the image layer, and of all calls on images and numbers that they refuse. Each case
-// holds what a call gave to what document 01 says that it gives, and the program prints, for each kind
-// of case, how many agreed and how many differed.
+// holds what a call gave to what docs/REFERENCE.md says that it gives, and the program prints, for each
+// kind of case, how many agreed and how many differed.
 //
 // The file image_calls.rt holds one call to its answer, and the others make the cases. The answers
-// come from document 01, or from plain_answers.rt, which is written apart from the library. The calls
-// of the path layer on what they take are tested by the program trial_routes.
+// come from REFERENCE, section 8, or from plain_answers.rt, which is written apart from the library.
+// The calls of the path layer on what they take are tested by the program trial_routes.
 
 mod image_calls;
 mod image_changes;

@@ -1,5 +1,5 @@
 // The refusal table on the numbers and slices that the path layer's calls are given with network S.
-// Their node lists stand with document 01's cases, and the images that they refuse with those of
+// Their node lists stand with the cases of trial_routes, and the images that they refuse with those of
 // Check.
 use fixtures::networks::lay_out_s;
 use fixtures::report::LABEL;

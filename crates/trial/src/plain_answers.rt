@@ -1,5 +1,5 @@
-// What Check and Build answer by the refusal table of document 01, row by row, written apart from
-// the library.
+// What Check and Build answer by the refusal table (REFERENCE, section 6), row by row, written apart
+// from the library.
 use fixtures::numbers::count;
 use fixtures::numbers::product;
 use fixtures::numbers::wide16;

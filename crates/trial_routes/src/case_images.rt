@@ -1,4 +1,4 @@
-// The images of document 01's cases.
+// The images of the cases of REFERENCE, section 8.
 use fixtures::networks::lay_out_s;
 use fixtures::networks::line_arcs;
 use fixtures::networks::line_nodes;

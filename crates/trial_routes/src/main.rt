@@ -1,10 +1,10 @@
-// The tests of the path layer. Each case holds what a call gave to what document 01 says that it
-// gives, and the program prints, for each kind of case, how many agreed and how many differed.
+// The tests of the path layer. Each case holds what a call gave to what docs/REFERENCE.md says that
+// it gives, and the program prints, for each kind of case, how many agreed and how many differed.
 //
 // The files path_*.rt test Label, Shortest and Regret, rank_*.rt Rank and robust_*.rt Robust, on the
-// images of case_images.rt, ladder.rt and random_networks.rt. The answers come from document 01, from
-// networks whose paths are known, or from the crate enumerate, which is written apart from the library.
-// Images and numbers that the calls refuse are tested by the program trial.
+// images of case_images.rt, ladder.rt and random_networks.rt. The answers come from REFERENCE,
+// section 8, from networks whose paths are known, or from the crate enumerate, which is written apart
+// from the library. Images and numbers that the calls refuse are tested by the program trial.
 
 mod case_images;
 mod ladder;

@@ -1,5 +1,5 @@
-// Document 01's cases of Robust: network S, the network of zero costs, the network without arcs and
-// the line of 200 nodes.
+// The cases of Robust (REFERENCE, section 8): network S, the network of zero costs, the network without
+// arcs and the line of 200 nodes.
 use super::case_images::line;
 use super::case_images::line_path;
 use super::case_images::network_s;

@@ -1,4 +1,4 @@
-// The answer of a call as numbers, in document 01's terms.
+// The answer of a call as numbers: its values, or the refusal's number and place.
 use fixtures::slices::holds_numbers;
 use image::Checked;
 use image::Refusal;

@@ -1,4 +1,4 @@
-//! The cases of document 01, its refusal table, and what the crate adds to them.
+//! The cases of docs/REFERENCE.md, its refusal table, and what the crate adds to them.
 
 use crate::tally::numbers;
 use std::path::Path as FilePath;
@@ -8,7 +8,7 @@ use vihrolom::{calls, Choice, Network, Path, Refusal, Regret, State};
 const S_ARCS: [(u32, u32); 5] = [(1, 2), (1, 3), (2, 3), (2, 4), (3, 4)];
 const S_COLUMNS: [[u32; 5]; 2] = [[2, 5, 1, 6, 2], [4, 1, 2, 1, 7]];
 
-/// Network S of document 01.
+/// Network S (REFERENCE, section 8.1).
 fn network_s() -> Network {
     Network::build(4, &S_ARCS, &S_COLUMNS).expect("network S")
 }

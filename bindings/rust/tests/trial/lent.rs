@@ -43,7 +43,7 @@ fn pattern<T: From<u8>>() -> impl Iterator<Item = T> {
     (1..=251).cycle().map(T::from)
 }
 
-/// The reply that document 01 wants: the values of a result, filled up with 0, or the refusal.
+/// The reply that is wanted: the values of a result, filled up with 0, or the refusal.
 pub fn reply_of(answer: Result<Vec<u32>, &Refused>) -> Reply {
     match answer {
         Ok(mut values) => {

@@ -1,6 +1,6 @@
-//! The crate and the core below it, held to document 01.
+//! The crate and the core below it, held to docs/REFERENCE.md.
 //!
-//! `cases` has the document's own cases. `random` holds every call to a plain enumeration (`plain`) on
+//! `cases` has the cases of that page. `random` holds every call to a plain enumeration (`plain`) on
 //! drawn networks, `images` does so on damaged images and on lists that are no network, and `lent`
 //! lends slices of right and wrong lengths. Draws come from fixed seeds.
 

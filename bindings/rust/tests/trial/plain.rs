@@ -1,5 +1,5 @@
-//! Document 01 in the plainest way, apart from the library: all loopless paths are found by depth-first
-//! search, and every answer is read off from all of them.
+//! docs/REFERENCE.md in the plainest way, apart from the library: all loopless paths are found by
+//! depth-first search, and every answer is read off from all of them.
 
 /// A refusal: its number and its place.
 pub type Refused = (u32, u32);

@@ -1,4 +1,4 @@
--- `rows::workspace`: 01's number, which is small. Assumes nothing.
+-- `rows::workspace`: the number of REFERENCE, section 3.5, which is small. Assumes nothing.
 use Prim.Native.Nat.{_+_, _*_, _≤_}
 use native.Mathlib.Omega.{arith}
 use native.Mathlib.Nat.{mul-le-mul-right}

@@ -1,4 +1,4 @@
--- `choosing::choose_priced`: what the search answers and writes is 01's, and the workspace is cleared. Assumes nothing.
+-- `choosing::choose_priced`: what the search answers and writes is Robust's answer, and the workspace is cleared. Assumes nothing.
 use Prim.Native.Nat.{ℕ, _≤_}
 use native.Mathlib.Omega.{arith}
 use mathlib.Core.Path.{_∙_, ap}

@@ -1,4 +1,4 @@
--- `measuring::measure_in`: the arrays hold the image's network and each column's best, so what is measured of the path is 01's. Assumes nothing.
+-- `measuring::measure_in`: the arrays hold the image's network and each column's best, so what is measured is the path's figure and worst column. Assumes nothing.
 use native.Mathlib.Omega.{arith}
 use mathlib.Core.Path.{refl, _∙_}
 use borrow.Author.Needs.{needs}

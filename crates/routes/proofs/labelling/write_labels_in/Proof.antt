@@ -1,4 +1,4 @@
--- `labelling::write_labels_in` writes the labels of the column as document 01 has them. Assumes nothing.
+-- `labelling::write_labels_in` writes the labels of the column, as REFERENCE, section 4.2, has them. Assumes nothing.
 -- the labels keep their number
 use Prim.Native.Nat.{ℕ, _+_, _-_}
 use native.Mathlib.Omega.{arith}
