@@ -152,13 +152,13 @@ static uint32_t least_exit(const struct engine *e, uint32_t v, const uint32_t *l
     uint32_t best = FAR, node = 0;
     for (uint32_t i = e->first_out[v]; i < e->first_out[v + 1]; i++) {
         uint32_t y = e->heads[i];
-        if (e->used[y] || barred[y] || labels[y] == FAR)
+        if (labels[y] >= best)
             continue;
         uint32_t sum = e->weights[i] + labels[y];
-        if (sum < best) {
-            best = sum;
-            node = y;
-        }
+        if (sum >= best || e->used[y] || barred[y])
+            continue;
+        best = sum;
+        node = y;
     }
     *l = best;
     return node;
@@ -168,7 +168,7 @@ static uint32_t least_exit(const struct engine *e, uint32_t v, const uint32_t *l
 static uint32_t tight_exit(const struct engine *e, uint32_t x, const uint32_t *labels) {
     for (uint32_t i = e->first_out[x]; i < e->first_out[x + 1]; i++) {
         uint32_t y = e->heads[i];
-        if (!e->used[y] && labels[y] != FAR && e->weights[i] + labels[y] == labels[x])
+        if (labels[y] != FAR && e->weights[i] + labels[y] == labels[x] && !e->used[y])
             return y;
     }
     return 0;

@@ -9,15 +9,15 @@
 #include <math.h>
 #include <stdbool.h>
 
-// At K = 256: at least 100 times faster than igraph, or 15 times where many arcs lead on from each node; at
-// most one and a half times the plain engine's time.
+// At K = 256: at least 100 times faster than igraph, or 20 times where many arcs lead on from each node; at
+// most 1.4 times the plain engine's time.
 static void hold_dues(const struct question *q, uint32_t top, double faster, double slower) {
     const char *name = shape_names[q->net->shape];
     bool many_arcs = q->net->shape == SPARSE || q->net->shape == DENSE;
     if (q->wanted != VIHROLOM_MOST_PATHS)
         return;
-    due(faster, many_arcs ? 15 : 100, INFINITY, "igraph / library, %s, costs to %u", name, top);
-    due(slower, 0, 1.5, "library / plain C, %s, costs to %u", name, top);
+    due(faster, many_arcs ? 20 : 100, INFINITY, "igraph / library, %s, costs to %u", name, top);
+    due(slower, 0, 1.4, "library / plain C, %s, costs to %u", name, top);
 }
 
 static void row(const struct question *q, uint32_t top) {
