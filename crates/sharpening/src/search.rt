@@ -227,10 +227,7 @@ fn search(
         let x = node as usize;
         let key = keys[x];
         if LONGEST < key {
-            return Level {
-                taken: taken,
-                key: FAR,
-            };
+            return Level { taken, key: FAR };
         }
         let most = steps_allowed(taken, floor, key, used.len());
         if leads(
@@ -245,10 +242,7 @@ fn search(
             key,
             most,
         ) {
-            return Level {
-                taken: taken,
-                key: key,
-            };
+            return Level { taken, key };
         }
         nodes[at] = nodes[taken];
         nodes[taken] = node;
@@ -256,8 +250,8 @@ fn search(
         floor = key;
         let hub = Hub {
             node: x,
-            key: key,
-            taken: taken,
+            key,
+            taken,
         };
         listed = spread(
             heads,
@@ -272,10 +266,7 @@ fn search(
             listed,
         );
     }
-    Level {
-        taken: taken,
-        key: FAR,
-    }
+    Level { taken, key: FAR }
 }
 
 // The search from v, the last node of the branch's beginning. No node has been met.
@@ -303,7 +294,7 @@ pub fn search_from(
     }
     let hub = Hub {
         node: v,
-        key: key,
+        key,
         taken: 0,
     };
     let met = spread(
