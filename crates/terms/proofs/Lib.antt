@@ -6,5 +6,6 @@ pub mod RankingLaws
 pub mod PrefixLaws
 pub mod RegretLaws
 pub mod RobustLaws
+pub mod DemandLaws
 pub mod Demand3Laws
 pub mod RoomLaws
