@@ -5,3 +5,4 @@ pub mod RowLaws
 pub mod ListLaws
 pub mod LoadLaws
 pub mod ShortestLaws
+pub mod DemandLaws

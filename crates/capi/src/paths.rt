@@ -14,7 +14,7 @@ ghost use mathlib.Core.Path.{_≡_};
 ghost use lib.ListN.{length};
 ghost use Rattle.image.specs.Outcome.{after};
 ghost use Rattle.calls.specs.Calls.{cleared, label-fault, label-outcome, labels-of, shortest-fault, shortest-outcome, shortest-of, regret-outcome, rank-fault, rank-outcome, rank-rows-of, rank-costs-of, robust-fault, robust-outcome, robust-of, chosen};
-ghost use Rattle.calls.specs.Demands.{Kept3};
+ghost use Rattle.calls.specs.Demands.{Kept2, Kept3};
 ghost use Rattle.replies.specs.Replies.{numbers, reply-of};
 
 // REFERENCE, section 4.2. No values.
@@ -68,6 +68,7 @@ pub extern "C" fn vihrolom_rank(
     ensures { λ _. ⌜ now (rows .exit) ≡ after (rank-fault (now (image .entry)) column start goal wanted (length (now (rows .entry))) (length (now (costs .entry))) (length (now (work .entry)))) (rank-rows-of (now (image .entry)) column start goal wanted) (now (rows .entry)) ⌝ }
     ensures { λ _. ⌜ now (costs .exit) ≡ after (rank-fault (now (image .entry)) column start goal wanted (length (now (rows .entry))) (length (now (costs .entry))) (length (now (work .entry)))) (rank-costs-of (now (image .entry)) column start goal wanted) (now (costs .entry)) ⌝ }
     ensures { λ _. ⌜ now (work .exit) ≡ cleared (rank-fault (now (image .entry)) column start goal wanted (length (now (rows .entry))) (length (now (costs .entry))) (length (now (work .entry)))) (now (work .entry)) ⌝ }
+    ensures { λ _. ⌜ Kept2 (now (image .entry)) column start goal wanted (length (now (rows .entry))) (length (now (costs .entry))) (length (now (work .entry))) ⌝ }
 {
     let answer = rank(image, column, start, goal, wanted, rows, costs, work);
     of_listed(answer)

@@ -15,6 +15,7 @@ ghost use Rattle.image.specs.Answers.{checked};
 ghost use Rattle.routes.specs.Answers.{listed};
 ghost use Rattle.calls.specs.Calls.{path-rows, rank-rows, rank-fault, rank-of, rank-rows-of, rank-costs-of, rank-outcome, cleared};
 ghost use Rattle.calls.specs.Decoded.{InColumn, Ends};
+ghost use Rattle.calls.specs.Demands.{Kept2};
 ghost use Rattle.searches.specs.Slices.{ListSlices};
 
 // Rank's answer.
@@ -83,7 +84,7 @@ fn write_ranked(
     Listed::Paths(count as u32)
 }
 
-// REFERENCE, section 4.5.
+// REFERENCE, section 4.5. The first four promises say what is given and written; the last one is demand 2.
 pub fn rank(
     image: &[u8],
     column: u32,
@@ -98,6 +99,7 @@ pub fn rank(
     ensures { λ _. ⌜ now (rows .exit) ≡ after (rank-fault (now (image .entry)) column start goal wanted (length (now (rows .entry))) (length (now (costs .entry))) (length (now (work .entry)))) (rank-rows-of (now (image .entry)) column start goal wanted) (now (rows .entry)) ⌝ }
     ensures { λ _. ⌜ now (costs .exit) ≡ after (rank-fault (now (image .entry)) column start goal wanted (length (now (rows .entry))) (length (now (costs .entry))) (length (now (work .entry)))) (rank-costs-of (now (image .entry)) column start goal wanted) (now (costs .entry)) ⌝ }
     ensures { λ _. ⌜ now (work .exit) ≡ cleared (rank-fault (now (image .entry)) column start goal wanted (length (now (rows .entry))) (length (now (costs .entry))) (length (now (work .entry)))) (now (work .entry)) ⌝ }
+    ensures { λ _. ⌜ Kept2 (now (image .entry)) column start goal wanted (length (now (rows .entry))) (length (now (costs .entry))) (length (now (work .entry))) ⌝ }
 {
     let answer = check_rank(
         image,

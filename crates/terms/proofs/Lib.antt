@@ -6,5 +6,7 @@ pub mod RankingLaws
 pub mod PrefixLaws
 pub mod RegretLaws
 pub mod RobustLaws
+pub mod Demand2Laws
+pub mod DemandLaws
 pub mod Demand3Laws
 pub mod RoomLaws

@@ -11,12 +11,11 @@ use lib.ListN.{length, take, getD}
 use lib.Seq.{take-suc, take-all}
 use borrow.Author.Tests.{eqb-true, eqb-false, eq-eqb, ne-eqb, leb-true, leb-false, le-leb, lt-leb}
 use Rattle.terms.specs.Lists.{_∈_, least, index}
-use Rattle.terms.specs.Network.{Graph, Net}
+use Rattle.terms.specs.Network.{Graph}
 use Rattle.terms.specs.Paths.{Route}
 use Rattle.terms.specs.Ranking.{before}
-use Rattle.terms.specs.Regret.{deviation, figure}
 use Rattle.terms.specs.Robust.{settled, left-open, no-path, least-figure, enough, needed, choice, answer}
-use Rattle.terms.specs.Demand3.{ranked-in, Needs}
+pub use Rattle.terms.specs.Demand3.{Stops}
 use Rattle.terms.proofs.ListLaws.{le-or-lt, or-cases, or-right, or-false, place-mem, mem-place, least-le, least-attained, least-snoc, Smallest, smallest-is-smallest, smallest-unique, index-before, index-passes, index-le, index-is}
 use Rattle.terms.proofs.RankingLaws.{Rising, NoLater, rising-earlier, rising-split}
 
@@ -85,13 +84,7 @@ module _ (fig : Route → ℕ) (ps : List Route) (j : ℕ) where
       earlier i h =
           omega (arith, least-figure-le fig ps j (place-mem j ps [] i (omega (arith, upto, holder .1)) (omega (arith, within))), eqb-false (fig (getD ps i [])) (least-figure fig ps j) (index-before has-it [] ps i h))
 
--- ---- the stopping rule, over any list of paths with any deviations and figures: J is the smallest j at which it holds
-pub record Stops (dev fig : Route → ℕ) (ps : List Route) (j : ℕ) : Type 0 where
-  pub one-at-least : 1 ≤ j
-  pub all-at-most : j ≤ length ps
-  pub holds : (j ≡ length ps) ⊎ (least-figure fig ps j ≤ dev (getD ps j []))
-  pub not-before : (i : ℕ) → 1 ≤ i → i < j → dev (getD ps i []) < least-figure fig ps i
-
+-- ---- the stopping rule, over any list of paths with any deviations and figures: J of call 6 is the number of paths that it needs, if there is a path, and no other is
 module _ (dev fig : Route → ℕ) (ps : List Route) where
   stops : {j : ℕ} → 1 ≤ length ps → Smallest (enough dev fig ps) 1 (length ps - 1) j → Stops dev fig ps j
   unfolding enough
@@ -132,30 +125,16 @@ module _ (dev fig : Route → ℕ) (ps : List Route) where
   unfolding needed
   needed-is r = smallest-unique (smallest-is-smallest (enough dev fig ps) 1 (length ps - 1)) (of-stops r)
 
--- J is a number of paths that the stopping rule needs, if any path is ranked, and no other number is
-pub needed-needs : (net : Net) (r s t : ℕ) → 1 ≤ length (ranked-in net r s t)
-    → Needs net r s t (needed (λ p. deviation net s t p r) (figure net s t) (ranked-in net r s t))
-needed-needs net r s t some =
-    let J = needed-stops (λ p. deviation net s t p r) (figure net s t) (ranked-in net r s t) some in
-    record { one-at-least = J .one-at-least; all-at-most = J .all-at-most; holds = J .holds; not-before = J .not-before }
-
-pub needs-needed : {net : Net} {r s t j : ℕ} → Needs net r s t j → needed (λ p. deviation net s t p r) (figure net s t) (ranked-in net r s t) ≡ j
-needs-needed {net} {r} {s} {t} J =
-    needed-is (λ p. deviation net s t p r) (figure net s t) (ranked-in net r s t) (record { one-at-least = J .one-at-least; all-at-most = J .all-at-most; holds = J .holds; not-before = J .not-before })
-
-pub needs-unique : {net : Net} {r s t j k : ℕ} → Needs net r s t j → Needs net r s t k → j ≡ k
-needs-unique a b = sym (needs-needed a) ∙ needs-needed b
-
 -- ---- along a ranked list whose deviations climb and are no more than the figures
 module _ (g : Graph) (dev fig : Route → ℕ) (ps : List Route)
-    (rising : Rising g ps) (climbs : (p q : Route) → before g p q ≡ true → dev p ≤ dev q) (no-more : (p : Route) → dev p ≤ fig p) where
+    (rising : Rising g ps) (climbs : (p q : Route) → before g p q ≡ true → dev p ≤ dev q) (no-more : (p : Route) → p ∈ ps → dev p ≤ fig p) where
   -- each path is among the first j, or has at least the deviation of the next as its figure
   pub figure-ahead : (j : ℕ) {q : Route} → j < length ps → q ∈ ps → (q ∈ take j ps) ⊎ (dev (getD ps j []) ≤ fig q)
   figure-ahead j {q} h m = ⊎-elim (λ k. inl k) (λ n. inr (ahead n)) (rising-split g j rising h m)
     where
       ahead : NoLater g (getD ps j []) q → dev (getD ps j []) ≤ fig q
-      ahead (inl e) = omega (arith, no-more q, ap dev e)
-      ahead (inr b) = omega (arith, no-more q, climbs (getD ps j []) q b)
+      ahead (inl e) = omega (arith, no-more q m, ap dev e)
+      ahead (inr b) = omega (arith, no-more q m, climbs (getD ps j []) q b)
 
   -- so where the rule holds no path at all has less than the least figure
   pub least-of-all : {j : ℕ} {q : Route} → Stops dev fig ps j → q ∈ ps → least-figure fig ps j ≤ fig q

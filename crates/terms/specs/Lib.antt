@@ -4,5 +4,6 @@ pub mod Paths
 pub mod Ranking
 pub mod Regret
 pub mod Robust
+pub mod Demand2
 pub mod Demand3
 pub mod Starred

@@ -8,6 +8,7 @@ use Rattle.image.specs.Calls.{sizes}
 use Rattle.image.proofs.OutcomeLaws.{then-fault, then-next, outcome-fault, after-fault, refuses-fault}
 use Rattle.calls.specs.Calls.{path-rows, rank-rows, rank-fault, rank-of, rank-rows-of, rank-costs-of, rank-outcome, cleared}
 use Rattle.calls.specs.Decoded.{Accepted}
+use Rattle.calls.proofs.DemandLaws.{kept-2}
 use Rattle.calls.proofs.RowLaws.{given-sizes}
 use Rattle.searches.proofs.RankLaws.{rank-sound, rank-slices, cleared-not}
 use borrow.Author.Needs.{needs}
@@ -21,7 +22,7 @@ returns c = let t = c .before in
     let a = k .before .before .before .before .before .args in
     let e = refuses-fault (rank-rows (a .image .now) (a .column) (a .start) (a .goal) (a .wanted) (length (a .rows .now)) (length (a .costs .now)) (length (a .work .now))) (sizes (a .image .now)) (sym (ap checked (t .enum-told .given .1)) ∙ k .check-rank .ensures) in
     let f = then-fault (path-rows (a .image .now) (a .column) (a .start) (a .goal)) e in
-    (ap refused (c .refusal .ensures _ (t .enum-told .given .1)) ∙ sym (outcome-fault _ f), (sym (after-fault _ _ f), (sym (after-fault _ _ f), sym (cleared-not _ f))))
+    (ap refused (c .refusal .ensures _ (t .enum-told .given .1)) ∙ sym (outcome-fault _ f), (sym (after-fault _ _ f), (sym (after-fault _ _ f), (sym (cleared-not _ f), kept-2 (a .image .now) (a .column) (a .start) (a .goal) (a .wanted) (length (a .rows .now)) (length (a .costs .now)) (length (a .work .now))))))
 
 -- where the rows give sizes, none of them applies and they are the image's
 abbrev start : tie.After-answer → tie.Start
@@ -48,7 +49,7 @@ returns-2 c = let w = c .before .before .before .before .before .before in
       r .0 ∙ ap (λ f. outcome f (length (rank-of (s .image .now) (s .column) (s .start) (s .goal) (s .wanted)) ∷ [])) e,
       (
         r .1 .0 ∙ ap (λ f. after f (rank-rows-of (s .image .now) (s .column) (s .start) (s .goal) (s .wanted)) (s .rows .now)) e,
-        (r .1 .1 .0 ∙ ap (λ f. after f (rank-costs-of (s .image .now) (s .column) (s .start) (s .goal) (s .wanted)) (s .costs .now)) e, r .1 .1 .1 ∙ ap (λ f. cleared f (s .work .now)) e),
+        (r .1 .1 .0 ∙ ap (λ f. after f (rank-costs-of (s .image .now) (s .column) (s .start) (s .goal) (s .wanted)) (s .costs .now)) e, (r .1 .1 .1 ∙ ap (λ f. cleared f (s .work .now)) e, kept-2 (s .image .now) (s .column) (s .start) (s .goal) (s .wanted) (length (s .rows .now)) (length (s .costs .now)) (length (s .work .now)))),
       ),
     )
 
