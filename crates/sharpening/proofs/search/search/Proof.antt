@@ -106,7 +106,7 @@ add-taken : tie.Need-add-taken Inv-loop μ-loop
 add-taken c = let k = picked (c .before) in omega (arith, first-in k, few (k .before .before .before .before))
 
 spread-requires : tie.Need-spread-requires Inv-loop μ-loop
-spread-requires c κs = 
+spread-requires c κs =
     let e = c .before .before in
     let k = picked (e .before) in
     let p = start (head k) .pre in
@@ -117,7 +117,7 @@ loop-less : tie.Need-loop-less Inv-loop μ-loop
 loop-less c = let k = picked (c .before .before .before .before .before .before .before .before) in omega (arith, first-in k, head k .loop .inv .2)
 
 loop-again : tie.Need-loop-again Inv-loop μ-loop
-loop-again c = 
+loop-again c =
     let s = c .before .before .before .before in
     let k = picked (s .before .before .before .before) in
     let i = head k .loop .inv in

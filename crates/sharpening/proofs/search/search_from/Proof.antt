@@ -9,13 +9,13 @@ abbrev start : tie.Else1 → tie.Start
 start c = c .before .before .before .before .before .before .before .before .before .before
 
 spread-requires : tie.Need-spread-requires
-spread-requires c κs = 
+spread-requires c κs =
     let e = c .before .before in
     let p = start e .pre in
     (p .0, ((p .1 .0 .0, p .1 .0 .1, omega (arith, e .if1 .left, p .1 .0 .2)), (p .1 .1 .0, p .1 .1 .1)))
 
 search-requires : tie.Need-search-requires
-search-requires c κs = 
+search-requires c κs =
     let s = c .before .before .before .before .before .before in
     let p = start (s .before .before .before) .pre in
     (p .0, ((p .1 .0 .0, p .1 .1 .0 .0, p .1 .0 .2), s .spread .ensures))

@@ -25,25 +25,25 @@ small : (c : tie.After-copy) → Small (length (start (searched c) .args .overal
 small c = subst (λ (l : List ℕ). Small (length (start (searched c) .args .overall .now)) l) (sym (c .copy .ensures)) (start (searched c) .pre .1 .0 .0)
 
 search-from-requires : tie.Need-search-from-requires
-search-from-requires c κs = 
+search-from-requires c κs =
     let p = c .before .before .before .before .before .before .before .before .before .before .before .pre in
     (p .0, ((p .1 .0 .0, p .1 .0 .1, p .1 .0 .2), (p .1 .1 .0, p .1 .1 .1)))
 
 lift-all-requires : tie.Need-lift-all-requires
-lift-all-requires c κs = 
+lift-all-requires c κs =
     let k = c .before .before .before .before .before in
     let s = searched k in
     rw (keys-long s) (small k, s .search-from .ensures .0, s .search-from .ensures .1)
 
 mend-all-requires : tie.Need-mend-all-requires
-mend-all-requires c κs = 
+mend-all-requires c κs =
     let l = c .before .before .before .before in
     let s = searched (copied l) in
     let p = start s .pre in
     rw (p .1 .1 .0 .0) (p .0 .0, (p .0 .1, (rw (keys-long s) at (l .lift-all .ensures .0), s .search-from .ensures .0)))
 
 returns : tie.Need-returns
-returns c = 
+returns c =
     let m = c .before .before in
     let l = m .before .before .before .before .before in
     let k = copied l in
