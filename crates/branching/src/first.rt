@@ -26,11 +26,8 @@ use sharpening::sharpen;
 pub enum Found {
     // The length of the path, and what its tail costs, from the end of the beginning on.
     Tail(usize, u64),
-    // The branch has no path.
+    // The branch has no path, or none that is wanted.
     Empty,
-    // Each path of the branch costs at least that much more than the beginning, which is more than is
-    // wanted.
-    Dear(u64),
 }
 
 // From path[at - 1], each step to the node that labels made anew show to be the next.
@@ -313,7 +310,7 @@ fn by_sharper(
         return Found::Empty;
     };
     if is_dear(l, most) {
-        return Found::Dear(l);
+        return Found::Empty;
     }
     along(
         tails,

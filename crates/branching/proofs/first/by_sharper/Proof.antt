@@ -54,7 +54,7 @@ cast-v : tie.Need-cast-v
 cast-v c = omega (arith, c .slice-known4 .given (entry c .args .d - 1))
 
 sharpen-requires : tie.Need-sharpen-requires
-sharpen-requires c κs = 
+sharpen-requires c κs =
     let e = entry (c .before .before) in
     let p = e .pre in
     rw (p .1 .1 .1 .0 .1 .long) ((network-heads (p .0), network-starts (p .0)), ((p .1 .1 .1 .0 .1, laid-place (e .args .d - 1) (omega (arith, p .1 .0 .some)) (p .1 .0 .laid), p .1 .1 .1 .1 .1, p .1 .1 .1 .1 .0), (refl, p .1 .0 .barred-long, network-few (p .0))))
@@ -66,28 +66,28 @@ returns : tie.Need-returns
 returns c = let e = c .before .before .before .before in (e .exact-path .ensures .0, λ s F B h. FirstWithin.is (e .exact-path .ensures .1 s F B h))
 
 least-exit-requires : tie.Need-least-exit-requires
-least-exit-requires c κs = 
+least-exit-requires c κs =
     let h = sharpened (c .before .before) in
     let e = start h in
     let p = e .pre in
     rw (small h .long) (network-heads (p .0), ((network-starts (p .0), laid-place (e .args .d - 1) (omega (arith, p .1 .0 .some)) (p .1 .0 .laid)), (small h, (refl, p .1 .0 .barred-long))))
 
 returns-2 : tie.Need-returns-2
-returns-2 c = 
+returns-2 c =
     let x = c .before .before in
     let p = start (sharpened (chosen x)) .pre in
     (record { flags = refl; kept = refl; reach = Extent.nothing }, λ s F B h. FirstWithin.is (FirstFound.none (branch-empty (p .1 .0) h B (consistent (chosen x)) (chosen-nothing (x .least-exit .ensures .1 _ _ (p .0 .arcs) (p .0 .star)) (c .enum-told .given .1)))))
 
 returns-3 : tie.Need-returns-3
-returns-3 c = 
+returns-3 c =
     let k = c .before .before in
     let x = exits (k .before) in
     let p = start (sharpened (chosen x)) .pre in
     let d = c .before .is-dear .ensures (c .if2 .taken) in
-    (record { flags = refl; kept = refl; reach = Extent.too-dear }, λ s F B h. FirstWithin.dear (d .0) (d .1) (branch-floor (p .1 .0) h B (choice (k .before)) (consistent (chosen x))))
+    (record { flags = refl; kept = refl; reach = Extent.nothing }, λ s F B h. FirstWithin.dear _ (d .0) (d .1) (branch-floor (p .1 .0) h B (choice (k .before)) (consistent (chosen x))))
 
 along-requires : tie.Need-along-requires
-along-requires c κs = 
+along-requires c κs =
     let y = c .before .before .before .before .before .before in
     let x = exits y in
     let p = start (sharpened (chosen x)) .pre in
