@@ -9,7 +9,7 @@ ghost use Rattle.branching.specs.Branches.{everything};
 ghost use Rattle.branching.specs.Found.{Idle, Ends, Extent, FirstFound};
 ghost use Rattle.exits.specs.Star.{Network};
 use crate::first::Found;
-use crate::first::first_path;
+use crate::first::along;
 use exits::Next;
 use exits::least_exit;
 
@@ -41,7 +41,7 @@ fn shortest_in(
     let Next::Node(y, l) = least_exit(heads, weights, first_out, v, overall, used, barred) else {
         return Found::Empty;
     };
-    first_path(
+    along(
         tails,
         heads,
         weights,

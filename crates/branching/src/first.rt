@@ -1,6 +1,7 @@
 // The first path of a branch: by a walk along labels that are at hand, or else along labels with the
 // beginning barred, or else step by step.
 ghost use mathlib.Core.Path.{_≡_};
+ghost use mathlib.Core.Bool.{true};
 ghost use mathlib.Core.List.{List, [], _∷_, _++_};
 ghost use Prim.Native.Nat.{ℕ, _-_, _≤_, _<_};
 ghost use lib.ListN.{length, take, getD};
@@ -9,21 +10,23 @@ ghost use Rattle.labels.specs.Arcs.{graph};
 ghost use Rattle.branching.specs.Branches.{branch, In, First, Beginning};
 ghost use Rattle.exits.specs.Exits.{Unmarked};
 ghost use Rattle.exits.specs.Flags.{Flagged, Fresh};
-ghost use Rattle.branching.specs.Found.{Ahead, Begun, Kept, FirstFound};
+ghost use Rattle.branching.specs.Found.{Ahead, Begun, Kept, FirstFound, FirstWithin};
 ghost use Rattle.branching.specs.Laid.{Laid, Longer, Tried};
-ghost use Rattle.exits.specs.Star.{Network, Small};
+ghost use Rattle.exits.specs.Star.{Network, Small, longest};
 ghost use Rattle.exits.specs.Walks.{Consistent, Choice};
 use crate::walk::attempt;
 use crate::walk::unmark;
 use exits::Next;
 use exits::least_exit;
 use labels::least;
+use sharpening::LONGEST;
+use sharpening::Quest;
 use sharpening::sharpen;
 
 pub enum Found {
     // The length of the path, and what its tail costs, from the end of the beginning on.
     Tail(usize, u64),
-    // The branch has no path.
+    // The branch has no path, or none that is wanted.
     Empty,
 }
 
@@ -193,7 +196,7 @@ fn exact_path(
 
 // The first path of the branch of path[..d], whose next node is not barred. y and l are its least exit
 // by the labels `overall`: the walk along these, or else the path by labels of the branch's own.
-fn along(
+pub fn along(
     tails: &[u16],
     heads: &[u16],
     weights: &[u32],
@@ -236,7 +239,18 @@ fn along(
     )
 }
 
-// The same, with no exit chosen yet: the walk is along sharper labels, which have a place for each node.
+// Whether l is above the most that is wanted, if that is a limit at all.
+fn is_dear(l: u64, most: u64) -> bool
+    ensures { λ r. ⌜ (r ≡ true → (most < l) × (most < longest)) ⌝ }
+{
+    if LONGEST <= most {
+        return false;
+    }
+    most < l
+}
+
+// The same, with no exit chosen yet, and only if the path's tail costs `most` at the most: the walk is along
+// sharper labels, which have a place for each node.
 fn by_sharper(
     tails: &[u16],
     heads: &[u16],
@@ -251,22 +265,27 @@ fn by_sharper(
     path: &mut [u16],
     d: usize,
     labels: &mut [u64],
+    most: u64,
 ) -> Found
     requires { ⌜ Network (length (now used)) (now tails) (now heads) (now weights) (now «first_out») (now «first_in») (now «next_in») ⌝ }
     requires { ⌜ Begun (length (now used)) (now used) (now barred) (now path) d ⌝ }
     requires { ⌜ Ahead (length (now used)) goal (now used) ⌝ }
     requires { ⌜ Consistent (graph (now tails) (now heads) (now weights)) goal (now overall) (take d (now path)) × Small (length (now used)) (now overall) ⌝ }
-    requires { ⌜ length (now labels) ≡ length (now used) ⌝ }
+    requires { ⌜ (length (now labels) ≡ length (now used)) × (most ≤ longest) ⌝ }
     ensures { λ r. ⌜ Kept (now (used .entry)) (now (path .entry)) d (now (used .exit)) (now (path .exit)) r ⌝ }
-    ensures { λ r. ⌜ ((s : ℕ) (F : List ℕ) → Beginning (graph (now (tails .entry)) (now (heads .entry)) (now (weights .entry))) s goal (take d (now (path .entry))) → Flagged (now (barred .entry)) F → FirstFound (graph (now (tails .entry)) (now (heads .entry)) (now (weights .entry))) s goal (branch (take d (now (path .entry))) F) (now (path .exit)) r) ⌝ }
+    ensures { λ r. ⌜ ((s : ℕ) (F : List ℕ) → Beginning (graph (now (tails .entry)) (now (heads .entry)) (now (weights .entry))) s goal (take d (now (path .entry))) → Flagged (now (barred .entry)) F → FirstWithin (graph (now (tails .entry)) (now (heads .entry)) (now (weights .entry))) s goal (branch (take d (now (path .entry))) F) (now (path .exit)) most r) ⌝ }
 {
     let v = path[d - 1] as usize;
+    let quest = Quest {
+        from: v,
+        goal,
+        most,
+    };
     let sharp = sharpen(
         heads,
         weights,
         first_out,
-        v,
-        goal,
+        quest,
         overall,
         used,
         barred,
@@ -290,6 +309,9 @@ fn by_sharper(
     let Next::Node(y, l) = least_exit(heads, weights, first_out, v, labels, used, barred) else {
         return Found::Empty;
     };
+    if is_dear(l, most) {
+        return Found::Empty;
+    }
     along(
         tails,
         heads,
@@ -322,13 +344,14 @@ fn sharp_path(
     barred: &[u8],
     path: &mut [u16],
     d: usize,
+    most: u64,
 ) -> Found
     requires { ⌜ Network (length (now used)) (now tails) (now heads) (now weights) (now «first_out») (now «first_in») (now «next_in») ⌝ }
     requires { ⌜ Begun (length (now used)) (now used) (now barred) (now path) d ⌝ }
     requires { ⌜ Ahead (length (now used)) goal (now used) ⌝ }
-    requires { ⌜ Consistent (graph (now tails) (now heads) (now weights)) goal (now overall) (take d (now path)) × Small (length (now used)) (now overall) ⌝ }
+    requires { ⌜ Consistent (graph (now tails) (now heads) (now weights)) goal (now overall) (take d (now path)) × Small (length (now used)) (now overall) × (most ≤ longest) ⌝ }
     ensures { λ r. ⌜ Kept (now (used .entry)) (now (path .entry)) d (now (used .exit)) (now (path .exit)) r ⌝ }
-    ensures { λ r. ⌜ ((s : ℕ) (F : List ℕ) → Beginning (graph (now (tails .entry)) (now (heads .entry)) (now (weights .entry))) s goal (take d (now (path .entry))) → Flagged (now (barred .entry)) F → FirstFound (graph (now (tails .entry)) (now (heads .entry)) (now (weights .entry))) s goal (branch (take d (now (path .entry))) F) (now (path .exit)) r) ⌝ }
+    ensures { λ r. ⌜ ((s : ℕ) (F : List ℕ) → Beginning (graph (now (tails .entry)) (now (heads .entry)) (now (weights .entry))) s goal (take d (now (path .entry))) → Flagged (now (barred .entry)) F → FirstWithin (graph (now (tails .entry)) (now (heads .entry)) (now (weights .entry))) s goal (branch (take d (now (path .entry))) F) (now (path .exit)) most r) ⌝ }
 {
     let mut labels = [0u64; 201];
     let places = used.len();
@@ -346,12 +369,13 @@ fn sharp_path(
         path,
         d,
         &mut labels[..places],
+        most,
     )
 }
 
-// The first path of the branch of path[..d], whose next node is not barred. y and l are its least exit
-// by the labels `overall`, which may be those of the whole network: the walk along these arrives
-// mostly, and the branch is searched by labels of its own where it does not.
+// The first path of the branch of path[..d], whose next node is not barred, if its tail costs `most` at
+// the most. y and l are its least exit by the labels `overall`, which may be those of the whole network:
+// the walk along these arrives mostly, and the branch is searched by labels of its own where it does not.
 pub fn first_path(
     tails: &[u16],
     heads: &[u16],
@@ -367,14 +391,15 @@ pub fn first_path(
     d: usize,
     y: u16,
     l: u64,
+    most: u64,
 ) -> Found
     requires { ⌜ Network (length (now used)) (now tails) (now heads) (now weights) (now «first_out») (now «first_in») (now «next_in») ⌝ }
     requires { ⌜ Begun (length (now used)) (now used) (now barred) (now path) d ⌝ }
     requires { ⌜ Ahead (length (now used)) goal (now used) ⌝ }
-    requires { ⌜ Consistent (graph (now tails) (now heads) (now weights)) goal (now overall) (take d (now path)) × Small (length (now used)) (now overall) ⌝ }
+    requires { ⌜ Consistent (graph (now tails) (now heads) (now weights)) goal (now overall) (take d (now path)) × Small (length (now used)) (now overall) × (most ≤ longest) ⌝ }
     requires { ⌜ Choice (graph (now tails) (now heads) (now weights)) (now overall) (Unmarked (now used) (now barred)) (getD (now path) (d - 1) 0) l y ⌝ }
     ensures { λ r. ⌜ Kept (now (used .entry)) (now (path .entry)) d (now (used .exit)) (now (path .exit)) r ⌝ }
-    ensures { λ r. ⌜ ((s : ℕ) (F : List ℕ) → Beginning (graph (now (tails .entry)) (now (heads .entry)) (now (weights .entry))) s goal (take d (now (path .entry))) → Flagged (now (barred .entry)) F → FirstFound (graph (now (tails .entry)) (now (heads .entry)) (now (weights .entry))) s goal (branch (take d (now (path .entry))) F) (now (path .exit)) r) ⌝ }
+    ensures { λ r. ⌜ ((s : ℕ) (F : List ℕ) → Beginning (graph (now (tails .entry)) (now (heads .entry)) (now (weights .entry))) s goal (take d (now (path .entry))) → Flagged (now (barred .entry)) F → FirstWithin (graph (now (tails .entry)) (now (heads .entry)) (now (weights .entry))) s goal (branch (take d (now (path .entry))) F) (now (path .exit)) most r) ⌝ }
 {
     let end = attempt(heads, weights, first_out, goal, overall, used, path, d, y);
     if end.arrived {
@@ -393,5 +418,6 @@ pub fn first_path(
         barred,
         path,
         d,
+        most,
     )
 }

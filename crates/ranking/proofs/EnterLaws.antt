@@ -44,26 +44,6 @@ put-in-full M x l e = take-append-le M (take M l) (x ∷ drop M l) (omega (arith
 abbrev pub newcomer : ℕ → ℕ → ℕ → List ℕ → Entry
 newcomer c d parent tail = record { cost = c; shared = d; parent = parent; tail = tail }
 
--- ---- what was found
-no-tail : {A : Type 0} {len rest : ℕ} → _≡_ {A = Found} Empty (Tail len rest) → A
-no-tail e = let z : _≡_ {A = ℕ} 0 1 = cc in absurd (omega arith)
-
-pub extent-tail : {d len rest : ℕ} {path : List ℕ} {r : Found} → Extent d path r → r ≡ Tail len rest → (d < len) × (len ≤ length path)
-extent-tail {len} (Extent.extent {len = m} lo hi) e = let z : m ≡ len = cc in (omega arith, omega arith)
-extent-tail Extent.nothing e = no-tail e
-
-module _ {g : Graph} {s t : ℕ} {β : Branch} where
-  pub found-tail : {len rest : ℕ} {path : List ℕ} {r : Found} → FirstFound g s t β path r → r ≡ Tail len rest → First g s t β (take len path) × (cost g (take len path) ≡ cost g (β .beginning) + rest)
-  found-tail {len} {rest} (FirstFound.found {len = m} {rest = k} f c) e =
-      let z : m ≡ len = cc in
-      let y : k ≡ rest = cc in
-      rw (← z, ← y) (f, c)
-  found-tail (FirstFound.none n) e = no-tail e
-
-  pub found-empty : {path : List ℕ} {r : Found} → FirstFound g s t β path r → r ≡ Empty → (p : Route) → In g s t β p → ⊥
-  found-empty (FirstFound.found f c) e = no-tail (sym e)
-  found-empty (FirstFound.none n) e = n
-
 pub dear-facts : {M count bound : ℕ} {E : List Entry} {b : Bool} → TooDear M count E bound b → b ≡ true → (count ≡ M) × (getD E (M - 1) none .cost < bound)
 dear-facts {E = E} (TooDear.dear e h) t = (e, let z = ap (λ k. getD E (k - 1) none .cost) e in omega arith)
 dear-facts TooDear.cheap t = clash t refl
@@ -120,6 +100,10 @@ module _ {n s t : ℕ} {ts hs ws outs ins nexts overall : List ℕ} (P : Problem
     pub goal-ahead : Ahead (n + 1) t used
     goal-ahead = record { place = omega (arith, P .goal-to); unmet = D .begun .laid .flagged .outside t (D .begins .short-of-goal) }
 
+    -- no path of the branch costs less than its least exit promises
+    pub choice-floor : {l y : ℕ} → Choice g overall (Unmarked used bars) (getD path (d - 1) 0) l y → (p : Route) → In g s t (branch (take d path) (barred E (taking-over d parent))) p → cost g (take d path) + l ≤ cost g p
+    choice-floor ch = branch-floor (D .begun) (D .flagged) (D .begins) ch still-consistent
+
     -- ---- left out
     module _ (M limit : ℕ) (T : Entered n g s E j) where
       pub settled-empty : ((p : Route) → In g s t (branch (take d path) (barred E (taking-over d parent))) p → ⊥) → Settled n g s t M limit E j β E
@@ -128,9 +112,10 @@ module _ {n s t : ℕ} {ts hs ws outs ins nexts overall : List ℕ} (P : Problem
       pub settled-none : ((z : ℕ) → Exit g overall (Unmarked used bars) (getD path (d - 1) 0) z → ⊥) → Settled n g s t M limit E j β E
       settled-none none = settled-empty (branch-empty (D .begun) (D .flagged) (D .begins) still-consistent none)
 
-      module _ {l y : ℕ} (ch : Choice g overall (Unmarked used bars) (getD path (d - 1) 0) l y) where
+      -- each of its paths costs at least l more than the beginning
+      module _ (l : ℕ) (low : (p : Route) → In g s t (branch (take d path) (barred E (taking-over d parent))) p → cost g (take d path) + l ≤ cost g p) where
         floor : (p : Route) → In g s t β p → before + l ≤ cost g p
-        floor p i = omega (arith, D .costs, branch-floor (D .begun) (D .flagged) (D .begins) ch still-consistent p (subst (λ γ. In g s t γ p) (sym branch-is) i))
+        floor p i = omega (arith, D .costs, low p (subst (λ γ. In g s t γ p) (sym branch-is) i))
 
         pub settled-beyond : limit ≤ before + l → Settled n g s t M limit E j β E
         settled-beyond h = record { goes-on = λ waiting S. all-lost n g s t problem-within (P .start-from) (P .start-to) M (Beyond g limit) S (λ p i. omega (arith, floor p i)) }

@@ -73,6 +73,13 @@ pub data TooDear (M count : ℕ) (E : List Entry) (bound : ℕ) : Bool → Type 
   dear : count ≡ M → getD E (count - 1) none .cost < bound → TooDear M count E bound true
   cheap : TooDear M count E bound false
 
+-- a path that goes on from a beginning that costs `before` is wanted if its tail costs `most` at the most; where that is a limit at all,
+-- all slots are taken, and a path beyond it costs more than the last entry
+pub record Wanted (M count : ℕ) (E : List Entry) (before most : ℕ) : Type 0 where
+  pub small : most ≤ longest
+  pub full : most < longest → count ≡ M
+  pub last : most < longest → getD E (count - 1) none .cost ≤ before + most
+
 -- ---- the branches along the path at place r
 -- its first d nodes are laid out and flagged, and cost `before`; no node is barred
 pub record Along (n : ℕ) (g : Graph) (s t : ℕ) (E : List Entry) (r : ℕ) (used bars path : List ℕ) (d before : ℕ) : Type 0 where

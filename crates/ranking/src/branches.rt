@@ -6,7 +6,7 @@ ghost use Rattle.labels.specs.Arcs.{graph};
 ghost use Rattle.candidates.specs.Slots.{entries};
 ghost use Rattle.candidates.specs.Keeping.{Kept};
 ghost use Rattle.exits.specs.Exits.{Unmarked};
-ghost use Rattle.ranking.specs.Ranking.{Problem, Filled, Deviation, Restored, Changed, Settled, TooDear};
+ghost use Rattle.ranking.specs.Ranking.{Problem, Filled, Deviation, Restored, Changed, Settled, TooDear, Wanted};
 ghost use Rattle.ranking.specs.State.{branch-of, taking-over};
 ghost use Rattle.exits.specs.Walks.{Choice};
 use branching::Found;
@@ -16,6 +16,7 @@ use candidates::insert;
 use candidates::place_for;
 use exits::Next;
 use exits::least_exit;
+use sharpening::LONGEST;
 
 // Whether every slot is taken, and the last entry costs less than `bound`.
 fn too_dear(work: &[u32], n: usize, slots: usize, count: usize, bound: u64) -> bool
@@ -30,6 +31,26 @@ fn too_dear(work: &[u32], n: usize, slots: usize, count: usize, bound: u64) -> b
         return false;
     }
     true
+}
+
+// What the tail of a path may cost at the most, behind a beginning that costs `before`, so that the path
+// does not come after the last entry where every slot is taken.
+fn most_wanted(work: &[u32], n: usize, slots: usize, count: usize, before: u64) -> u64
+    requires { ⌜ Kept n slots (now work) count × (1 ≤ slots) ⌝ }
+    ensures { λ r. ⌜ Wanted slots count (entries n (now (work .entry)) count) before r ⌝ }
+{
+    if count < slots {
+        return LONGEST;
+    }
+    let dearest = cost_at(work, n, count - 1);
+    if dearest <= before {
+        return 0;
+    }
+    let room = dearest - before;
+    if LONGEST < room {
+        return LONGEST;
+    }
+    room
 }
 
 // The first path of a branch, of which y and l are the least exit, is found and put in its place. The
@@ -68,6 +89,7 @@ fn enter(
     ensures { λ r. ⌜ Changed n slots (graph (now (tails .entry)) (now (heads .entry)) (now (weights .entry))) start from (now (work .entry)) count (now (work .exit)) r ⌝ }
     ensures { λ r. ⌜ ((limit : ℕ) → Settled n (graph (now (tails .entry)) (now (heads .entry)) (now (weights .entry))) start goal slots limit (entries n (now (work .entry)) count) from (branch-of start (entries n (now (work .entry)) count) (taking-over d parent)) (entries n (now (work .exit)) r)) ⌝ }
 {
+    let most = most_wanted(work, n, slots, count, before);
     let Found::Tail(len, rest) = first_path(
         tails,
         heads,
@@ -83,6 +105,7 @@ fn enter(
         d,
         y,
         l,
+        most,
     ) else {
         return count;
     };

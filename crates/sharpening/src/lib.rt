@@ -8,4 +8,6 @@ mod raise;
 mod search;
 mod sharp;
 
+pub use search::LONGEST;
+pub use search::Quest;
 pub use sharp::sharpen;

@@ -1,6 +1,6 @@
 // The search: it takes nodes outwards from the end of a branch's beginning, and says how far it went.
 ghost use mathlib.Core.Path.{_≡_};
-ghost use Prim.Native.Nat.{ℕ, _≤_, _<_};
+ghost use Prim.Native.Nat.{ℕ, _+_, _≤_, _<_};
 ghost use lib.ListN.{length};
 ghost use Rattle.labels.specs.Labels.{far};
 ghost use Rattle.exits.specs.Star.{Heads, Starts, Small, longest};
@@ -13,15 +13,24 @@ use labels::FAR;
 // No path costs more.
 pub const LONGEST: u64 = 53418655545;
 
+// From which node a search goes to which, and the most that a path from the one to the other may cost.
+pub struct Quest {
+    pub from: usize,
+    pub goal: usize,
+    pub most: u64,
+}
+
 // The node whose arcs are followed. Its key is the least cost of a path through it, by the labels at
-// hand; `taken` nodes were taken up to now.
+// hand, and a path may cost `room` more; `taken` nodes were taken up to now.
 pub struct Hub {
     pub node: usize,
     pub key: u64,
+    pub room: u64,
     pub taken: usize,
 }
 
-// How far a search went: how many nodes it took, and the key with which it came to the goal, or FAR.
+// How far a search went: how many nodes it took, and what a path costs at least: the key with which it
+// came to the goal, or one more than the most, or FAR if any path would do.
 pub struct Level {
     pub taken: usize,
     pub key: u64,
@@ -82,7 +91,7 @@ fn reach(
     met: usize,
 ) -> usize
     requires { ⌜ Front (length (now keys)) (now keys) (now nodes) (hub .taken) met ⌝ }
-    requires { ⌜ (y < length (now keys)) × (hub .key ≤ longest) ⌝ }
+    requires { ⌜ (y < length (now keys)) × (hub .key + hub .room ≤ longest) ⌝ }
     ensures { λ r. ⌜ Front (length (now (keys .entry))) (now (keys .exit)) (now (nodes .exit)) (hub .taken) r ⌝ }
 {
     if l < own {
@@ -90,7 +99,8 @@ fn reach(
     }
     let more = l - own;
     let key = hub.key;
-    if LONGEST - key < more {
+    let room = hub.room;
+    if room < more {
         return met;
     }
     let taken = hub.taken;
@@ -111,7 +121,7 @@ fn spread(
     met: usize,
 ) -> usize
     requires { ⌜ Heads (length (now overall)) (now heads) (now weights) × Starts (length (now overall)) (now heads) (now «first_out») ⌝ }
-    requires { ⌜ Small (length (now overall)) (now overall) × (hub .node < length (now overall)) × (hub .key ≤ longest) ⌝ }
+    requires { ⌜ Small (length (now overall)) (now overall) × (hub .node < length (now overall)) × (hub .key + hub .room ≤ longest) ⌝ }
     requires { ⌜ (length (now used) ≡ length (now overall)) × (length (now barred) ≡ length (now overall)) ⌝ }
     requires { ⌜ Front (length (now overall)) (now keys) (now nodes) (hub .taken) met ⌝ }
     ensures { λ r. ⌜ Front (length (now (overall .entry))) (now (keys .exit)) (now (nodes .exit)) (hub .taken) r ⌝ }
@@ -200,8 +210,19 @@ fn steps_allowed(taken: usize, floor: u64, key: u64, nodes: usize) -> usize {
     nodes
 }
 
-// Takes node after node, by its key, and follows its arcs, until it comes to the goal or a walk along the
-// labels leads there. The nodes taken are then nodes[..taken].
+// What a path costs at least if none was found that costs `most` at the most.
+fn beyond(most: u64) -> u64
+    requires { ⌜ most ≤ longest ⌝ }
+    ensures { λ r. ⌜ (r < far → r ≤ longest) ⌝ }
+{
+    if most < LONGEST {
+        return most + 1;
+    }
+    FAR
+}
+
+// Takes node after node, by its key, and follows its arcs, until it comes to the goal, or a walk along
+// the labels leads there, or all keys are above `most`. The nodes taken are then nodes[..taken].
 fn search(
     heads: &[u16],
     weights: &[u32],
@@ -212,9 +233,10 @@ fn search(
     keys: &mut [u64],
     nodes: &mut [u16],
     met: usize,
+    most: u64,
 ) -> Level
     requires { ⌜ Heads (length (now overall)) (now heads) (now weights) × Starts (length (now overall)) (now heads) (now «first_out») ⌝ }
-    requires { ⌜ Small (length (now overall)) (now overall) × (length (now used) ≡ length (now overall)) ⌝ }
+    requires { ⌜ Small (length (now overall)) (now overall) × (length (now used) ≡ length (now overall)) × (most ≤ longest) ⌝ }
     requires { ⌜ Front (length (now overall)) (now keys) (now nodes) 0 met ⌝ }
     ensures { λ r. ⌜ Listed (length (now (overall .entry))) (now (nodes .exit)) 0 (r .taken) × (r .key < far → r .key ≤ longest) ⌝ }
 {
@@ -226,10 +248,13 @@ fn search(
         let node = nodes[at];
         let x = node as usize;
         let key = keys[x];
-        if LONGEST < key {
-            return Level { taken, key: FAR };
+        if most < key {
+            return Level {
+                taken,
+                key: beyond(most),
+            };
         }
-        let most = steps_allowed(taken, floor, key, used.len());
+        let steps = steps_allowed(taken, floor, key, used.len());
         if leads(
             heads,
             weights,
@@ -240,7 +265,7 @@ fn search(
             keys,
             x,
             key,
-            most,
+            steps,
         ) {
             return Level { taken, key };
         }
@@ -251,6 +276,7 @@ fn search(
         let hub = Hub {
             node: x,
             key,
+            room: most - key,
             taken,
         };
         listed = spread(
@@ -266,16 +292,18 @@ fn search(
             listed,
         );
     }
-    Level { taken, key: FAR }
+    Level {
+        taken,
+        key: beyond(most),
+    }
 }
 
-// The search from v, the last node of the branch's beginning. No node has been met.
+// The whole search, from the last node of the branch's beginning. No node has been met.
 pub fn search_from(
     heads: &[u16],
     weights: &[u32],
     first_out: &[u16],
-    v: usize,
-    goal: usize,
+    quest: Quest,
     overall: &[u64],
     used: &[u8],
     barred: &[u8],
@@ -283,18 +311,25 @@ pub fn search_from(
     nodes: &mut [u16],
 ) -> Level
     requires { ⌜ Heads (length (now overall)) (now heads) (now weights) × Starts (length (now overall)) (now heads) (now «first_out») ⌝ }
-    requires { ⌜ Small (length (now overall)) (now overall) × (v < length (now overall)) ⌝ }
+    requires { ⌜ Small (length (now overall)) (now overall) × (quest .from < length (now overall)) × (quest .most ≤ longest) ⌝ }
     requires { ⌜ (length (now used) ≡ length (now overall)) × (length (now barred) ≡ length (now overall)) ⌝ }
     requires { ⌜ Front (length (now overall)) (now keys) (now nodes) 0 0 ⌝ }
     ensures { λ r. ⌜ Listed (length (now (overall .entry))) (now (nodes .exit)) 0 (r .taken) × (r .key < far → r .key ≤ longest) ⌝ }
 {
+    let v = quest.from;
+    let goal = quest.goal;
+    let most = quest.most;
     let key = overall[v];
-    if LONGEST < key {
-        return Level { taken: 0, key: FAR };
+    if most < key {
+        return Level {
+            taken: 0,
+            key: beyond(most),
+        };
     }
     let hub = Hub {
         node: v,
         key,
+        room: most - key,
         taken: 0,
     };
     let met = spread(
@@ -319,5 +354,6 @@ pub fn search_from(
         keys,
         nodes,
         met,
+        most,
     )
 }

@@ -6,11 +6,12 @@ ghost use Prim.Native.Nat.{ℕ, _≤_, _<_};
 ghost use lib.ListN.{length, getD};
 ghost use Rattle.terms.specs.Lists.{elem};
 ghost use Rattle.labels.specs.Arcs.{graph, Arcs};
-ghost use Rattle.exits.specs.Star.{Star, Heads, Starts, Small};
+ghost use Rattle.exits.specs.Star.{Star, Heads, Starts, Small, longest};
 ghost use Rattle.exits.specs.Walks.{Consistent};
 ghost use Rattle.sharpening.specs.Sharp.{Front};
 use crate::raise::lift_all;
 use crate::raise::mend_all;
+use crate::search::Quest;
 use crate::search::search_from;
 use labels::FAR;
 
@@ -31,8 +32,7 @@ fn sharpen_in(
     heads: &[u16],
     weights: &[u32],
     first_out: &[u16],
-    v: usize,
-    goal: usize,
+    quest: Quest,
     overall: &[u64],
     used: &[u8],
     barred: &[u8],
@@ -41,18 +41,17 @@ fn sharpen_in(
     labels: &mut [u64],
 ) -> bool
     requires { ⌜ Heads (length (now overall)) (now heads) (now weights) × Starts (length (now overall)) (now heads) (now «first_out») ⌝ }
-    requires { ⌜ Small (length (now overall)) (now overall) × (v < length (now overall)) × (length (now labels) ≡ length (now overall)) ⌝ }
+    requires { ⌜ Small (length (now overall)) (now overall) × (quest .from < length (now overall)) × (quest .most ≤ longest) × (length (now labels) ≡ length (now overall)) ⌝ }
     requires { ⌜ (length (now used) ≡ length (now overall)) × (length (now barred) ≡ length (now overall)) ⌝ }
     requires { ⌜ Front (length (now overall)) (now keys) (now nodes) 0 0 ⌝ }
     ensures { λ _. ⌜ Small (length (now (overall .entry))) (now (labels .exit)) ⌝ }
-    ensures { λ r. ⌜ ((n : ℕ) (ts bar : List ℕ) → Arcs n ts (now (heads .entry)) (now (weights .entry)) → Star n ts (now (heads .entry)) (now («first_out» .entry)) → r ≡ true → ((z : ℕ) → elem z bar ≡ false → getD (now (used .entry)) z 0 ≡ 0) → Consistent (graph ts (now (heads .entry)) (now (weights .entry))) goal (now (overall .entry)) bar → Consistent (graph ts (now (heads .entry)) (now (weights .entry))) goal (now (labels .exit)) bar) ⌝ }
+    ensures { λ r. ⌜ ((n : ℕ) (ts bar : List ℕ) → Arcs n ts (now (heads .entry)) (now (weights .entry)) → Star n ts (now (heads .entry)) (now («first_out» .entry)) → r ≡ true → ((z : ℕ) → elem z bar ≡ false → getD (now (used .entry)) z 0 ≡ 0) → Consistent (graph ts (now (heads .entry)) (now (weights .entry))) (quest .goal) (now (overall .entry)) bar → Consistent (graph ts (now (heads .entry)) (now (weights .entry))) (quest .goal) (now (labels .exit)) bar) ⌝ }
 {
     let level = search_from(
         heads,
         weights,
         first_out,
-        v,
-        goal,
+        quest,
         overall,
         used,
         barred,
@@ -61,29 +60,29 @@ fn sharpen_in(
     );
     let taken = level.taken;
     let key = level.key;
+    let goal = quest.goal;
     copy(overall, labels);
     lift_all(nodes, taken, goal, key, keys, labels);
     mend_all(heads, weights, first_out, nodes, taken, goal, used, labels)
 }
 
 // Fills labels from overall, and sharpens them for the branch whose beginning, which is flagged in
-// used, ends with v. Says whether they can be relied on.
+// used, ends with the node from which the quest goes. Says whether they can be relied on.
 pub fn sharpen(
     heads: &[u16],
     weights: &[u32],
     first_out: &[u16],
-    v: usize,
-    goal: usize,
+    quest: Quest,
     overall: &[u64],
     used: &[u8],
     barred: &[u8],
     labels: &mut [u64],
 ) -> bool
     requires { ⌜ Heads (length (now overall)) (now heads) (now weights) × Starts (length (now overall)) (now heads) (now «first_out») ⌝ }
-    requires { ⌜ Small (length (now overall)) (now overall) × (v < length (now overall)) × (length (now labels) ≡ length (now overall)) ⌝ }
+    requires { ⌜ Small (length (now overall)) (now overall) × (quest .from < length (now overall)) × (quest .most ≤ longest) × (length (now labels) ≡ length (now overall)) ⌝ }
     requires { ⌜ (length (now used) ≡ length (now overall)) × (length (now barred) ≡ length (now overall)) × (length (now overall) ≤ 201) ⌝ }
     ensures { λ _. ⌜ Small (length (now (overall .entry))) (now (labels .exit)) ⌝ }
-    ensures { λ r. ⌜ ((n : ℕ) (ts bar : List ℕ) → Arcs n ts (now (heads .entry)) (now (weights .entry)) → Star n ts (now (heads .entry)) (now («first_out» .entry)) → r ≡ true → ((z : ℕ) → elem z bar ≡ false → getD (now (used .entry)) z 0 ≡ 0) → Consistent (graph ts (now (heads .entry)) (now (weights .entry))) goal (now (overall .entry)) bar → Consistent (graph ts (now (heads .entry)) (now (weights .entry))) goal (now (labels .exit)) bar) ⌝ }
+    ensures { λ r. ⌜ ((n : ℕ) (ts bar : List ℕ) → Arcs n ts (now (heads .entry)) (now (weights .entry)) → Star n ts (now (heads .entry)) (now («first_out» .entry)) → r ≡ true → ((z : ℕ) → elem z bar ≡ false → getD (now (used .entry)) z 0 ≡ 0) → Consistent (graph ts (now (heads .entry)) (now (weights .entry))) (quest .goal) (now (overall .entry)) bar → Consistent (graph ts (now (heads .entry)) (now (weights .entry))) (quest .goal) (now (labels .exit)) bar) ⌝ }
 {
     let mut keys = [FAR; 201];
     let mut nodes = [0u16; 201];
@@ -92,8 +91,7 @@ pub fn sharpen(
         heads,
         weights,
         first_out,
-        v,
-        goal,
+        quest,
         overall,
         used,
         barred,

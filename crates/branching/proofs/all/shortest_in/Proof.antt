@@ -28,10 +28,10 @@ start c = entry (c .before .before)
 abbrev chosen : tie.After-known-told → tie.After-least-exit
 chosen c = c .before .before .before
 
-abbrev told : tie.After-first-path-arg2 → tie.After-known-told
+abbrev told : tie.After-along-arg2 → tie.After-known-told
 told c = c .before .before
 
-abbrev found : tie.After-slice-known4 → tie.After-first-path
+abbrev found : tie.After-slice-known4 → tie.After-along
 found c = c .before .before .before .before
 
 abbrev net : tie.Start → Graph
@@ -75,8 +75,8 @@ returns c =
     let none = chosen-nothing (x .least-exit .ensures .1 _ _ (s .pre .0 .arcs) (s .pre .0 .star)) (c .enum-told .given .1) in
     (Extent.nothing, FirstFound.none (λ p i. branch-empty (begun s) (flags-none (s .pre .1 .0 .0 .none-barred)) (beginning s) (consistent s _) (rw (last-node s) none) p (rw (laid s) i)))
 
-first-path-requires : tie.Need-first-path-requires
-first-path-requires c κs =
+along-requires : tie.Need-along-requires
+along-requires c κs =
     let t = told c in
     let x = chosen t in
     let s = start x in
@@ -88,18 +88,18 @@ first-path-requires c κs =
 same-length-3 : tie.Need-same-length-3
 same-length-3 c =
     let f = found c in
-    ap length (f .first-path .ensures .0 .flags) ∙ length-set (start (chosen (told (f .before))) .args .used .now) _ 1
+    ap length (f .along .ensures .0 .flags) ∙ length-set (start (chosen (told (f .before))) .args .used .now) _ 1
 
 same-length-4 : tie.Need-same-length-4
 same-length-4 c =
     let f = found c in
-    f .first-path .kept .1 .1 .1 .1 .1 .1 .1 .1 .1 .1 .0 ∙ length-set (start (chosen (told (f .before))) .args .path .now) 0 _
+    f .along .kept .1 .1 .1 .1 .1 .1 .1 .1 .1 .1 .0 ∙ length-set (start (chosen (told (f .before))) .args .path .now) 0 _
 
 returns-2 : tie.Need-returns-2
 returns-2 c =
     let f = found c in
     let s = start (chosen (told (f .before))) in
-    (f .first-path .ensures .0 .reach, rw (laid s) at (f .first-path .ensures .1 (s .args .start) [] (beginning s) (flags-none (s .pre .1 .0 .0 .none-barred))))
+    (f .along .ensures .0 .reach, rw (laid s) at (f .along .ensures .1 (s .args .start) [] (beginning s) (flags-none (s .pre .1 .0 .0 .none-barred))))
 
 pub shortest-in-spec : {M : Type 1} → statement M
 shortest-in-spec =
@@ -113,7 +113,7 @@ shortest-in-spec =
     (λ c. search needs)
     (λ c. search needs)
     returns
-    first-path-requires
+    along-requires
     same-length-3
     same-length-4
     returns-2)

@@ -3,7 +3,7 @@
 use Rattle.branching.proofs.first.first_path.Statement.{statement}
 use Rattle.branching.proofs.first.first_path.Tie as tie
 use borrow.Author.Needs.{needs}
-use Rattle.branching.specs.Found.{FirstFound}
+use Rattle.branching.specs.Found.{FirstFound, FirstWithin}
 use Rattle.branching.specs.Laid.{Tried}
 use Rattle.branching.proofs.FirstLaws.{branch-walked, tried-kept, kept-again}
 use Rattle.branching.proofs.LaidLaws.{laid-kept}
@@ -39,14 +39,14 @@ returns c =
       tried-kept (walk-tried w),
       λ s F B h.
           let r = branch-walked (p .1 .0) h B choice (p .1 .1 .1 .0 .0) (w .attempt .ensures .1 _ _ (p .0 .arcs) (p .0 .star) (choice .exit .reached) (c .if1 .taken)) in
-          FirstFound.found (r .0) (r .1),
+          FirstWithin.is (FirstFound.found (r .0) (r .1)),
     )
 
 sharp-path-requires : tie.Need-sharp-path-requires
 sharp-path-requires c κs =
     let w = strayed c in
     let p = start w .pre in
-    rw (walk-tried w .flags) (p .0, (record { laid = laid-kept (walk-tried w .kept) (w .attempt .kept .1 .1 .1 .1 .1 .1 .0) (p .1 .0 .laid); some = p .1 .0 .some; barred-long = p .1 .0 .barred-long }, (p .1 .1 .0, (rw (walk-tried w .kept) (p .1 .1 .1 .0 .0), p .1 .1 .1 .0 .1))))
+    rw (walk-tried w .flags) (p .0, (record { laid = laid-kept (walk-tried w .kept) (w .attempt .kept .1 .1 .1 .1 .1 .1 .0) (p .1 .0 .laid); some = p .1 .0 .some; barred-long = p .1 .0 .barred-long }, (p .1 .1 .0, (rw (walk-tried w .kept) (p .1 .1 .1 .0 .0), p .1 .1 .1 .0 .1, p .1 .1 .1 .0 .2))))
 
 returns-2 : tie.Need-returns-2
 returns-2 c =

@@ -18,7 +18,7 @@ slice-aggregate-by-sharper : tie.Need-slice-aggregate-by-sharper
 slice-aggregate-by-sharper c = sym (part-long 201 _ (few (c .before)))
 
 by-sharper-requires : tie.Need-by-sharper-requires
-by-sharper-requires c κs = let p = start (c .before) .pre in (p .0, (p .1 .0, (p .1 .1 .0, (p .1 .1 .1, part-long 201 _ (few (c .before))))))
+by-sharper-requires c κs = let p = start (c .before) .pre in (p .0, (p .1 .0, (p .1 .1 .0, ((p .1 .1 .1 .0, p .1 .1 .1 .1), (part-long 201 _ (few (c .before)), p .1 .1 .1 .2)))))
 
 pub sharp-path-spec : {M : Type 1} → statement M
 sharp-path-spec =

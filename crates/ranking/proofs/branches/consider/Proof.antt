@@ -11,7 +11,7 @@ use Rattle.candidates.proofs.EntryLaws.{length-entries}
 use Rattle.exits.specs.Exits.{Unmarked}
 use Rattle.ranking.specs.Ranking.{Problem, Filled, Deviation}
 use Rattle.exits.specs.Walks.{Choice}
-use Rattle.ranking.proofs.EnterLaws.{dear-facts, unchanged, choice-small, settled-none, settled-beyond, settled-dear}
+use Rattle.ranking.proofs.EnterLaws.{dear-facts, unchanged, choice-small, choice-floor, settled-none, settled-beyond, settled-dear}
 use Rattle.exits.proofs.ExitLaws.{chosen-node, chosen-nothing}
 use Rattle.branching.proofs.LaidLaws.{laid-place}
 use Rattle.branching.proofs.NetworkLaws.{network-heads, network-starts}
@@ -73,7 +73,7 @@ add-bound c = let s = entry (told c) in omega (arith, choice-small (problem s) (
 returns-2 : tie.Need-returns-2
 returns-2 c = let k = c .before in
     let s = entry (told k) in
-    (record { flags = refl; kept = refl }, (unchanged (filled s), settled-beyond (problem s) (deviation s) _ _ (filled s .entered) (choice k) (c .if1 .taken)))
+    (record { flags = refl; kept = refl }, (unchanged (filled s), settled-beyond (problem s) (deviation s) _ _ (filled s .entered) (k .before .y .given .0 .1 .0) (choice-floor (problem s) (deviation s) (choice k)) (c .if1 .taken)))
 
 too-dear-requires : tie.Need-too-dear-requires
 too-dear-requires c κs = let F = filled (entry (told (c .before .before))) in (F .kept, F .some)
@@ -84,7 +84,7 @@ returns-3 c = let x = c .before in
     let s = entry (told k) in
     let F = filled s in
     let d = dear-facts (x .too-dear .ensures) (c .if2 .taken) in
-    (record { flags = refl; kept = refl }, (unchanged F, settled-dear (problem s) (deviation s) _ _ (F .entered) (choice k) (length-entries (s .args .n) (s .args .work .now) (s .args .count) ∙ d .0) (F .some) (d .1)))
+    (record { flags = refl; kept = refl }, (unchanged F, settled-dear (problem s) (deviation s) _ _ (F .entered) (k .before .y .given .0 .1 .0) (choice-floor (problem s) (deviation s) (choice k)) (length-entries (s .args .n) (s .args .work .now) (s .args .count) ∙ d .0) (F .some) (d .1)))
 
 enter-requires : tie.Need-enter-requires
 enter-requires c κs = let k = c .before .before .before .before .before .before .before in

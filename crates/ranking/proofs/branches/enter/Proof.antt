@@ -1,27 +1,29 @@
--- `branches::enter`: without a path the branch is empty; its first path is put in at its place, or falls out at once. Assumes nothing.
-use Prim.Native.Nat.{ℕ, _+_, _≤_, _<_}
+-- `branches::enter`: without a path the branch is empty, or its paths cost too much; its first path is put in at its place, or falls out at once. Assumes nothing.
+use Prim.Native.Nat.{ℕ, _+_, _-_, _≤_, _<_}
 use native.Mathlib.Omega.{arith}
-use mathlib.Core.Path.{_≡_, refl, sym}
+use mathlib.Core.Path.{_≡_, refl, sym, ap, _∙_}
+use mathlib.Core.Logic.{⊎-elim}
 use mathlib.Core.List.{List}
-use lib.ListN.{length, take}
+use lib.ListN.{length, take, getD}
 use lib.Seq.{length-take-le}
 use Rattle.terms.specs.Network.{Graph}
 use Rattle.terms.specs.Paths.{cost}
 use Rattle.labels.specs.Arcs.{graph}
-use Rattle.candidates.specs.Slots.{Entry, entries}
+use Rattle.candidates.specs.Slots.{Entry, none, entries}
 use Rattle.candidates.specs.Bars.{barred}
 use Rattle.candidates.proofs.EntryLaws.{kept-readable, length-entries}
 use Rattle.branching.specs.Branches.{branch, First}
-use Rattle.branching.specs.Found.{FirstFound}
-use Rattle.ranking.specs.Ranking.{Problem, Filled, Deviation, Restored}
+use Rattle.branching.specs.Found.{FirstWithin}
+use Rattle.ranking.specs.Ranking.{Problem, Filled, Deviation, Restored, Wanted}
 use Rattle.ranking.specs.State.{taking-over}
-use Rattle.ranking.proofs.EnterLaws.{extent-tail, found-tail, found-empty, unchanged, path-small, still-consistent, goal-ahead, rest-short, settled-empty, settled-found, entered-found, same-found, settled-out, changed-put, settled-put}
+use Rattle.branching.proofs.FirstLaws.{extent-tail, within-tail, within-empty}
+use Rattle.ranking.proofs.EnterLaws.{unchanged, path-small, still-consistent, goal-ahead, rest-short, settled-empty, settled-dear, settled-found, entered-found, same-found, settled-out, changed-put, settled-put}
 use borrow.Author.Needs.{needs}
 use Rattle.ranking.proofs.branches.enter.Statement.{statement}
 use Rattle.ranking.proofs.branches.enter.Tie as tie
 
 abbrev entry : tie.After-first-path-arg2 → tie.Start
-entry c = c .before .before .before .before .before .before .before .before .before .before .before .before .before
+entry c = c .before .before .before .before .before .before .before .before .before .before .before .before .before .before .before
 
 abbrev start : tie.After-first-path → tie.Start
 start c = entry (c .before)
@@ -61,7 +63,14 @@ made c = c .first-path .last .1 .1 .1 .1 .1 .1 .1 .1 .1 .1 .0
 restored : (c : tie.After-first-path) → let s = start c in Restored (s .args .used .now) (s .args .path .now) (s .args .d) (c .first-path .last .1 .1 .1 .1 .1 .1 .1 .1 .0) (made c)
 restored c = record { flags = c .first-path .ensures .0 .flags; kept = c .first-path .ensures .0 .kept }
 
-result : (c : tie.After-first-path) → let s = start c in FirstFound (net s) (s .args .start) (s .args .goal) (branch (take (s .args .d) (s .args .path .now)) (barred (kept-entries s) (taking-over (s .args .d) (s .args .parent)))) (made c) (c .first-path .result)
+-- what a tail may cost
+wanted : (c : tie.After-most-wanted) → let s = c .before .before .before .before .before .before .before .before .before .before .before .before .before in Wanted (s .args .slots) (s .args .count) (kept-entries s) (s .args .before) (c .most-wanted .result)
+wanted c = c .most-wanted .ensures
+
+abbrev asked : tie.After-first-path → tie.After-most-wanted
+asked c = c .before .before .before
+
+result : (c : tie.After-first-path) → let s = start c in FirstWithin (net s) (s .args .start) (s .args .goal) (branch (take (s .args .d) (s .args .path .now)) (barred (kept-entries s) (taking-over (s .args .d) (s .args .parent)))) (made c) (asked c .most-wanted .result) (c .first-path .result)
 result c = let D = deviation (start c) in c .first-path .ensures .1 _ _ (D .begins) (D .flagged)
 
 abbrev len : tie.After-known-told → ℕ
@@ -73,7 +82,7 @@ rest c = c .before .len .given .0 .1 .0
 first : (c : tie.After-known-told) → let s = start (told c) in
     First (net s) (s .args .start) (s .args .goal) (branch (take (s .args .d) (s .args .path .now)) (barred (kept-entries s) (taking-over (s .args .d) (s .args .parent)))) (take (len c) (made (told c)))
     × (cost (net s) (take (len c) (made (told c))) ≡ cost (net s) (take (s .args .d) (s .args .path .now)) + rest c)
-first c = found-tail (result (told c)) (c .before .len .given .1)
+first c = within-tail (result (told c)) (c .before .len .given .1)
 
 extent : (c : tie.After-known-told) → (start (told c) .args .d < len c) × (len c ≤ length (made (told c)))
 extent c = extent-tail (told c .first-path .ensures .0 .reach) (c .before .len .given .1)
@@ -81,16 +90,28 @@ extent c = extent-tail (told c .first-path .ensures .0 .reach) (c .before .len .
 count-is : (s : tie.Start) → length (kept-entries s) ≡ s .args .count
 count-is s = length-entries (s .args .n) (s .args .work .now) (s .args .count)
 
+most-wanted-requires : tie.Need-most-wanted-requires
+most-wanted-requires c κs = let F = filled (c .before .before .before .before .before .before .before .before .before .before .before .before) in (F .kept, F .some)
+
 first-path-requires : tie.Need-first-path-requires
 first-path-requires c κs = let s = entry c in
     let P = problem s in
     let D = deviation s in
-    rw (D .begun .laid .flags-long) (P .network, (D .begun, (goal-ahead P D, ((still-consistent P D, P .small), s .pre .1 .1 .1))))
+    rw (D .begun .laid .flags-long) (P .network, (D .begun, (goal-ahead P D, ((still-consistent P D, P .small, wanted (c .before .before) .small), s .pre .1 .1 .1))))
 
 returns : tie.Need-returns
 returns c = let x = searched (c .before .before) in
     let s = start x in
-    (restored x, (unchanged (filled s), λ limit. settled-empty (problem s) (deviation s) _ limit (filled s .entered) (found-empty (result x) (c .enum-told .given .1))))
+    let F = filled s in
+    let W = wanted (asked x) in (
+      restored x,
+      (
+        unchanged F,
+        λ limit. ⊎-elim (settled-empty (problem s) (deviation s) _ limit (F .entered))
+            (λ d. let z = ap (λ (k : ℕ). getD (kept-entries s) (k - 1) none .cost) (W .full (d .2)) in settled-dear (problem s) (deviation s) _ limit (F .entered) (d .0) (d .3) (count-is s ∙ W .full (d .2)) (F .some) (omega (arith, z, W .last (d .2), d .1)))
+            (within-empty (result x) (c .enum-told .given .1)),
+      ),
+    )
 
 add-cost : tie.Need-add-cost
 add-cost c = let s = start (told c) in omega (arith, first c .1, path-small (problem s) (first c .0 .member .path), deviation s .costs)
@@ -161,7 +182,9 @@ pub enter-spec : {M : Type 1} → statement M
 enter-spec =
     tie.close
     (tie.spec
+    most-wanted-requires
     first-path-requires
+    (λ c. search needs)
     (λ c. search needs)
     (λ c. search needs)
     (λ c. search needs)

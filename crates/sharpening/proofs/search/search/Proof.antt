@@ -3,6 +3,7 @@ use Prim.Native.Nat.{ℕ, _+_, _-_, _*_, _≤_, _<_}
 use native.Mathlib.Omega.{arith}
 use mathlib.Core.Path.{_≡_, refl, _∙_}
 use lib.ListN.{length, getD, set, length-set}
+use Rattle.exits.specs.Star.{longest}
 use Rattle.sharpening.specs.Sharp.{Listed, Front}
 use Rattle.sharpening.proofs.SharpLaws.{listed-set, listed-to}
 use borrow.Author.Needs.{needs}
@@ -10,15 +11,18 @@ use Rattle.sharpening.proofs.search.search.Statement.{statement}
 use Rattle.sharpening.proofs.search.search.Tie as tie
 
 abbrev Inv-loop : tie.InvT-loop
-Inv-loop heads weights first-out goal overall used keys₀ nodes₀ met listed₀ taken₀ floor₀ keys nodes listed taken floor =
+Inv-loop heads weights first-out goal overall used keys₀ nodes₀ met most listed₀ taken₀ floor₀ keys nodes listed taken floor =
     Front (length overall) keys nodes taken listed × (length keys ≡ length keys₀) × (length nodes ≡ length nodes₀)
 
 abbrev μ-loop : tie.MeasureT-loop
-μ-loop heads weights first-out goal overall used keys₀ nodes₀ met listed₀ taken₀ floor₀ keys nodes listed taken floor = length nodes₀ - taken
+μ-loop heads weights first-out goal overall used keys₀ nodes₀ met most listed₀ taken₀ floor₀ keys nodes listed taken floor = length nodes₀ - taken
 
 -- the start of the function, from the loop's head
 abbrev start : tie.At-loop Inv-loop μ-loop → tie.Start Inv-loop μ-loop
 start c = c .before .before .before .before .before .before .before .before
+
+most-small : (c : tie.At-loop Inv-loop μ-loop) → start c .args .most ≤ longest
+most-small c = start c .pre .1 .0 .2
 
 -- the node that is picked, and the loop's head
 abbrev head : tie.After-slice-known3 Inv-loop μ-loop → tie.At-loop Inv-loop μ-loop
@@ -68,14 +72,17 @@ mul-key c = omega (arith, node-in c, head c .loop .inv .0 .few)
 slice-read-key : tie.Need-slice-read-key Inv-loop μ-loop
 slice-read-key c = let k = c .before in omega (arith, node-in k, head k .loop .inv .0 .keyed .long)
 
+beyond-requires : tie.Need-beyond-requires Inv-loop μ-loop
+beyond-requires c κs = most-small (head (c .before .before))
+
 returns : tie.Need-returns Inv-loop μ-loop
-returns c = let l = head (c .before .before) .loop in (listed-to (omega arith) (omega (arith, l .inv .0 .listed)) (l .inv .0 .listed), λ h. absurd (omega arith))
+returns c = let l = head (c .before .before .before) .loop in (listed-to (omega arith) (omega (arith, l .inv .0 .listed)) (l .inv .0 .listed), c .beyond .ensures)
 
 leads-requires : tie.Need-leads-requires Inv-loop μ-loop
 leads-requires c κs = let k = c .before .before .before .before in let p = start (head k) .pre in (p .0, (node-in k, p .1 .0 .1, head k .loop .inv .0 .keyed .long))
 
 returns-2 : tie.Need-returns-2 Inv-loop μ-loop
-returns-2 c = let k = c .before .before .before .before .before .before in let l = head k .loop in (listed-to (omega arith) (omega (arith, l .inv .0 .listed)) (l .inv .0 .listed), λ _. c .before .before .before .before .if1 .left)
+returns-2 c = let k = c .before .before .before .before .before .before in let l = head k .loop in (listed-to (omega arith) (omega (arith, l .inv .0 .listed)) (l .inv .0 .listed), λ _. omega (arith, c .before .before .before .before .if1 .left, most-small (head k)))
 
 mul-nodes : tie.Need-mul-nodes Inv-loop μ-loop
 mul-nodes c = let k = picked c in omega (arith, first-in k, few (k .before .before .before .before))
@@ -104,7 +111,7 @@ spread-requires c κs =
     let k = picked (e .before) in
     let p = start (head k) .pre in
     let f = head k .loop .inv .0 in
-    (p .0, ((p .1 .0 .0, node-in k, e .before .before .before .before .before .if1 .left), ((p .1 .0 .1, p .1 .0 .1), record { few = f .few; keyed = f .keyed; listed = exchanged e })))
+    (p .0, ((p .1 .0 .0, node-in k, omega (arith, e .before .before .before .before .before .if1 .left, most-small (head k))), ((p .1 .0 .1, p .1 .0 .1), record { few = f .few; keyed = f .keyed; listed = exchanged e })))
 
 loop-less : tie.Need-loop-less Inv-loop μ-loop
 loop-less c = let k = picked (c .before .before .before .before .before .before .before .before) in omega (arith, first-in k, head k .loop .inv .2)
@@ -116,8 +123,11 @@ loop-again c =
     let i = head k .loop .inv in
     (s .spread .ensures, s .spread .kept .1 .1 .1 .1 .1 .1 .1 .0 ∙ i .1, s .spread .kept .1 .1 .1 .1 .1 .1 .1 .1 .0 ∙ simp length-set (i .2))
 
+beyond-requires-2 : tie.Need-beyond-requires-2 Inv-loop μ-loop
+beyond-requires-2 c κs = most-small (c .before)
+
 returns-3 : tie.Need-returns-3 Inv-loop μ-loop
-returns-3 c = let l = c .before .loop in (listed-to (omega arith) (omega (arith, l .inv .0 .listed)) (l .inv .0 .listed), λ h. absurd (omega arith))
+returns-3 c = let l = c .before .before .loop in (listed-to (omega arith) (omega (arith, l .inv .0 .listed)) (l .inv .0 .listed), c .beyond2 .ensures)
 
 pub search-spec : {M : Type 1} → statement M
 search-spec =
@@ -132,6 +142,7 @@ search-spec =
     cast-x
     mul-key
     slice-read-key
+    beyond-requires
     (λ c. search needs)
     (λ c. search needs)
     returns
@@ -150,6 +161,7 @@ search-spec =
     spread-requires
     loop-less
     loop-again
+    beyond-requires-2
     (λ c. search needs)
     (λ c. search needs)
     returns-3)

@@ -18,8 +18,8 @@ searched c = c .before .before .before .before .before .before
 abbrev copied : tie.After-lift-all → tie.After-copy
 copied c = c .before .before .before .before .before .before
 
-keys-long : (c : tie.After-search-from) → length (c .search-from .last .1 .1 .1 .1 .1 .1 .1 .1 .0) ≡ length (start c .args .overall .now)
-keys-long c = c .search-from .kept .1 .1 .1 .1 .1 .1 .1 .1 .0 ∙ start c .pre .1 .1 .1 .keyed .long
+keys-long : (c : tie.After-search-from) → length (c .search-from .last .1 .1 .1 .1 .1 .1 .1 .0) ≡ length (start c .args .overall .now)
+keys-long c = c .search-from .kept .1 .1 .1 .1 .1 .1 .1 .0 ∙ start c .pre .1 .1 .1 .keyed .long
 
 small : (c : tie.After-copy) → Small (length (start (searched c) .args .overall .now)) (c .copy .last .1 .0)
 small c = subst (λ (l : List ℕ). Small (length (start (searched c) .args .overall .now)) l) (sym (c .copy .ensures)) (start (searched c) .pre .1 .0 .0)
@@ -27,7 +27,7 @@ small c = subst (λ (l : List ℕ). Small (length (start (searched c) .args .ove
 search-from-requires : tie.Need-search-from-requires
 search-from-requires c κs =
     let p = c .before .before .before .before .before .before .before .before .before .before .before .pre in
-    (p .0, ((p .1 .0 .0, p .1 .0 .1), (p .1 .1 .0, p .1 .1 .1)))
+    (p .0, ((p .1 .0 .0, p .1 .0 .1, p .1 .0 .2), (p .1 .1 .0, p .1 .1 .1)))
 
 lift-all-requires : tie.Need-lift-all-requires
 lift-all-requires c κs =
