@@ -20,9 +20,10 @@ struct engine {
     uint32_t overall[NODES + 1], labels[NODES + 1], keys[NODES + 1];
     uint8_t used[NODES + 1], barred[NODES + 1], dirty[NODES + 1];
     uint16_t ring[RING], path[NODES], scratch[NODES];
-    // The nodes that a search met, and before the others those that it took.
+    // The nodes that a search met, and before the others those that it took; and what the tail of a path
+    // may cost at the most.
     uint16_t nodes[NODES + 1];
-    uint32_t met, taken;
+    uint32_t met, taken, most;
     // The slot at each place, and the slots: cost, shared, parent, length of the tail, and the tail.
     uint32_t *order, *entries;
     uint32_t slots, count;
@@ -228,7 +229,7 @@ static void spread(struct engine *e, uint32_t x, uint32_t key, const uint8_t *ba
         if (e->used[y] || barred[y] || e->overall[y] == FAR)
             continue;
         uint32_t more = e->weights[i] + e->overall[y] - own, old = e->keys[y];
-        if (old <= key + more)
+        if (old <= key + more || e->most < key + more)
             continue;
         e->keys[y] = key + more;
         if (old != FAR)
@@ -269,7 +270,8 @@ static bool leads(const struct engine *e, uint32_t x, uint32_t key, uint32_t mos
     return true;
 }
 
-// Takes node after node until the goal is reached, or a walk leads there. Gives the goal's key, or FAR.
+// Takes node after node until the goal is reached, or a walk leads there, or all keys are above the most.
+// Gives what a tail costs at least.
 static uint32_t search(struct engine *e, uint32_t v) {
     e->met = e->taken = 0;
     memset(e->keys, 255, (e->n + 1) * sizeof *e->keys);
@@ -283,7 +285,7 @@ static uint32_t search(struct engine *e, uint32_t v) {
         floor = key;
         spread(e, x, key, e->used);
     }
-    return FAR;
+    return e->most == FAR ? FAR : e->most + 1;
 }
 
 // Raises the labels of the nodes that the search took, and then each to what its exits allow, from the
@@ -305,8 +307,8 @@ static bool sharpen(struct engine *e, uint32_t v) {
     return true;
 }
 
-// The length of the first path of the branch of path[..d], or 0 if it is empty; y and l are the least
-// exit by the labels of the whole network, and l is then what the tail costs.
+// The length of the first path of the branch of path[..d], or 0 if it is empty or no path is wanted; y and l
+// are the least exit by the labels of the whole network, and l is then what the tail costs.
 static uint32_t first_path(struct engine *e, uint32_t d, uint32_t y, uint32_t *l) {
     uint32_t len = attempt(e, e->overall, d, y);
     if (len != 0)
@@ -314,7 +316,7 @@ static uint32_t first_path(struct engine *e, uint32_t d, uint32_t y, uint32_t *l
     if (!sharpen(e, e->path[d - 1]))
         return exact_path(e, d, l);
     y = least_exit(e, e->path[d - 1], e->labels, e->barred, l);
-    if (y == 0)
+    if (y == 0 || *l > e->most)
         return 0;
     len = attempt(e, e->labels, d, y);
     return len != 0 ? len : exact_path(e, d, l);
@@ -390,8 +392,13 @@ static void consider(struct engine *e, uint32_t from, uint32_t parent, uint32_t 
     uint32_t l, y = least_exit(e, e->path[d - 1], e->overall, e->barred, &l);
     if (y == 0)
         return;
-    if (e->count == e->slots && entry_at(e, e->count - 1)[0] < before + l)
-        return;
+    e->most = FAR;
+    if (e->count == e->slots) {
+        uint32_t dearest = entry_at(e, e->count - 1)[0];
+        if (dearest < before + l)
+            return;
+        e->most = dearest - before;
+    }
     uint32_t len = first_path(e, d, y, &l);
     if (len == 0)
         return;

@@ -1,5 +1,5 @@
-// The first path of a branch: by a walk along labels that are at hand, or else along labels with the
-// beginning barred, or else step by step.
+// The first path of a branch: by a walk along labels that are at hand, or else along these sharpened for
+// the branch, or else along labels with the beginning barred, or else step by step.
 ghost use mathlib.Core.Path.{_≡_};
 ghost use mathlib.Core.Bool.{true};
 ghost use mathlib.Core.List.{List, [], _∷_, _++_};
