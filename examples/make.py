@@ -1,5 +1,5 @@
 """Writes the example images, and for each the sheet that the program has to print for it; and the
-images and sheets that the test program `trial_sheet` is held to.
+images and sheets that the test program `test_sheets` is held to.
 
     python3 examples/make.py
 
@@ -15,7 +15,7 @@ import os
 import struct
 
 EXAMPLES = os.path.dirname(os.path.abspath(__file__))
-TRIAL = os.path.join(os.path.dirname(EXAMPLES), "crates", "trial_sheet")
+TESTS = os.path.join(os.path.dirname(EXAMPLES), "crates", "test_sheets")
 
 
 def image(n, arcs, columns):
@@ -221,5 +221,5 @@ for name in ["S", "close", "apart"]:
     write(EXAMPLES, name + ".image", CASES[name][0])
     write(EXAMPLES, name + ".sheet", CASES[name][1].encode())
 for name in CASES:
-    write(os.path.join(TRIAL, "data"), name + ".image", CASES[name][0])
-write(TRIAL, "stdout", trial_text().encode())
+    write(os.path.join(TESTS, "data"), name + ".image", CASES[name][0])
+write(TESTS, "stdout", trial_text().encode())

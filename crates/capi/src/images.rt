@@ -1,11 +1,11 @@
 // The calls of the image layer: Check, Build and Unpack.
-use image::check;
-use packing::build;
-use packing::unpack;
-use replies::Reply;
-use replies::of_built;
-use replies::of_checked;
-use replies::of_unpacked;
+use c_replies::Reply;
+use c_replies::of_built;
+use c_replies::of_checked;
+use c_replies::of_unpacked;
+use image::check::check;
+use packing::build::build;
+use packing::unpack::unpack;
 ghost use mathlib.Core.Path.{_≡_};
 ghost use lib.ListN.{length};
 ghost use Rattle.image.specs.Outcome.{sound, after};
@@ -13,7 +13,7 @@ ghost use Rattle.image.specs.Layout.{image-of, node-list, cost-list};
 ghost use Rattle.image.specs.Calls.{check-outcome};
 ghost use Rattle.packing.specs.Calls.{build-fault, build-outcome, unpack-fault, unpack-outcome};
 ghost use Rattle.packing.specs.RoundTrip.{ReadsBack, WritesAgain};
-ghost use Rattle.replies.specs.Replies.{numbers, reply-of};
+ghost use Rattle.c_replies.specs.Replies.{numbers, reply-of};
 
 // REFERENCE, section 4.1. v0 to v2: n, m and k.
 #[no_mangle]

@@ -5,6 +5,7 @@
 mod images;
 mod paths;
 
+pub use c_replies::Reply;
 pub use images::vihrolom_build;
 pub use images::vihrolom_check;
 pub use images::vihrolom_unpack;
@@ -13,4 +14,3 @@ pub use paths::vihrolom_rank;
 pub use paths::vihrolom_regret;
 pub use paths::vihrolom_robust;
 pub use paths::vihrolom_shortest;
-pub use replies::Reply;

@@ -1,21 +1,21 @@
 // The calls of the path layer: Label, Shortest, Regret, Rank and Robust.
-use replies::Reply;
-use replies::of_decided;
-use replies::of_labelled;
-use replies::of_listed;
-use replies::of_regretted;
-use replies::of_routed;
-use routes::label;
-use routes::rank;
-use routes::regret;
-use routes::robust;
-use routes::shortest;
+use c_replies::Reply;
+use c_replies::of_decided;
+use c_replies::of_labelled;
+use c_replies::of_listed;
+use c_replies::of_regretted;
+use c_replies::of_routed;
+use column_calls::label::label;
+use column_calls::rank::rank;
+use column_calls::shortest::shortest;
+use network_calls::regret::regret;
+use network_calls::robust::robust;
 ghost use mathlib.Core.Path.{_≡_};
 ghost use lib.ListN.{length};
 ghost use Rattle.image.specs.Outcome.{after};
-ghost use Rattle.calls.specs.Calls.{cleared, label-fault, label-outcome, labels-of, shortest-fault, shortest-outcome, shortest-of, regret-outcome, rank-fault, rank-outcome, rank-rows-of, rank-costs-of, robust-fault, robust-outcome, robust-of, chosen};
-ghost use Rattle.calls.specs.Demands.{Kept2, Kept3};
-ghost use Rattle.replies.specs.Replies.{numbers, reply-of};
+ghost use Rattle.outcomes.specs.Calls.{cleared, label-fault, label-outcome, labels-of, shortest-fault, shortest-outcome, shortest-of, regret-outcome, rank-fault, rank-outcome, rank-rows-of, rank-costs-of, robust-fault, robust-outcome, robust-of, chosen};
+ghost use Rattle.outcomes.specs.Demands.{Kept2, Kept3};
+ghost use Rattle.c_replies.specs.Replies.{numbers, reply-of};
 
 // REFERENCE, section 4.2. No values.
 #[no_mangle]

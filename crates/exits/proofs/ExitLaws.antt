@@ -11,14 +11,15 @@ use lib.ListN.{length, getD}
 use borrow.Author.Tests.{eqb-true, eq-eqb, ltb-true, lt-ltb}
 use Rattle.terms.specs.Network.{Graph, linked, weight}
 use Rattle.terms.proofs.ListLaws.{le-or-lt, clash, by-cond, of-cond, and-both}
-use Rattle.labels.specs.Arcs.{graph, Arcs, At}
+use Rattle.star.specs.Arcs.{graph, Arcs, At}
 use Rattle.labels.specs.Labels.{far}
-use Rattle.labels.proofs.ArcLaws.{linked-at, at-linked, at-weight}
+use Rattle.star.proofs.ArcLaws.{linked-at, at-linked, at-weight}
 use Rattle.exits.specs.Flags.{Fresh}
 use Rattle.exits.specs.Walks.{Exit, Choice, Tight}
 use Rattle.exits.specs.Exits.{Below, Unmarked, Unused, via, via-arc, Best, Scanned, Usable, Chosen, Keeps, Stepped}
-use Rattle.exits.specs.Star.{Star, Heads, longest}
-use Rattle.exits.proofs.StarLaws.{arc-at, arc-among}
+use Rattle.star.specs.Star.{Star, Heads}
+use Rattle.exits.specs.Small.{longest}
+use Rattle.star.proofs.StarLaws.{up-to, arc-at, arc-among}
 use Rattle.exits.specs.declared.stepping.Next.{Next}
 use Rattle.exits.specs.declared.stepping.Next.the-variants.{Node, Nothing}
 
@@ -56,10 +57,6 @@ module _ (ls used barred : List ℕ) (y w : ℕ) where
 
 pub none-below : {x best : ℕ} → best ≤ far → x ≤ far → best ≤ x → Below x best far
 none-below h m b = record { is = λ k. absurd (omega arith); no-less = λ _. b; at-most = m }
-
--- what holds from a to below i, and at i, holds to below i + 1
-pub up-to : (P : ℕ → Type 0) (a i : ℕ) → ((j : ℕ) → a ≤ j → j < i → P j) → P i → (j : ℕ) → a ≤ j → j < i + 1 → P j
-up-to P a i h p j lo hi = ⊎-elim (λ e. rw e p) (λ k. h j lo k) (eq-or-lt-of-le {n = j} {m = i} (omega arith))
 
 -- ---- a scan of the arcs at the indices from a on, up to i: the least number so far, and the first head that has it
 pub data Scan (number : ℕ → ℕ) (hs : List ℕ) (a i l y : ℕ) : Type 0 where

@@ -1,2 +1,1 @@
-pub mod StarLaws
 pub mod ExitLaws

@@ -1,5 +1,4 @@
-pub mod Arcs
 pub mod Exits
 pub mod Flags
-pub mod Star
+pub mod Small
 pub mod Walks

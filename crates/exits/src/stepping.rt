@@ -3,10 +3,12 @@ ghost use mathlib.Core.Path.{_≡_};
 ghost use mathlib.Core.List.{List};
 ghost use Prim.Native.Nat.{ℕ, _≤_, _<_};
 ghost use lib.ListN.{length, getD};
-ghost use Rattle.labels.specs.Arcs.{graph, Arcs};
 ghost use Rattle.labels.specs.Labels.{far};
 ghost use Rattle.exits.specs.Exits.{Unmarked, Unused, via, via-arc, Below, Scanned, Usable, Chosen, Keeps, Stepped};
-ghost use Rattle.exits.specs.Star.{Star, Heads, Starts, Small, longest};
+ghost use Rattle.star.specs.Arcs.{graph, Arcs};
+ghost use Rattle.star.specs.Star.{Star, Heads, Starts};
+ghost use Rattle.star.specs.Layout.{graph-of, Network};
+ghost use Rattle.exits.specs.Small.{Small, longest};
 use labels::FAR;
 
 // What was found among the exits of a node.
@@ -76,24 +78,26 @@ fn scan(
 // The least weight and label over the exits of v that are neither used nor barred, and the smallest
 // node that has it.
 pub fn least_exit(
-    heads: &[u16],
+    star: &[u16],
     weights: &[u32],
-    first_out: &[u16],
     v: usize,
     labels: &[u64],
     used: &[u8],
     barred: &[u8],
 ) -> Next
-    requires { ⌜ Heads (length (now labels)) (now heads) (now weights) ⌝ }
-    requires { ⌜ Starts (length (now labels)) (now heads) (now «first_out») × (v < length (now labels)) ⌝ }
+    requires { ⌜ Network (length (now labels)) (now star) (now weights) × (v < length (now labels)) ⌝ }
     requires { ⌜ Small (length (now labels)) (now labels) ⌝ }
     requires { ⌜ (length (now used) ≡ length (now labels)) × (length (now barred) ≡ length (now labels)) ⌝ }
     ensures { λ r. ⌜ Usable (length (now (labels .entry))) (now (used .entry)) r ⌝ }
-    ensures { λ r. ⌜ ((n : ℕ) (ts : List ℕ) → Arcs n ts (now (heads .entry)) (now (weights .entry)) → Star n ts (now (heads .entry)) (now («first_out» .entry)) → Chosen (graph ts (now (heads .entry)) (now (weights .entry))) (now (labels .entry)) (Unmarked (now (used .entry)) (now (barred .entry))) v r) ⌝ }
+    ensures { λ r. ⌜ Chosen (graph-of (now (star .entry)) (now (weights .entry))) (now (labels .entry)) (Unmarked (now (used .entry)) (now (barred .entry))) v r ⌝ }
 {
+    let m = weights.len();
+    let outs = 3 * m;
+    let ins = outs + labels.len() + 1;
+    let first_out = &star[outs..ins];
     let from = first_out[v] as usize;
     let to = first_out[v + 1] as usize;
-    scan(heads, weights, from, to, labels, used, barred)
+    scan(&star[m..2 * m], weights, from, to, labels, used, barred)
 }
 
 // Whether y is not used, and weight and label of an arc to it are `want` together.
@@ -115,8 +119,8 @@ fn keeps(y: usize, w: u32, labels: &[u64], used: &[u8], want: u64) -> bool
     true
 }
 
-// The smallest unused node to which an arc goes from x so that weight and label make up the label of x.
-pub fn tight_exit(
+// The same as below, on the parts of the star that it reads.
+fn tight_among(
     heads: &[u16],
     weights: &[u32],
     first_out: &[u16],
@@ -141,4 +145,17 @@ pub fn tight_exit(
         i += 1;
     }
     Next::Nothing
+}
+
+// The smallest unused node to which an arc goes from x so that weight and label make up the label of x.
+pub fn tight_exit(star: &[u16], weights: &[u32], x: usize, labels: &[u64], used: &[u8]) -> Next
+    requires { ⌜ Network (length (now labels)) (now star) (now weights) × (x < length (now labels)) ⌝ }
+    requires { ⌜ length (now used) ≡ length (now labels) ⌝ }
+    ensures { λ r. ⌜ Usable (length (now (labels .entry))) (now (used .entry)) r ⌝ }
+    ensures { λ r. ⌜ (getD (now (labels .entry)) x 0 < far → Stepped (graph-of (now (star .entry)) (now (weights .entry))) (now (labels .entry)) (Unused (now (used .entry))) x r) ⌝ }
+{
+    let m = weights.len();
+    let outs = 3 * m;
+    let ins = outs + labels.len() + 1;
+    tight_among(&star[m..2 * m], weights, &star[outs..ins], x, labels, used)
 }

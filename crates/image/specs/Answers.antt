@@ -2,9 +2,9 @@
 use mathlib.Core.List.{List, [], _∷_}
 use Prim.Native.Nat.{ℕ}
 use Rattle.image.specs.declared.refusal.Refusal.{Refusal}
-use Rattle.image.specs.declared.checking.Sizes.{Sizes}
-use Rattle.image.specs.declared.checking.Checked.{Checked}
-use Rattle.image.specs.declared.checking.Checked.the-variants as check
+use Rattle.image.specs.declared.check.Sizes.{Sizes}
+use Rattle.image.specs.declared.check.Checked.{Checked}
+use Rattle.image.specs.declared.check.Checked.the-variants as check
 use Rattle.image.specs.Outcome.{Outcome, gives, refuses}
 use Rattle.image.specs.Refusals.{numberOf, placeOf}
 

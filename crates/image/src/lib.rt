@@ -2,7 +2,7 @@
 // caller; and what reads the bytes of an accepted image.
 
 mod bytes;
-mod checking;
+pub mod check;
 mod layout;
 mod reading;
 mod refusal;
@@ -11,9 +11,8 @@ mod rows;
 pub use bytes::read16;
 pub use bytes::write16;
 pub use bytes::write32;
-pub use checking::Checked;
-pub use checking::Sizes;
-pub use checking::check;
+pub use check::Checked;
+pub use check::Sizes;
 pub use layout::cost_count;
 pub use layout::costs_start;
 pub use layout::image_length;

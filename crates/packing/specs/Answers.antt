@@ -2,10 +2,10 @@
 use mathlib.Core.List.{[], _∷_}
 use Rattle.image.specs.Outcome.{Outcome, gives}
 use Rattle.image.specs.Answers.{triple, refused}
-use Rattle.packing.specs.declared.unpacking.Unpacked.{Unpacked}
-use Rattle.packing.specs.declared.unpacking.Unpacked.the-variants as unpack
-use Rattle.packing.specs.declared.building.Built.{Built}
-use Rattle.packing.specs.declared.building.Built.the-variants as build
+use Rattle.packing.specs.declared.unpack.Unpacked.{Unpacked}
+use Rattle.packing.specs.declared.unpack.Unpacked.the-variants as unpack
+use Rattle.packing.specs.declared.build.Built.{Built}
+use Rattle.packing.specs.declared.build.Built.the-variants as build
 
 abbrev pub unpacked : Unpacked → Outcome
 unpacked (unpack.Lists s) = gives (triple s)

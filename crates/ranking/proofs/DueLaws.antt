@@ -8,7 +8,7 @@ use lib.Seq.{take-at, take-all, getD-take}
 use Rattle.terms.specs.Lists.{_∈_}
 use Rattle.terms.specs.Paths.{Route, Loopless, Path, cost}
 use Rattle.terms.proofs.ListLaws.{getD-mem}
-use Rattle.labels.specs.Arcs.{graph}
+use Rattle.star.specs.Layout.{graph-of}
 use Rattle.candidates.specs.Slots.{Entry, none, entry-at, entries}
 use Rattle.candidates.specs.Keeping.{Readable}
 use Rattle.candidates.specs.Routes.{routes, size, route-at, Rooted}
@@ -23,8 +23,8 @@ use Rattle.ranking.proofs.EnterLaws.{problem-within, path-nodes, path-s
 use Rattle.branching.proofs.FlagLaws.{flags-none}
 use Rattle.ranking.proofs.StateLaws.{entry-cost, entered-rank, next-is-path, search-rank, waiting-all}
 
-module _ {n s t : ℕ} {ts hs ws outs ins nexts overall : List ℕ} (P : Problem n s t ts hs ws outs ins nexts overall) {M r limit : ℕ} {w : List ℕ} {count : ℕ}
-    (F : Filled n M (graph ts hs ws) s r w count) (Q : Due n (graph ts hs ws) s t M limit (entries n w count) r) where
+module _ {n s t : ℕ} {star ws overall : List ℕ} (P : Problem n s t star ws overall) {M r limit : ℕ} {w : List ℕ} {count : ℕ}
+    (F : Filled n M (graph-of star ws) s r w count) (Q : Due n (graph-of star ws) s t M limit (entries n w count) r) where
   abbrev E : List Entry
   E = entries n w count
 
@@ -37,7 +37,7 @@ module _ {n s t : ℕ} {ts hs ws outs ins nexts overall : List ℕ} (P : Problem
   pub due-place : r < count
   due-place = omega (arith, Q .inside, length-entries n w count)
 
-  pub due-filled : Filled n M (graph ts hs ws) s (r + 1) w count
+  pub due-filled : Filled n M (graph-of star ws) s (r + 1) w count
   due-filled = record { some = F .some; few = F .few; kept = F .kept; entered = entered-rank (F .entered) (Q .inside) }
 
   pub due-readable : Readable n w (r + 1)
@@ -58,12 +58,12 @@ module _ {n s t : ℕ} {ts hs ws outs ins nexts overall : List ℕ} (P : Problem
   long : length p ≡ size e
   long = route-length s (F .entered .family) r (Q .inside)
 
-  pub due-path : Path (graph ts hs ws) s t p
+  pub due-path : Path (graph-of star ws) s t p
   due-path = next-is-path (problem-within P) (P .start-from) (P .start-to) (F .entered) (Q .search) (Q .inside)
 
-  pub due-waiting : Searching n (graph ts hs ws) s t M limit E (r + 1) (waiting-to s E r (size e))
+  pub due-waiting : Searching n (graph-of star ws) s t M limit E (r + 1) (waiting-to s E r (size e))
   due-waiting =
-      subst (λ l. Searching n (graph ts hs ws) s t M limit E (r + 1) l) (sym (waiting-all (F .entered) r (Q .inside)))
+      subst (λ l. Searching n (graph-of star ws) s t M limit E (r + 1) l) (sym (waiting-all (F .entered) r (Q .inside)))
       (search-rank (problem-within P) (P .start-from) (P .start-to) (F .entered) (Q .search) (Q .inside) (Q .cheap))
 
   -- ---- it is laid out
@@ -87,7 +87,7 @@ module _ {n s t : ℕ} {ts hs ws outs ins nexts overall : List ℕ} (P : Problem
         node : (i : ℕ) → i < len → getD path′ i 0 ∈ p
         node i h = subst (λ (x : ℕ). x ∈ p) (ap (λ (l : Route). getD l i 0) (sym laid-out) ∙ getD-take len path′ i 0 h) (getD-mem p 0 i (omega (arith, long)))
 
-    pub due-along : {used used′ bars : List ℕ} (c : ℕ) → Idle (n + 1) used bars → Laid (n + 1) used′ path′ len → c ≡ e .cost → Along n (graph ts hs ws) s t E r used′ bars path′ len c
+    pub due-along : {used used′ bars : List ℕ} (c : ℕ) → Idle (n + 1) used bars → Laid (n + 1) used′ path′ len → c ≡ e .cost → Along n (graph-of star ws) s t E r used′ bars path′ len c
     due-along c I l z = record {
       laid = l;
       none-barred = flags-none (I .none-barred);
@@ -97,6 +97,6 @@ module _ {n s t : ℕ} {ts hs ws outs ins nexts overall : List ℕ} (P : Problem
       same = laid-out ∙ sym (take-all len p (omega (arith, long)));
       lower = omega arith;
       upper = omega arith;
-      costs = z ∙ entry-cost (F .entered) r ∙ ap (cost (graph ts hs ws)) (sym laid-out);
+      costs = z ∙ entry-cost (F .entered) r ∙ ap (cost (graph-of star ws)) (sym laid-out);
       small = omega (arith, entry-cost (F .entered) r, path-small P due-path);
     }

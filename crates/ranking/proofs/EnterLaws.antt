@@ -13,8 +13,9 @@ use Rattle.terms.specs.Paths.{Route, ByArcs, Path, cost}
 use Rattle.terms.proofs.ListLaws.{clash, getD-mem}
 use Rattle.terms.proofs.PathLaws.{Within, of-path, at-most-nodes}
 use Rattle.terms.proofs.RankingLaws.{NoLater}
-use Rattle.labels.specs.Arcs.{graph, heaviest, Arcs}
-use Rattle.labels.proofs.ArcLaws.{linked-at, at-weight, graph-within, later-within, path-cost-le}
+use Rattle.star.specs.Arcs.{heaviest, Arcs}
+use Rattle.star.specs.Layout.{tails-of, heads-of, graph-of}
+use Rattle.star.proofs.ArcLaws.{linked-at, at-weight, graph-within, later-within, path-cost-le}
 use Rattle.candidates.specs.Slots.{Entry, none, entries}
 use Rattle.candidates.specs.Keeping.{inserted, put-in, Inserted}
 use Rattle.candidates.specs.Routes.{beginning, route, routes, Fits}
@@ -25,7 +26,7 @@ use Rattle.exits.specs.Exits.{Unmarked}
 use Rattle.branching.specs.Found.{Ahead, Extent, FirstFound}
 use Rattle.ranking.specs.Pool.{Candidate}
 use Rattle.ranking.specs.Ranking.{Problem, Filled, Deviation, Changed, Settled, TooDear}
-use Rattle.exits.specs.Star.{longest}
+use Rattle.exits.specs.Small.{longest}
 use Rattle.ranking.specs.State.{branch-of, Beyond, Entered, Searching, taking-over}
 use Rattle.exits.specs.Walks.{Consistent, Exit, Choice}
 use Rattle.branching.specs.declared.first.Found.{Found}
@@ -54,37 +55,41 @@ module _ {n M : ℕ} {g : Graph} {s j : ℕ} {w : List ℕ} {count : ℕ} (F : F
   unchanged = record { kept = F .kept; entered = F .entered; ranked-same = refl; beyond = refl }
 
 -- ---- nodes of paths
-module _ {n s t : ℕ} {ts hs ws outs ins nexts overall : List ℕ} (P : Problem n s t ts hs ws outs ins nexts overall) where
+module _ {n s t : ℕ} {star ws overall : List ℕ} (P : Problem n s t star ws overall) where
   nodes-are : P .network .nodes ≡ n
   nodes-are = omega (arith, P .network .places)
 
-  pub problem-arcs : Arcs n ts hs ws
-  problem-arcs = subst (λ k. Arcs k ts hs ws) nodes-are (P .network .arcs)
+  pub problem-arcs : Arcs n (tails-of (length ws) star) (heads-of (length ws) star) ws
+  problem-arcs = subst (λ k. Arcs k (tails-of (length ws) star) (heads-of (length ws) star) ws) nodes-are (P .network .arcs)
 
-  pub problem-within : Within n (graph ts hs ws)
+  pub problem-within : Within n (graph-of star ws)
+  unfolding graph-of
   problem-within = graph-within problem-arcs
 
-  pub path-short : {p : Route} → Path (graph ts hs ws) s t p → length p ≤ n
+  pub path-short : {p : Route} → Path (graph-of star ws) s t p → length p ≤ n
   path-short r = at-most-nodes problem-within (P .start-from) (P .start-to) (of-path r)
 
-  pub path-nodes : {p : Route} {x : ℕ} → Path (graph ts hs ws) s t p → x ∈ p → (1 ≤ x) × (x ≤ n)
+  pub path-nodes : {p : Route} {x : ℕ} → Path (graph-of star ws) s t p → x ∈ p → (1 ≤ x) × (x ≤ n)
+  unfolding graph-of
   path-nodes {p} {x} r m =
-      ⊎-elim (λ e. (omega (arith, P .start-from), omega (arith, P .start-to))) (λ k. later-within problem-arcs s (tail p) (subst (ByArcs (graph ts hs ws)) (r .from-start) (r .by-arcs)) k)
+      ⊎-elim (λ e. (omega (arith, P .start-from), omega (arith, P .start-to))) (λ k. later-within problem-arcs s (tail p) (subst (ByArcs (graph-of star ws)) (r .from-start) (r .by-arcs)) k)
       (List·Memᴰ·cases-cons (subst (λ (l : Route). x ∈ l) (r .from-start) m))
 
-  pub path-small : {p : Route} → Path (graph ts hs ws) s t p → cost (graph ts hs ws) p ≤ longest
+  pub path-small : {p : Route} → Path (graph-of star ws) s t p → cost (graph-of star ws) p ≤ longest
+  unfolding graph-of
   path-small r = path-cost-le problem-arcs heaviest (problem-arcs .light) r
 
   -- weight and label of an exit can be added to the cost of a beginning
-  pub choice-small : {used bars : List ℕ} {v l y : ℕ} → Choice (graph ts hs ws) overall (Unmarked used bars) v l y → l ≤ longest + heaviest
+  pub choice-small : {used bars : List ℕ} {v l y : ℕ} → Choice (graph-of star ws) overall (Unmarked used bars) v l y → l ≤ longest + heaviest
+  unfolding graph-of
   choice-small {v} {y} c =
       let a = linked-at problem-arcs v y (c .exit .arc) in
       omega (arith, c .attains, P .small .low y (c .exit .reached), at-weight problem-arcs (a .1), problem-arcs .light (a .0) (a .1 .below))
 
   -- ---- the branch of a beginning that is laid out
-  module _ {E : List Entry} {j : ℕ} {used bars path : List ℕ} {parent d before : ℕ} (D : Deviation n (graph ts hs ws) s t E j used bars path parent d before) where
+  module _ {E : List Entry} {j : ℕ} {used bars path : List ℕ} {parent d before : ℕ} (D : Deviation n (graph-of star ws) s t E j used bars path parent d before) where
     abbrev g : Graph
-    g = graph ts hs ws
+    g = graph-of star ws
 
     abbrev β : Branch
     β = branch-of s E (taking-over d parent)

@@ -4,10 +4,10 @@ use native.Mathlib.Omega.{arith}
 use mathlib.Core.List.{List}
 use lib.ListN.{take, replicate}
 use Rattle.terms.proofs.RoomLaws.{part-long, part-zero}
-use Rattle.branching.proofs.NetworkLaws.{network-few}
+use Rattle.star.proofs.NetworkLaws.{network-few}
 use Rattle.ranking.specs.Ranking.{Problem, Blank}
 
-pub problem-few : {n s t : ℕ} {ts hs ws outs ins nexts overall : List ℕ} → Problem n s t ts hs ws outs ins nexts overall → n ≤ 200
+pub problem-few : {n s t : ℕ} {star ws overall : List ℕ} → Problem n s t star ws overall → n ≤ 200
 problem-few P = omega (arith, network-few (P .network))
 
 -- flags and a path in arrays that were just made

@@ -11,7 +11,7 @@ use Rattle.terms.specs.Network.{Graph}
 use Rattle.terms.specs.Paths.{cost}
 use Rattle.terms.specs.Ranking.{ranked}
 use Rattle.terms.proofs.RankingLaws.{ranked-path}
-use Rattle.labels.specs.Arcs.{graph}
+use Rattle.star.specs.Layout.{graph-of}
 use Rattle.labels.specs.Labels.{far}
 use Rattle.candidates.specs.Slots.{Entry, entries}
 use Rattle.candidates.specs.Keeping.{Kept}
@@ -48,9 +48,9 @@ module _ (n : ℕ) (w : List ℕ) where
     costs = refl;
   }
 
-module _ {n s t : ℕ} {ts hs ws outs ins nexts overall : List ℕ} (P : Problem n s t ts hs ws outs ins nexts overall) where
+module _ {n s t : ℕ} {star ws overall : List ℕ} (P : Problem n s t star ws overall) where
   abbrev g : Graph
-  g = graph ts hs ws
+  g = graph-of star ws
 
   ends : Ends (n + 1) s t
   ends = record { start-from = P .start-from; start-place = omega (arith, P .start-to); goal-place = omega (arith, P .goal-to); apart = P .apart }

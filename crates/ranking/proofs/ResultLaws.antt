@@ -13,7 +13,7 @@ use Rattle.terms.specs.Network.{Graph}
 use Rattle.terms.specs.Paths.{Route, cost}
 use Rattle.terms.specs.Ranking.{before, ranked}
 use Rattle.terms.proofs.RankingLaws.{before-cost}
-use Rattle.labels.specs.Arcs.{graph}
+use Rattle.star.specs.Layout.{graph-of}
 use Rattle.labels.specs.Labels.{Least}
 use Rattle.candidates.specs.Slots.{Entry, none, entry-at, entries}
 use Rattle.candidates.specs.Routes.{routes}
@@ -23,7 +23,7 @@ use Rattle.branching.specs.Branches.{Branch}
 use Rattle.branching.specs.Found.{Ends}
 use Rattle.ranking.specs.Ranking.{Problem, Ranked}
 use Rattle.ranking.specs.Search.{Search}
-use Rattle.exits.specs.Star.{Network}
+use Rattle.star.specs.Layout.{Network}
 use Rattle.ranking.specs.State.{candidate, candidates-from, Beyond, Entered, Searching}
 use Rattle.branching.proofs.FlagLaws.{flags-none}
 use Rattle.ranking.proofs.EnterLaws.{problem-within}
@@ -32,8 +32,8 @@ use Rattle.ranking.proofs.SearchLaws.{others-lost, rest-ranked}
 use Rattle.ranking.proofs.StateLaws.{entry-cost, entry-route, length-done, in-front, search-rank}
 
 -- ---- a network with labels that bar no node
-pub problem-of : {n s t : ℕ} {ts hs ws outs ins nexts overall bars : List ℕ} → Network (n + 1) ts hs ws outs ins nexts → Ends (n + 1) s t → ((x : ℕ) → getD bars x 0 ≡ 0) → length overall ≡ n + 1 → Least (graph ts hs ws) bars t overall
-    → Problem n s t ts hs ws outs ins nexts overall
+pub problem-of : {n s t : ℕ} {star ws overall bars : List ℕ} → Network (n + 1) star ws → Ends (n + 1) s t → ((x : ℕ) → getD bars x 0 ≡ 0) → length overall ≡ n + 1 → Least (graph-of star ws) bars t overall
+    → Problem n s t star ws overall
 unfolding elem
 problem-of net e none long l = record {
   network = net;
@@ -60,10 +60,10 @@ module _ {n : ℕ} {g : Graph} {s t M limit : ℕ} {E : List Entry} {j : ℕ} (T
   pub ranked-so-far : {waiting : List Branch} → Searching n g s t M limit E j waiting → take j (routes s E) ≡ take j (ranked n g s t)
   ranked-so-far S = S .beginning ∙ ap (λ k. take k (ranked n g s t)) (length-done T)
 
-module _ {n s t : ℕ} {ts hs ws outs ins nexts overall : List ℕ} (P : Problem n s t ts hs ws outs ins nexts overall) {M limit : ℕ} {E : List Entry} {j : ℕ} (T : Entered n (graph ts hs ws) s E j)
-    (S : Searching n (graph ts hs ws) s t M limit E j []) where
+module _ {n s t : ℕ} {star ws overall : List ℕ} (P : Problem n s t star ws overall) {M limit : ℕ} {E : List Entry} {j : ℕ} (T : Entered n (graph-of star ws) s E j)
+    (S : Searching n (graph-of star ws) s t M limit E j []) where
   abbrev g : Graph
-  g = graph ts hs ws
+  g = graph-of star ws
 
   close : (p q : Route) → before g p q ≡ true → Beyond g limit p → Beyond g limit q
   close p q b h = omega (arith, before-cost g p q b)

@@ -7,7 +7,6 @@ use lib.ListN.{length, take, drop, getD}
 use Rattle.terms.specs.Network.{Graph}
 use Rattle.terms.specs.Paths.{Loopless, Path, cost}
 use Rattle.terms.specs.Ranking.{ranked}
-use Rattle.labels.specs.Arcs.{graph}
 use Rattle.labels.specs.Labels.{far}
 use Rattle.candidates.specs.Slots.{Entry, none, entries}
 use Rattle.candidates.specs.Keeping.{Kept}
@@ -17,20 +16,21 @@ use Rattle.branching.specs.Branches.{Branch, Beginning}
 use Rattle.exits.specs.Flags.{Flagged}
 use Rattle.branching.specs.Found.{Begun, Idle}
 use Rattle.branching.specs.Laid.{Laid}
-use Rattle.exits.specs.Star.{Network, Small, longest}
+use Rattle.exits.specs.Small.{Small, longest}
+use Rattle.star.specs.Layout.{graph-of, Network}
 use Rattle.ranking.specs.State.{Entered, Searching, taking-over}
 use Rattle.exits.specs.Walks.{Consistent}
 
 -- ---- what is given
--- the paths from s to t in a graph of n nodes that is kept in arrays, with labels to t
-pub record Problem (n s t : ℕ) (ts hs ws outs ins nexts overall : List ℕ) : Type 0 where
-  pub network : Network (n + 1) ts hs ws outs ins nexts
+-- the paths from s to t in a graph of n nodes that is kept in two slices, with labels to t
+pub record Problem (n s t : ℕ) (star ws overall : List ℕ) : Type 0 where
+  pub network : Network (n + 1) star ws
   pub start-from : 1 ≤ s
   pub start-to : s ≤ n
   pub goal-to : t ≤ n
   pub apart : s ≡ t → ⊥
   -- the labels do not exceed the costs of paths
-  pub consistent : Consistent (graph ts hs ws) t overall []
+  pub consistent : Consistent (graph-of star ws) t overall []
   pub small : Small (n + 1) overall
 
 -- a workspace of M slots, with entries of which the first j are ranked

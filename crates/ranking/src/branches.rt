@@ -2,14 +2,17 @@
 // need to.
 ghost use Prim.Native.Nat.{ℕ, _+_, _-_, _≤_};
 ghost use lib.ListN.{getD};
-ghost use Rattle.labels.specs.Arcs.{graph};
+ghost use Rattle.star.specs.Layout.{graph-of};
 ghost use Rattle.candidates.specs.Slots.{entries};
 ghost use Rattle.candidates.specs.Keeping.{Kept};
 ghost use Rattle.exits.specs.Exits.{Unmarked};
 ghost use Rattle.ranking.specs.Ranking.{Problem, Filled, Deviation, Restored, Changed, Settled, TooDear, Wanted};
 ghost use Rattle.ranking.specs.State.{branch-of, taking-over};
 ghost use Rattle.exits.specs.Walks.{Choice};
+use crate::query::Detour;
+use crate::query::Query;
 use branching::Found;
+use branching::Step;
 use branching::first_path;
 use candidates::cost_at;
 use candidates::insert;
@@ -53,64 +56,52 @@ fn most_wanted(work: &[u32], n: usize, slots: usize, count: usize, before: u64) 
     room
 }
 
-// The first path of a branch, of which y and l are the least exit, is found and put in its place. The
-// branch is that of path[..d], which costs `before`. Its first path leaves the path with the rank
-// `parent` after d nodes, or is the first of all, if parent is 0. Returns how many entries there are
+// The first path of a branch, of which the step is the least exit, is found and put in its place. The
+// branch is that of the nodes of path from which the detour leaves. Returns how many entries there are
 // then.
 fn enter(
-    tails: &[u16],
-    heads: &[u16],
+    query: Query,
+    star: &[u16],
     weights: &[u32],
-    first_out: &[u16],
-    first_in: &[u16],
-    next_in: &[u16],
-    start: u16,
-    goal: usize,
     overall: &[u64],
     used: &mut [u8],
     barred: &[u8],
     path: &mut [u16],
     work: &mut [u32],
-    n: usize,
-    slots: usize,
-    count: usize,
-    from: usize,
-    parent: usize,
-    d: usize,
-    before: u64,
-    y: u16,
-    l: u64,
+    detour: Detour,
+    step: Step,
 ) -> usize
-    requires { ⌜ Problem n start goal (now tails) (now heads) (now weights) (now «first_out») (now «first_in») (now «next_in») (now overall) ⌝ }
-    requires { ⌜ Filled n slots (graph (now tails) (now heads) (now weights)) start from (now work) count ⌝ }
-    requires { ⌜ Deviation n (graph (now tails) (now heads) (now weights)) start goal (entries n (now work) count) from (now used) (now barred) (now path) parent d before ⌝ }
-    requires { ⌜ Choice (graph (now tails) (now heads) (now weights)) (now overall) (Unmarked (now used) (now barred)) (getD (now path) (d - 1) 0) l y ⌝ }
-    ensures { λ _. ⌜ Restored (now (used .entry)) (now (path .entry)) d (now (used .exit)) (now (path .exit)) ⌝ }
-    ensures { λ r. ⌜ Changed n slots (graph (now (tails .entry)) (now (heads .entry)) (now (weights .entry))) start from (now (work .entry)) count (now (work .exit)) r ⌝ }
-    ensures { λ r. ⌜ ((limit : ℕ) → Settled n (graph (now (tails .entry)) (now (heads .entry)) (now (weights .entry))) start goal slots limit (entries n (now (work .entry)) count) from (branch-of start (entries n (now (work .entry)) count) (taking-over d parent)) (entries n (now (work .exit)) r)) ⌝ }
+    requires { ⌜ Problem (query .n) (query .start) (query .goal) (now star) (now weights) (now overall) ⌝ }
+    requires { ⌜ Filled (query .n) (query .slots) (graph-of (now star) (now weights)) (query .start) (detour .parent) (now work) (detour .count) ⌝ }
+    requires { ⌜ Deviation (query .n) (graph-of (now star) (now weights)) (query .start) (query .goal) (entries (query .n) (now work) (detour .count)) (detour .parent) (now used) (now barred) (now path) (detour .parent) (detour .d) (detour .before) ⌝ }
+    requires { ⌜ Choice (graph-of (now star) (now weights)) (now overall) (Unmarked (now used) (now barred)) (getD (now path) (detour .d - 1) 0) (step .rest) (step .node) ⌝ }
+    ensures { λ _. ⌜ Restored (now (used .entry)) (now (path .entry)) (detour .d) (now (used .exit)) (now (path .exit)) ⌝ }
+    ensures { λ r. ⌜ Changed (query .n) (query .slots) (graph-of (now (star .entry)) (now (weights .entry))) (query .start) (detour .parent) (now (work .entry)) (detour .count) (now (work .exit)) r ⌝ }
+    ensures { λ r. ⌜ ((limit : ℕ) → Settled (query .n) (graph-of (now (star .entry)) (now (weights .entry))) (query .start) (query .goal) (query .slots) limit (entries (query .n) (now (work .entry)) (detour .count)) (detour .parent) (branch-of (query .start) (entries (query .n) (now (work .entry)) (detour .count)) (taking-over (detour .d) (detour .parent))) (entries (query .n) (now (work .exit)) r)) ⌝ }
 {
+    let n = query.n;
+    let slots = query.slots;
+    let count = detour.count;
+    let parent = detour.parent;
+    let d = detour.d;
+    let before = detour.before;
     let most = most_wanted(work, n, slots, count, before);
     let Found::Tail(len, rest) = first_path(
-        tails,
-        heads,
+        star,
         weights,
-        first_out,
-        first_in,
-        next_in,
-        goal,
+        query.goal,
         overall,
         used,
         barred,
         path,
         d,
-        y,
-        l,
+        step,
         most,
     ) else {
         return count;
     };
     let cost = before + rest;
-    let place = place_for(work, n, from, count, cost, &path[..len], start);
+    let place = place_for(work, n, parent, count, cost, &path[..len], query.start);
     if place == slots {
         return count;
     }
@@ -127,71 +118,52 @@ fn enter(
     )
 }
 
-// The same, but a branch is left out that has no path, or whose paths cost `limit` at least, or more
+// The same, but a branch is left out that has no path, or whose paths cost the limit at least, or more
 // than the last candidate where every slot is taken.
 pub fn consider(
-    tails: &[u16],
-    heads: &[u16],
+    query: Query,
+    star: &[u16],
     weights: &[u32],
-    first_out: &[u16],
-    first_in: &[u16],
-    next_in: &[u16],
-    start: u16,
-    goal: usize,
     overall: &[u64],
     used: &mut [u8],
     barred: &[u8],
     path: &mut [u16],
     work: &mut [u32],
-    n: usize,
-    slots: usize,
-    count: usize,
-    limit: u64,
-    from: usize,
-    parent: usize,
-    d: usize,
-    before: u64,
+    detour: Detour,
 ) -> usize
-    requires { ⌜ Problem n start goal (now tails) (now heads) (now weights) (now «first_out») (now «first_in») (now «next_in») (now overall) ⌝ }
-    requires { ⌜ Filled n slots (graph (now tails) (now heads) (now weights)) start from (now work) count ⌝ }
-    requires { ⌜ Deviation n (graph (now tails) (now heads) (now weights)) start goal (entries n (now work) count) from (now used) (now barred) (now path) parent d before ⌝ }
-    ensures { λ _. ⌜ Restored (now (used .entry)) (now (path .entry)) d (now (used .exit)) (now (path .exit)) ⌝ }
-    ensures { λ r. ⌜ Changed n slots (graph (now (tails .entry)) (now (heads .entry)) (now (weights .entry))) start from (now (work .entry)) count (now (work .exit)) r ⌝ }
-    ensures { λ r. ⌜ Settled n (graph (now (tails .entry)) (now (heads .entry)) (now (weights .entry))) start goal slots limit (entries n (now (work .entry)) count) from (branch-of start (entries n (now (work .entry)) count) (taking-over d parent)) (entries n (now (work .exit)) r) ⌝ }
+    requires { ⌜ Problem (query .n) (query .start) (query .goal) (now star) (now weights) (now overall) ⌝ }
+    requires { ⌜ Filled (query .n) (query .slots) (graph-of (now star) (now weights)) (query .start) (detour .parent) (now work) (detour .count) ⌝ }
+    requires { ⌜ Deviation (query .n) (graph-of (now star) (now weights)) (query .start) (query .goal) (entries (query .n) (now work) (detour .count)) (detour .parent) (now used) (now barred) (now path) (detour .parent) (detour .d) (detour .before) ⌝ }
+    ensures { λ _. ⌜ Restored (now (used .entry)) (now (path .entry)) (detour .d) (now (used .exit)) (now (path .exit)) ⌝ }
+    ensures { λ r. ⌜ Changed (query .n) (query .slots) (graph-of (now (star .entry)) (now (weights .entry))) (query .start) (detour .parent) (now (work .entry)) (detour .count) (now (work .exit)) r ⌝ }
+    ensures { λ r. ⌜ Settled (query .n) (graph-of (now (star .entry)) (now (weights .entry))) (query .start) (query .goal) (query .slots) (query .limit) (entries (query .n) (now (work .entry)) (detour .count)) (detour .parent) (branch-of (query .start) (entries (query .n) (now (work .entry)) (detour .count)) (taking-over (detour .d) (detour .parent))) (entries (query .n) (now (work .exit)) r) ⌝ }
 {
+    let count = detour.count;
+    let d = detour.d;
+    let before = detour.before;
     let v = path[d - 1] as usize;
-    let Next::Node(y, l) = least_exit(heads, weights, first_out, v, overall, used, barred) else {
+    let Next::Node(y, l) = least_exit(star, weights, v, overall, used, barred) else {
         return count;
     };
     let bound = before + l;
+    let limit = query.limit;
     if limit <= bound {
         return count;
     }
-    if too_dear(work, n, slots, count, bound) {
+    if too_dear(work, query.n, query.slots, count, bound) {
         return count;
     }
+    let step = Step { node: y, rest: l };
     enter(
-        tails,
-        heads,
+        query,
+        star,
         weights,
-        first_out,
-        first_in,
-        next_in,
-        start,
-        goal,
         overall,
         used,
         barred,
         path,
         work,
-        n,
-        slots,
-        count,
-        from,
-        parent,
-        d,
-        before,
-        y,
-        l,
+        detour,
+        step,
     )
 }

@@ -6,21 +6,26 @@ ghost use mathlib.Core.List.{List, []};
 ghost use Prim.Native.Nat.{ℕ, _+_, _-_, _≤_, _<_};
 ghost use lib.ListN.{length, getD};
 ghost use Rattle.terms.specs.Network.{linked, weight};
-ghost use Rattle.labels.specs.Arcs.{graph, Arcs};
+ghost use Rattle.star.specs.Arcs.{graph, Arcs};
 ghost use Rattle.candidates.specs.Slots.{entries, none};
 ghost use Rattle.candidates.specs.Routes.{size};
 ghost use Rattle.branching.specs.Laid.{Laid};
 ghost use Rattle.ranking.specs.Ranking.{Problem, Filled, Restored, Changed, Settled, Along, Emptied, Markable, Due, Blank};
-ghost use Rattle.exits.specs.Star.{Star, Heads, Starts};
+ghost use Rattle.star.specs.Star.{Star};
+ghost use Rattle.star.specs.Layout.{graph-of, Network};
 ghost use Rattle.ranking.specs.State.{Searching, branch-of, taking-over, waiting-to};
 use crate::branches::consider;
+use crate::query::Detour;
+use crate::query::Fork;
+use crate::query::Query;
+use crate::query::Stem;
 use candidates::cost_at;
 use candidates::lay_out;
 use candidates::set_bars;
 use candidates::shared_at;
 use candidates::tail_length_at;
-use exits::Arc;
-use exits::find_arc;
+use star::Arc;
+use star::find_arc;
 
 // The weight of the arc from v to y.
 fn arc_weight(heads: &[u16], weights: &[u32], first_out: &[u16], v: usize, y: u16) -> u32
@@ -47,144 +52,112 @@ fn mark(path: &[u16], len: usize, used: &mut [u8])
 }
 
 // Clears the flag of path[d], and returns the weight of the arc to it.
-fn step_back(
-    heads: &[u16],
-    weights: &[u32],
-    first_out: &[u16],
-    used: &mut [u8],
-    path: &[u16],
-    d: usize,
-) -> u64
-    requires { ⌜ Heads (length (now used)) (now heads) (now weights) × Starts (length (now used)) (now heads) (now «first_out») ⌝ }
+fn step_back(star: &[u16], weights: &[u32], used: &mut [u8], path: &[u16], d: usize) -> u64
+    requires { ⌜ Network (length (now used)) (now star) (now weights) ⌝ }
     requires { ⌜ Laid (length (now used)) (now used) (now path) (d + 1) × (1 ≤ d) ⌝ }
     ensures { λ _. ⌜ Laid (length (now (used .entry))) (now (used .exit)) (now (path .entry)) d ⌝ }
-    ensures { λ r. ⌜ ((n : ℕ) (ts : List ℕ) → Arcs n ts (now (heads .entry)) (now (weights .entry)) → Star n ts (now (heads .entry)) (now («first_out» .entry)) → linked (graph ts (now (heads .entry)) (now (weights .entry))) (getD (now (path .entry)) (d - 1) 0) (getD (now (path .entry)) d 0) ≡ true → r ≡ weight (graph ts (now (heads .entry)) (now (weights .entry))) (getD (now (path .entry)) (d - 1) 0) (getD (now (path .entry)) d 0)) ⌝ }
+    ensures { λ r. ⌜ (linked (graph-of (now (star .entry)) (now (weights .entry))) (getD (now (path .entry)) (d - 1) 0) (getD (now (path .entry)) d 0) ≡ true → r ≡ weight (graph-of (now (star .entry)) (now (weights .entry))) (getD (now (path .entry)) (d - 1) 0) (getD (now (path .entry)) d 0)) ⌝ }
 {
+    let m = weights.len();
+    let outs = 3 * m;
+    let ins = outs + used.len() + 1;
     let y = path[d];
     used[y as usize] = 0;
-    arc_weight(heads, weights, first_out, path[d - 1] as usize, y) as u64
+    let v = path[d - 1] as usize;
+    arc_weight(&star[m..2 * m], weights, &star[outs..ins], v, y) as u64
 }
 
-// The part that leaves the path after d nodes: the nodes with which ranked paths go on there are barred
-// while it is looked into. path[..d] costs `before`.
+// The part that leaves the path at a fork: the nodes with which ranked paths go on there are barred
+// while it is looked into.
 fn deviate(
-    tails: &[u16],
-    heads: &[u16],
+    query: Query,
+    star: &[u16],
     weights: &[u32],
-    first_out: &[u16],
-    first_in: &[u16],
-    next_in: &[u16],
-    start: u16,
-    goal: usize,
     overall: &[u64],
     used: &mut [u8],
     barred: &mut [u8],
     path: &mut [u16],
     work: &mut [u32],
-    n: usize,
-    slots: usize,
-    count: usize,
-    limit: u64,
-    rank: usize,
-    d: usize,
-    before: u64,
+    fork: Fork,
 ) -> usize
-    requires { ⌜ Problem n start goal (now tails) (now heads) (now weights) (now «first_out») (now «first_in») (now «next_in») (now overall) ⌝ }
-    requires { ⌜ Filled n slots (graph (now tails) (now heads) (now weights)) start (rank + 1) (now work) count ⌝ }
-    requires { ⌜ Along n (graph (now tails) (now heads) (now weights)) start goal (entries n (now work) count) rank (now used) (now barred) (now path) d before ⌝ }
-    requires { ⌜ d < size (getD (entries n (now work) count) rank none) ⌝ }
-    ensures { λ _. ⌜ Restored (now (used .entry)) (now (path .entry)) d (now (used .exit)) (now (path .exit)) ⌝ }
+    requires { ⌜ Problem (query .n) (query .start) (query .goal) (now star) (now weights) (now overall) ⌝ }
+    requires { ⌜ Filled (query .n) (query .slots) (graph-of (now star) (now weights)) (query .start) (fork .rank + 1) (now work) (fork .count) ⌝ }
+    requires { ⌜ Along (query .n) (graph-of (now star) (now weights)) (query .start) (query .goal) (entries (query .n) (now work) (fork .count)) (fork .rank) (now used) (now barred) (now path) (fork .d) (fork .before) ⌝ }
+    requires { ⌜ fork .d < size (getD (entries (query .n) (now work) (fork .count)) (fork .rank) none) ⌝ }
+    ensures { λ _. ⌜ Restored (now (used .entry)) (now (path .entry)) (fork .d) (now (used .exit)) (now (path .exit)) ⌝ }
     ensures { λ _. ⌜ now (barred .exit) ≡ now (barred .entry) ⌝ }
-    ensures { λ r. ⌜ Changed n slots (graph (now (tails .entry)) (now (heads .entry)) (now (weights .entry))) start (rank + 1) (now (work .entry)) count (now (work .exit)) r ⌝ }
-    ensures { λ r. ⌜ Settled n (graph (now (tails .entry)) (now (heads .entry)) (now (weights .entry))) start goal slots limit (entries n (now (work .entry)) count) (rank + 1) (branch-of start (entries n (now (work .entry)) count) (taking-over d (rank + 1))) (entries n (now (work .exit)) r) ⌝ }
+    ensures { λ r. ⌜ Changed (query .n) (query .slots) (graph-of (now (star .entry)) (now (weights .entry))) (query .start) (fork .rank + 1) (now (work .entry)) (fork .count) (now (work .exit)) r ⌝ }
+    ensures { λ r. ⌜ Settled (query .n) (graph-of (now (star .entry)) (now (weights .entry))) (query .start) (query .goal) (query .slots) (query .limit) (entries (query .n) (now (work .entry)) (fork .count)) (fork .rank + 1) (branch-of (query .start) (entries (query .n) (now (work .entry)) (fork .count)) (taking-over (fork .d) (fork .rank + 1))) (entries (query .n) (now (work .exit)) r) ⌝ }
 {
+    let n = query.n;
+    let rank = fork.rank;
+    let d = fork.d;
     set_bars(work, n, rank, d, barred, 1);
+    let parent = rank + 1;
+    let detour = Detour {
+        count: fork.count,
+        parent,
+        d,
+        before: fork.before,
+    };
     let now = consider(
-        tails,
-        heads,
+        query,
+        star,
         weights,
-        first_out,
-        first_in,
-        next_in,
-        start,
-        goal,
         overall,
         used,
         barred,
         path,
         work,
-        n,
-        slots,
-        count,
-        limit,
-        rank + 1,
-        rank + 1,
-        d,
-        before,
+        detour,
     );
     set_bars(work, n, rank, d, barred, 0);
     now
 }
 
-// All parts, from the path's end backwards. The path has len nodes, of which it takes over `shared`, and
-// costs `cost`; all of it is laid out and flagged.
+// All parts, from the path's end backwards. All of the path is laid out and flagged.
 fn deviations(
-    tails: &[u16],
-    heads: &[u16],
+    query: Query,
+    star: &[u16],
     weights: &[u32],
-    first_out: &[u16],
-    first_in: &[u16],
-    next_in: &[u16],
-    start: u16,
-    goal: usize,
     overall: &[u64],
     used: &mut [u8],
     barred: &mut [u8],
     path: &mut [u16],
     work: &mut [u32],
-    n: usize,
-    slots: usize,
     count: usize,
-    limit: u64,
-    rank: usize,
-    shared: usize,
-    len: usize,
-    cost: u64,
+    stem: Stem,
 ) -> usize
-    requires { ⌜ Problem n start goal (now tails) (now heads) (now weights) (now «first_out») (now «first_in») (now «next_in») (now overall) ⌝ }
-    requires { ⌜ Filled n slots (graph (now tails) (now heads) (now weights)) start (rank + 1) (now work) count ⌝ }
-    requires { ⌜ Along n (graph (now tails) (now heads) (now weights)) start goal (entries n (now work) count) rank (now used) (now barred) (now path) len cost ⌝ }
-    requires { ⌜ shared ≡ getD (entries n (now work) count) rank none .shared ⌝ }
-    ensures { λ r. ⌜ Changed n slots (graph (now (tails .entry)) (now (heads .entry)) (now (weights .entry))) start (rank + 1) (now (work .entry)) count (now (work .exit)) r ⌝ }
-    ensures { λ r. ⌜ Emptied n (graph (now (tails .entry)) (now (heads .entry)) (now (weights .entry))) start goal slots limit (entries n (now (work .entry)) count) (rank + 1) (waiting-to start (entries n (now (work .entry)) count) rank len) (entries n (now (work .exit)) r) ⌝ }
+    requires { ⌜ Problem (query .n) (query .start) (query .goal) (now star) (now weights) (now overall) ⌝ }
+    requires { ⌜ Filled (query .n) (query .slots) (graph-of (now star) (now weights)) (query .start) (stem .rank + 1) (now work) count ⌝ }
+    requires { ⌜ Along (query .n) (graph-of (now star) (now weights)) (query .start) (query .goal) (entries (query .n) (now work) count) (stem .rank) (now used) (now barred) (now path) (stem .len) (stem .cost) ⌝ }
+    requires { ⌜ stem .shared ≡ getD (entries (query .n) (now work) count) (stem .rank) none .shared ⌝ }
+    ensures { λ r. ⌜ Changed (query .n) (query .slots) (graph-of (now (star .entry)) (now (weights .entry))) (query .start) (stem .rank + 1) (now (work .entry)) count (now (work .exit)) r ⌝ }
+    ensures { λ r. ⌜ Emptied (query .n) (graph-of (now (star .entry)) (now (weights .entry))) (query .start) (query .goal) (query .slots) (query .limit) (entries (query .n) (now (work .entry)) count) (stem .rank + 1) (waiting-to (query .start) (entries (query .n) (now (work .entry)) count) (stem .rank) (stem .len)) (entries (query .n) (now (work .exit)) r) ⌝ }
 {
+    let shared = stem.shared;
     let mut now = count;
-    let mut d = len;
-    let mut before = cost;
+    let mut d = stem.len;
+    let mut before = stem.cost;
     while shared < d {
         d -= 1;
-        before -= step_back(heads, weights, first_out, used, path, d);
+        before -= step_back(star, weights, used, path, d);
+        let fork = Fork {
+            count: now,
+            rank: stem.rank,
+            d,
+            before,
+        };
         now = deviate(
-            tails,
-            heads,
+            query,
+            star,
             weights,
-            first_out,
-            first_in,
-            next_in,
-            start,
-            goal,
             overall,
             used,
             barred,
             path,
             work,
-            n,
-            slots,
-            now,
-            limit,
-            rank,
-            d,
-            before,
+            fork,
         );
     }
     now
@@ -192,110 +165,83 @@ fn deviations(
 
 // The same as below, with room for the flags and for the path, in which no node is flagged yet.
 fn split_in(
-    tails: &[u16],
-    heads: &[u16],
+    query: Query,
+    star: &[u16],
     weights: &[u32],
-    first_out: &[u16],
-    first_in: &[u16],
-    next_in: &[u16],
-    start: u16,
-    goal: usize,
     overall: &[u64],
     used: &mut [u8],
     barred: &mut [u8],
     path: &mut [u16],
     work: &mut [u32],
-    n: usize,
-    slots: usize,
     count: usize,
-    limit: u64,
     rank: usize,
 ) -> usize
-    requires { ⌜ Problem n start goal (now tails) (now heads) (now weights) (now «first_out») (now «first_in») (now «next_in») (now overall) ⌝ }
-    requires { ⌜ Filled n slots (graph (now tails) (now heads) (now weights)) start rank (now work) count ⌝ }
-    requires { ⌜ Blank n (now used) (now barred) (now path) ⌝ }
-    requires { ⌜ Due n (graph (now tails) (now heads) (now weights)) start goal slots limit (entries n (now work) count) rank ⌝ }
-    ensures { λ r. ⌜ Changed n slots (graph (now (tails .entry)) (now (heads .entry)) (now (weights .entry))) start (rank + 1) (now (work .entry)) count (now (work .exit)) r ⌝ }
-    ensures { λ r. ⌜ Searching n (graph (now (tails .entry)) (now (heads .entry)) (now (weights .entry))) start goal slots limit (entries n (now (work .exit)) r) (rank + 1) [] ⌝ }
+    requires { ⌜ Problem (query .n) (query .start) (query .goal) (now star) (now weights) (now overall) ⌝ }
+    requires { ⌜ Filled (query .n) (query .slots) (graph-of (now star) (now weights)) (query .start) rank (now work) count ⌝ }
+    requires { ⌜ Blank (query .n) (now used) (now barred) (now path) ⌝ }
+    requires { ⌜ Due (query .n) (graph-of (now star) (now weights)) (query .start) (query .goal) (query .slots) (query .limit) (entries (query .n) (now work) count) rank ⌝ }
+    ensures { λ r. ⌜ Changed (query .n) (query .slots) (graph-of (now (star .entry)) (now (weights .entry))) (query .start) (rank + 1) (now (work .entry)) count (now (work .exit)) r ⌝ }
+    ensures { λ r. ⌜ Searching (query .n) (graph-of (now (star .entry)) (now (weights .entry))) (query .start) (query .goal) (query .slots) (query .limit) (entries (query .n) (now (work .exit)) r) (rank + 1) [] ⌝ }
 {
+    let n = query.n;
     let shared = shared_at(work, n, rank);
     let len = shared + tail_length_at(work, n, rank);
-    lay_out(work, n, rank, len, start, path);
+    lay_out(work, n, rank, len, query.start, path);
     mark(path, len, used);
     let cost = cost_at(work, n, rank);
+    let stem = Stem {
+        rank,
+        shared,
+        len,
+        cost,
+    };
     deviations(
-        tails,
-        heads,
+        query,
+        star,
         weights,
-        first_out,
-        first_in,
-        next_in,
-        start,
-        goal,
         overall,
         used,
         barred,
         path,
         work,
-        n,
-        slots,
         count,
-        limit,
-        rank,
-        shared,
-        len,
-        cost,
+        stem,
     )
 }
 
-// Ranks the path at the place `rank`, which is the next, and costs less than `limit`: the first paths of
-// the parts of its branch are put in their places, but for those that cost `limit` at least. Returns
+// Ranks the path at the place `rank`, which is the next, and costs less than the limit: the first paths of
+// the parts of its branch are put in their places, but for those that cost the limit at least. Returns
 // how many entries there are then.
 pub fn split(
-    tails: &[u16],
-    heads: &[u16],
+    query: Query,
+    star: &[u16],
     weights: &[u32],
-    first_out: &[u16],
-    first_in: &[u16],
-    next_in: &[u16],
-    start: u16,
-    goal: usize,
     overall: &[u64],
     work: &mut [u32],
-    n: usize,
-    slots: usize,
     count: usize,
-    limit: u64,
     rank: usize,
 ) -> usize
-    requires { ⌜ Problem n start goal (now tails) (now heads) (now weights) (now «first_out») (now «first_in») (now «next_in») (now overall) ⌝ }
-    requires { ⌜ Filled n slots (graph (now tails) (now heads) (now weights)) start rank (now work) count ⌝ }
-    requires { ⌜ Due n (graph (now tails) (now heads) (now weights)) start goal slots limit (entries n (now work) count) rank ⌝ }
-    ensures { λ r. ⌜ Changed n slots (graph (now (tails .entry)) (now (heads .entry)) (now (weights .entry))) start (rank + 1) (now (work .entry)) count (now (work .exit)) r ⌝ }
-    ensures { λ r. ⌜ Searching n (graph (now (tails .entry)) (now (heads .entry)) (now (weights .entry))) start goal slots limit (entries n (now (work .exit)) r) (rank + 1) [] ⌝ }
+    requires { ⌜ Problem (query .n) (query .start) (query .goal) (now star) (now weights) (now overall) ⌝ }
+    requires { ⌜ Filled (query .n) (query .slots) (graph-of (now star) (now weights)) (query .start) rank (now work) count ⌝ }
+    requires { ⌜ Due (query .n) (graph-of (now star) (now weights)) (query .start) (query .goal) (query .slots) (query .limit) (entries (query .n) (now work) count) rank ⌝ }
+    ensures { λ r. ⌜ Changed (query .n) (query .slots) (graph-of (now (star .entry)) (now (weights .entry))) (query .start) (rank + 1) (now (work .entry)) count (now (work .exit)) r ⌝ }
+    ensures { λ r. ⌜ Searching (query .n) (graph-of (now (star .entry)) (now (weights .entry))) (query .start) (query .goal) (query .slots) (query .limit) (entries (query .n) (now (work .exit)) r) (rank + 1) [] ⌝ }
 {
     let mut used = [0u8; 201];
     let mut barred = [0u8; 201];
     let mut path = [0u16; 200];
+    let n = query.n;
     let places = n + 1;
     split_in(
-        tails,
-        heads,
+        query,
+        star,
         weights,
-        first_out,
-        first_in,
-        next_in,
-        start,
-        goal,
         overall,
         &mut used[..places],
         &mut barred[..places],
         &mut path[..n],
         work,
-        n,
-        slots,
         count,
-        limit,
         rank,
     )
 }

@@ -14,10 +14,10 @@ use Rattle.terms.specs.Network.{Graph, linked, weight}
 use Rattle.terms.proofs.ListLaws.{clash}
 use Rattle.terms.proofs.RoomLaws.{part-zero}
 use Rattle.labels.specs.Labels.{far}
-use Rattle.labels.proofs.Stores.{set-each}
+use Rattle.star.proofs.Stores.{set-each}
 use Rattle.exits.specs.Exits.{Unmarked}
 use Rattle.sharpening.specs.Sharp.{Listed, Among, Raises, Lifted, Fits, Mends}
-use Rattle.exits.specs.Star.{Small, longest}
+use Rattle.exits.specs.Small.{Small, longest}
 use Rattle.exits.specs.Walks.{Consistent, Exit, Choice}
 
 pub from-not : (b : Bool) → not b ≡ false → b ≡ true

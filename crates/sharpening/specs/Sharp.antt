@@ -7,7 +7,7 @@ use mathlib.Core.List.{List}
 use lib.ListN.{length, getD}
 use Rattle.terms.specs.Network.{Graph, linked, weight}
 use Rattle.labels.specs.Labels.{far}
-use Rattle.exits.specs.Star.{Small}
+use Rattle.exits.specs.Small.{Small}
 
 -- a list of places below k, of which the first `met` count, and the first `taken` of these are set apart
 pub record Listed (k : ℕ) (nodes : List ℕ) (taken met : ℕ) : Type 0 where

@@ -2,8 +2,7 @@
 // hand, finds by how much these fall short of what a path round the beginning costs; the labels of the
 // nodes that it took are raised by that, and then each to what its node's exits allow. Labels that come
 // through are consistent whatever the search found: no fact about it is needed.
-// Arc i goes from tails[i] to heads[i] and costs weights[i]; the arcs rise by tail, then head, and
-// those out of v are at the indices from first_out[v] to below first_out[v + 1].
+// The graph is in two slices, as crate star has it.
 mod raise;
 mod search;
 mod sharp;

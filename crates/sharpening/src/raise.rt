@@ -5,9 +5,9 @@ ghost use mathlib.Core.List.{List};
 ghost use Prim.Native.Nat.{ℕ, _≤_, _<_};
 ghost use lib.ListN.{length, getD};
 ghost use Rattle.terms.specs.Lists.{elem};
-ghost use Rattle.labels.specs.Arcs.{graph, Arcs};
 ghost use Rattle.labels.specs.Labels.{far};
-ghost use Rattle.exits.specs.Star.{Star, Heads, Starts, Small, longest};
+ghost use Rattle.star.specs.Layout.{graph-of, Network};
+ghost use Rattle.exits.specs.Small.{Small, longest};
 ghost use Rattle.exits.specs.Walks.{Consistent};
 ghost use Rattle.sharpening.specs.Sharp.{Listed, Raises, Lifted, Mends};
 use crate::search::LONGEST;
@@ -58,22 +58,14 @@ pub fn lift_all(
     }
 }
 // Raises the label of x to the least weight and label over its exits, if it is not above that.
-fn mend(
-    heads: &[u16],
-    weights: &[u32],
-    first_out: &[u16],
-    x: usize,
-    used: &[u8],
-    labels: &mut [u64],
-) -> bool
-    requires { ⌜ Heads (length (now used)) (now heads) (now weights) ⌝ }
-    requires { ⌜ Starts (length (now used)) (now heads) (now «first_out») ⌝ }
+fn mend(star: &[u16], weights: &[u32], x: usize, used: &[u8], labels: &mut [u64]) -> bool
+    requires { ⌜ Network (length (now used)) (now star) (now weights) ⌝ }
     requires { ⌜ Small (length (now used)) (now labels) ⌝ }
     requires { ⌜ x < length (now used) ⌝ }
     ensures { λ _. ⌜ Small (length (now (used .entry))) (now (labels .exit)) ⌝ }
-    ensures { λ r. ⌜ ((n : ℕ) (ts : List ℕ) → Arcs n ts (now (heads .entry)) (now (weights .entry)) → Star n ts (now (heads .entry)) (now («first_out» .entry)) → r ≡ true → Mends (graph ts (now (heads .entry)) (now (weights .entry))) (now (used .entry)) x (now (labels .entry)) (now (labels .exit))) ⌝ }
+    ensures { λ r. ⌜ (r ≡ true → Mends (graph-of (now (star .entry)) (now (weights .entry))) (now (used .entry)) x (now (labels .entry)) (now (labels .exit))) ⌝ }
 {
-    let Next::Node(_, l) = least_exit(heads, weights, first_out, x, labels, used, used) else {
+    let Next::Node(_, l) = least_exit(star, weights, x, labels, used, used) else {
         labels[x] = FAR;
         return true;
     };
@@ -90,28 +82,26 @@ fn mend(
 
 // The same for each node of nodes[..taken] but the goal, from the last to the first.
 pub fn mend_all(
-    heads: &[u16],
+    star: &[u16],
     weights: &[u32],
-    first_out: &[u16],
     nodes: &[u16],
     taken: usize,
     goal: usize,
     used: &[u8],
     labels: &mut [u64],
 ) -> bool
-    requires { ⌜ Heads (length (now used)) (now heads) (now weights) ⌝ }
-    requires { ⌜ Starts (length (now used)) (now heads) (now «first_out») ⌝ }
+    requires { ⌜ Network (length (now used)) (now star) (now weights) ⌝ }
     requires { ⌜ Small (length (now used)) (now labels) ⌝ }
     requires { ⌜ Listed (length (now used)) (now nodes) 0 taken ⌝ }
     ensures { λ _. ⌜ Small (length (now (used .entry))) (now (labels .exit)) ⌝ }
-    ensures { λ r. ⌜ ((n : ℕ) (ts os bar : List ℕ) → Arcs n ts (now (heads .entry)) (now (weights .entry)) → Star n ts (now (heads .entry)) (now («first_out» .entry)) → r ≡ true → Lifted goal (now (nodes .entry)) taken os (now (labels .entry)) → ((z : ℕ) → elem z bar ≡ false → getD (now (used .entry)) z 0 ≡ 0) → Consistent (graph ts (now (heads .entry)) (now (weights .entry))) goal os bar → Consistent (graph ts (now (heads .entry)) (now (weights .entry))) goal (now (labels .exit)) bar) ⌝ }
+    ensures { λ r. ⌜ ((os bar : List ℕ) → r ≡ true → Lifted goal (now (nodes .entry)) taken os (now (labels .entry)) → ((z : ℕ) → elem z bar ≡ false → getD (now (used .entry)) z 0 ≡ 0) → Consistent (graph-of (now (star .entry)) (now (weights .entry))) goal os bar → Consistent (graph-of (now (star .entry)) (now (weights .entry))) goal (now (labels .exit)) bar) ⌝ }
 {
     let mut i = taken;
     while 0 < i {
         i -= 1;
         let x = nodes[i] as usize;
         if x != goal {
-            if !mend(heads, weights, first_out, x, used, labels) {
+            if !mend(star, weights, x, used, labels) {
                 return false;
             }
         }

@@ -3,7 +3,8 @@ ghost use mathlib.Core.Path.{_≡_};
 ghost use Prim.Native.Nat.{ℕ, _+_, _≤_, _<_};
 ghost use lib.ListN.{length};
 ghost use Rattle.labels.specs.Labels.{far};
-ghost use Rattle.exits.specs.Star.{Heads, Starts, Small, longest};
+ghost use Rattle.star.specs.Layout.{Network};
+ghost use Rattle.exits.specs.Small.{Small, longest};
 ghost use Rattle.sharpening.specs.Sharp.{Listed, Front};
 use exits::Next;
 use exits::tight_exit;
@@ -109,9 +110,8 @@ fn reach(
 
 // Follows each arc from the hub to a node that is neither used nor barred.
 fn spread(
-    heads: &[u16],
+    star: &[u16],
     weights: &[u32],
-    first_out: &[u16],
     hub: Hub,
     overall: &[u64],
     used: &[u8],
@@ -120,12 +120,17 @@ fn spread(
     nodes: &mut [u16],
     met: usize,
 ) -> usize
-    requires { ⌜ Heads (length (now overall)) (now heads) (now weights) × Starts (length (now overall)) (now heads) (now «first_out») ⌝ }
+    requires { ⌜ Network (length (now overall)) (now star) (now weights) ⌝ }
     requires { ⌜ Small (length (now overall)) (now overall) × (hub .node < length (now overall)) × (hub .key + hub .room ≤ longest) ⌝ }
     requires { ⌜ (length (now used) ≡ length (now overall)) × (length (now barred) ≡ length (now overall)) ⌝ }
     requires { ⌜ Front (length (now overall)) (now keys) (now nodes) (hub .taken) met ⌝ }
     ensures { λ r. ⌜ Front (length (now (overall .entry))) (now (keys .exit)) (now (nodes .exit)) (hub .taken) r ⌝ }
 {
+    let m = weights.len();
+    let outs = 3 * m;
+    let ins = outs + overall.len() + 1;
+    let heads = &star[m..2 * m];
+    let first_out = &star[outs..ins];
     let x = hub.node;
     let own = overall[x];
     let mut listed = met;
@@ -166,9 +171,8 @@ fn pick(nodes: &[u16], from: usize, to: usize, keys: &[u64], floor: u64) -> usiz
 // Whether a walk along the labels leads from x to the goal in at most `most` steps, and meets neither a
 // used node nor one with a key that is no greater than `key`, as all nodes have that were taken.
 fn leads(
-    heads: &[u16],
+    star: &[u16],
     weights: &[u32],
-    first_out: &[u16],
     goal: usize,
     overall: &[u64],
     used: &[u8],
@@ -177,7 +181,7 @@ fn leads(
     key: u64,
     most: usize,
 ) -> bool
-    requires { ⌜ Heads (length (now overall)) (now heads) (now weights) × Starts (length (now overall)) (now heads) (now «first_out») ⌝ }
+    requires { ⌜ Network (length (now overall)) (now star) (now weights) ⌝ }
     requires { ⌜ (x < length (now overall)) × (length (now used) ≡ length (now overall)) × (length (now keys) ≡ length (now overall)) ⌝ }
 {
     let mut at = x;
@@ -187,7 +191,7 @@ fn leads(
             return false;
         }
         left -= 1;
-        let Next::Node(y, _) = tight_exit(heads, weights, first_out, at, overall, used) else {
+        let Next::Node(y, _) = tight_exit(star, weights, at, overall, used) else {
             return false;
         };
         at = y as usize;
@@ -224,9 +228,8 @@ fn beyond(most: u64) -> u64
 // Takes node after node, by its key, and follows its arcs, until it comes to the goal, or a walk along
 // the labels leads there, or all keys are above `most`. The nodes taken are then nodes[..taken].
 fn search(
-    heads: &[u16],
+    star: &[u16],
     weights: &[u32],
-    first_out: &[u16],
     goal: usize,
     overall: &[u64],
     used: &[u8],
@@ -235,7 +238,7 @@ fn search(
     met: usize,
     most: u64,
 ) -> Level
-    requires { ⌜ Heads (length (now overall)) (now heads) (now weights) × Starts (length (now overall)) (now heads) (now «first_out») ⌝ }
+    requires { ⌜ Network (length (now overall)) (now star) (now weights) ⌝ }
     requires { ⌜ Small (length (now overall)) (now overall) × (length (now used) ≡ length (now overall)) × (most ≤ longest) ⌝ }
     requires { ⌜ Front (length (now overall)) (now keys) (now nodes) 0 met ⌝ }
     ensures { λ r. ⌜ Listed (length (now (overall .entry))) (now (nodes .exit)) 0 (r .taken) × (r .key < far → r .key ≤ longest) ⌝ }
@@ -255,18 +258,7 @@ fn search(
             };
         }
         let steps = steps_allowed(taken, floor, key, used.len());
-        if leads(
-            heads,
-            weights,
-            first_out,
-            goal,
-            overall,
-            used,
-            keys,
-            x,
-            key,
-            steps,
-        ) {
+        if leads(star, weights, goal, overall, used, keys, x, key, steps) {
             return Level { taken, key };
         }
         nodes[at] = nodes[taken];
@@ -279,18 +271,7 @@ fn search(
             room: most - key,
             taken,
         };
-        listed = spread(
-            heads,
-            weights,
-            first_out,
-            hub,
-            overall,
-            used,
-            used,
-            keys,
-            nodes,
-            listed,
-        );
+        listed = spread(star, weights, hub, overall, used, used, keys, nodes, listed);
     }
     Level {
         taken,
@@ -300,9 +281,8 @@ fn search(
 
 // The whole search, from the last node of the branch's beginning. No node has been met.
 pub fn search_from(
-    heads: &[u16],
+    star: &[u16],
     weights: &[u32],
-    first_out: &[u16],
     quest: Quest,
     overall: &[u64],
     used: &[u8],
@@ -310,7 +290,7 @@ pub fn search_from(
     keys: &mut [u64],
     nodes: &mut [u16],
 ) -> Level
-    requires { ⌜ Heads (length (now overall)) (now heads) (now weights) × Starts (length (now overall)) (now heads) (now «first_out») ⌝ }
+    requires { ⌜ Network (length (now overall)) (now star) (now weights) ⌝ }
     requires { ⌜ Small (length (now overall)) (now overall) × (quest .from < length (now overall)) × (quest .most ≤ longest) ⌝ }
     requires { ⌜ (length (now used) ≡ length (now overall)) × (length (now barred) ≡ length (now overall)) ⌝ }
     requires { ⌜ Front (length (now overall)) (now keys) (now nodes) 0 0 ⌝ }
@@ -332,28 +312,6 @@ pub fn search_from(
         room: most - key,
         taken: 0,
     };
-    let met = spread(
-        heads,
-        weights,
-        first_out,
-        hub,
-        overall,
-        used,
-        barred,
-        keys,
-        nodes,
-        0,
-    );
-    search(
-        heads,
-        weights,
-        first_out,
-        goal,
-        overall,
-        used,
-        keys,
-        nodes,
-        met,
-        most,
-    )
+    let met = spread(star, weights, hub, overall, used, barred, keys, nodes, 0);
+    search(star, weights, goal, overall, used, keys, nodes, met, most)
 }

@@ -5,8 +5,8 @@ ghost use mathlib.Core.List.{List};
 ghost use Prim.Native.Nat.{ℕ, _≤_, _<_};
 ghost use lib.ListN.{length, getD};
 ghost use Rattle.terms.specs.Lists.{elem};
-ghost use Rattle.labels.specs.Arcs.{graph, Arcs};
-ghost use Rattle.exits.specs.Star.{Star, Heads, Starts, Small, longest};
+ghost use Rattle.star.specs.Layout.{graph-of, Network};
+ghost use Rattle.exits.specs.Small.{Small, longest};
 ghost use Rattle.exits.specs.Walks.{Consistent};
 ghost use Rattle.sharpening.specs.Sharp.{Front};
 use crate::raise::lift_all;
@@ -29,9 +29,8 @@ fn copy(overall: &[u64], labels: &mut [u64])
 
 // The same as below, with room for the search.
 fn sharpen_in(
-    heads: &[u16],
+    star: &[u16],
     weights: &[u32],
-    first_out: &[u16],
     quest: Quest,
     overall: &[u64],
     used: &[u8],
@@ -40,57 +39,45 @@ fn sharpen_in(
     nodes: &mut [u16],
     labels: &mut [u64],
 ) -> bool
-    requires { ⌜ Heads (length (now overall)) (now heads) (now weights) × Starts (length (now overall)) (now heads) (now «first_out») ⌝ }
+    requires { ⌜ Network (length (now overall)) (now star) (now weights) ⌝ }
     requires { ⌜ Small (length (now overall)) (now overall) × (quest .from < length (now overall)) × (quest .most ≤ longest) × (length (now labels) ≡ length (now overall)) ⌝ }
     requires { ⌜ (length (now used) ≡ length (now overall)) × (length (now barred) ≡ length (now overall)) ⌝ }
     requires { ⌜ Front (length (now overall)) (now keys) (now nodes) 0 0 ⌝ }
     ensures { λ _. ⌜ Small (length (now (overall .entry))) (now (labels .exit)) ⌝ }
-    ensures { λ r. ⌜ ((n : ℕ) (ts bar : List ℕ) → Arcs n ts (now (heads .entry)) (now (weights .entry)) → Star n ts (now (heads .entry)) (now («first_out» .entry)) → r ≡ true → ((z : ℕ) → elem z bar ≡ false → getD (now (used .entry)) z 0 ≡ 0) → Consistent (graph ts (now (heads .entry)) (now (weights .entry))) (quest .goal) (now (overall .entry)) bar → Consistent (graph ts (now (heads .entry)) (now (weights .entry))) (quest .goal) (now (labels .exit)) bar) ⌝ }
+    ensures { λ r. ⌜ ((bar : List ℕ) → r ≡ true → ((z : ℕ) → elem z bar ≡ false → getD (now (used .entry)) z 0 ≡ 0) → Consistent (graph-of (now (star .entry)) (now (weights .entry))) (quest .goal) (now (overall .entry)) bar → Consistent (graph-of (now (star .entry)) (now (weights .entry))) (quest .goal) (now (labels .exit)) bar) ⌝ }
 {
-    let level = search_from(
-        heads,
-        weights,
-        first_out,
-        quest,
-        overall,
-        used,
-        barred,
-        keys,
-        nodes,
-    );
+    let level = search_from(star, weights, quest, overall, used, barred, keys, nodes);
     let taken = level.taken;
     let key = level.key;
     let goal = quest.goal;
     copy(overall, labels);
     lift_all(nodes, taken, goal, key, keys, labels);
-    mend_all(heads, weights, first_out, nodes, taken, goal, used, labels)
+    mend_all(star, weights, nodes, taken, goal, used, labels)
 }
 
 // Fills labels from overall, and sharpens them for the branch whose beginning, which is flagged in
 // used, ends with the node from which the quest goes. Says whether they can be relied on.
 pub fn sharpen(
-    heads: &[u16],
+    star: &[u16],
     weights: &[u32],
-    first_out: &[u16],
     quest: Quest,
     overall: &[u64],
     used: &[u8],
     barred: &[u8],
     labels: &mut [u64],
 ) -> bool
-    requires { ⌜ Heads (length (now overall)) (now heads) (now weights) × Starts (length (now overall)) (now heads) (now «first_out») ⌝ }
+    requires { ⌜ Network (length (now overall)) (now star) (now weights) ⌝ }
     requires { ⌜ Small (length (now overall)) (now overall) × (quest .from < length (now overall)) × (quest .most ≤ longest) × (length (now labels) ≡ length (now overall)) ⌝ }
     requires { ⌜ (length (now used) ≡ length (now overall)) × (length (now barred) ≡ length (now overall)) × (length (now overall) ≤ 201) ⌝ }
     ensures { λ _. ⌜ Small (length (now (overall .entry))) (now (labels .exit)) ⌝ }
-    ensures { λ r. ⌜ ((n : ℕ) (ts bar : List ℕ) → Arcs n ts (now (heads .entry)) (now (weights .entry)) → Star n ts (now (heads .entry)) (now («first_out» .entry)) → r ≡ true → ((z : ℕ) → elem z bar ≡ false → getD (now (used .entry)) z 0 ≡ 0) → Consistent (graph ts (now (heads .entry)) (now (weights .entry))) (quest .goal) (now (overall .entry)) bar → Consistent (graph ts (now (heads .entry)) (now (weights .entry))) (quest .goal) (now (labels .exit)) bar) ⌝ }
+    ensures { λ r. ⌜ ((bar : List ℕ) → r ≡ true → ((z : ℕ) → elem z bar ≡ false → getD (now (used .entry)) z 0 ≡ 0) → Consistent (graph-of (now (star .entry)) (now (weights .entry))) (quest .goal) (now (overall .entry)) bar → Consistent (graph-of (now (star .entry)) (now (weights .entry))) (quest .goal) (now (labels .exit)) bar) ⌝ }
 {
     let mut keys = [FAR; 201];
     let mut nodes = [0u16; 201];
     let places = overall.len();
     sharpen_in(
-        heads,
+        star,
         weights,
-        first_out,
         quest,
         overall,
         used,

@@ -20,10 +20,10 @@ use Rattle.image.specs.Layout.{netOf}
 use Rattle.image.specs.Calls.{image-fault}
 use Rattle.image.proofs.OutcomeLaws.{gives-sound, refuses-fault, after-sound}
 use Rattle.image.proofs.NetworkLaws.{accepted-network}
-use Rattle.calls.specs.Calls.{room-row, workspace, search-rows, ranking-rows, robust-rows, robust-fault, robust-of, chosen, robust-values, robust-outcome}
-use Rattle.routes.specs.Answers.{decided}
-use Rattle.choices.specs.declared.choosing.Decided.{Decided}
-use Rattle.choices.specs.declared.choosing.Decided.the-variants as robust
+use Rattle.outcomes.specs.Calls.{room-row, workspace, search-rows, ranking-rows, robust-rows, robust-fault, robust-of, chosen, robust-values, robust-outcome}
+use Rattle.network_calls.specs.Answers.{decided}
+use Rattle.network_calls.specs.declared.chosen.Decided.{Decided}
+use Rattle.network_calls.specs.declared.chosen.Decided.the-variants as robust
 use Rattle.sheet.specs.Sheet.{answer-text, refused-line, sheet-of, program-fault, program-answer, sheet}
 use Rattle.sheet.specs.Answers.{nodes-of, decided-text, Printable, sheet-fault, sheet-outcome}
 

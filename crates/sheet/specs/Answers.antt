@@ -6,8 +6,8 @@ use lib.ListN.{length, getD, take}
 use Rattle.terms.specs.Robust.{settled, left-open}
 use Rattle.image.specs.Outcome.{Fault, row, Outcome, gives, refuses, outcome}
 use Rattle.image.specs.Refusals.{numberOf, placeOf}
-use Rattle.choices.specs.declared.choosing.Decided.{Decided}
-use Rattle.choices.specs.declared.choosing.Decided.the-variants as robust
+use Rattle.network_calls.specs.declared.chosen.Decided.{Decided}
+use Rattle.network_calls.specs.declared.chosen.Decided.the-variants as robust
 use Rattle.sheet.specs.declared.printing.Printed.{Printed}
 use Rattle.sheet.specs.declared.printing.Printed.the-variants as sheet
 use Rattle.sheet.specs.Sheet.{answer-text, refused-line}

@@ -14,7 +14,7 @@ use Rattle.image.specs.Outcome.{sound, row, _then_}
 use Rattle.image.specs.Rows.{in-range, is-node, pairs, arc-fault, arcs-fault, costs-fault, lists-fault}
 use Rattle.image.specs.Layout.{edition, node-count, arc-count, column-count, costs-start, total, fields-right, nodes-in, costs-in, node-list, cost-list, netOf}
 use Rattle.image.specs.Calls.{header-fault, image-fault}
-use Rattle.calls.specs.Calls.{ends-row, column-row, count-row, room-row, no-path-row, dearest, cost-row, search-rows, ranking-rows, workspace, dearest-anywhere, robust-rows, choice-rows, robust-fault, robust-of}
+use Rattle.outcomes.specs.Calls.{ends-row, column-row, count-row, room-row, no-path-row, dearest, cost-row, search-rows, ranking-rows, workspace, dearest-anywhere, robust-rows, choice-rows, robust-fault, robust-of}
 use Rattle.sheet.specs.Text.{digits, decimal}
 use Rattle.sheet.specs.Sheet.{node-text, nodes-text, two-numbers, route-line, regret-line, settled-line, choice-lines, answer-text, sheet-of, program-fault, program-answer, sheet}
 

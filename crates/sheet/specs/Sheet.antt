@@ -5,7 +5,7 @@ use Rattle.terms.specs.Paths.{Route}
 use Rattle.terms.specs.Robust.{Answer, settled, left-open, no-path}
 use Rattle.image.specs.Outcome.{Fault, sound, fault}
 use Rattle.image.specs.Layout.{netOf}
-use Rattle.calls.specs.Calls.{robust-fault, robust-of}
+use Rattle.outcomes.specs.Calls.{robust-fault, robust-of}
 use Rattle.sheet.specs.Text.{decimal}
 
 -- ---- words: one space stands between two, and a newline ends each line

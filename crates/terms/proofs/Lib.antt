@@ -5,6 +5,7 @@ pub mod PathLaws
 pub mod RankingLaws
 pub mod PrefixLaws
 pub mod RegretLaws
+pub mod OverLaws
 pub mod RobustLaws
 pub mod Demand2Laws
 pub mod DemandLaws

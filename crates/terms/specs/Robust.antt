@@ -6,9 +6,9 @@ use lib.Dec.{leb, eqb}
 use lib.ListN.{length, getD, take}
 use Rattle.terms.specs.Lists.{least, index, smallest}
 use Rattle.terms.specs.Network.{Net, column}
-use Rattle.terms.specs.Paths.{Route}
+use Rattle.terms.specs.Paths.{Route, cost}
 use Rattle.terms.specs.Ranking.{ranked}
-use Rattle.terms.specs.Regret.{deviation, figure, worst}
+use Rattle.terms.specs.Regret.{deviation, figure, worst, figure-over, worst-over}
 
 -- ---- over a ranked list P1, P2, .. PN, with its paths' deviations in r and their figures
 -- Bj: the least figure among the first j
@@ -51,3 +51,8 @@ answer dev fig wst (p ∷ ps) K =
 unfoldable pub robust : Net → ℕ → ℕ → ℕ → ℕ → Answer
 robust net r s t K =
     answer (λ p. deviation net s t p r) (figure net s t) (worst net s t) (ranked (net .nodes) (column net r) s t) K
+
+-- the same against bests that are given: the deviation in r is what a path costs there beyond r's
+unfoldable pub robust-over : Net → List ℕ → ℕ → ℕ → ℕ → ℕ → Answer
+robust-over net bs r s t K =
+    answer (λ p. cost (column net r) p - getD bs (r - 1) 0) (figure-over net bs) (worst-over net bs) (ranked (net .nodes) (column net r) s t) K

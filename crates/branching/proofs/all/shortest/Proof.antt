@@ -4,12 +4,12 @@ use mathlib.Core.Path.{refl, sym}
 use lib.ListN.{length}
 use borrow.Author.Needs.{needs}
 use Rattle.terms.proofs.RoomLaws.{part-long, part-zero}
-use Rattle.branching.proofs.NetworkLaws.{network-few}
+use Rattle.star.proofs.NetworkLaws.{network-few}
 use Rattle.branching.proofs.all.shortest.Statement.{statement}
 use Rattle.branching.proofs.all.shortest.Tie as tie
 
 abbrev start : tie.After-slice-known → tie.Start
-start c = c .before .before .before .before .before .before .before .before
+start c = c .before .before .before .before
 
 few : (c : tie.After-slice-known) → length (start c .args .overall .now) ≤ 201
 few c = network-few (start c .pre .0)

@@ -7,7 +7,7 @@ use Prim.Native.Nat.{ℕ, _-_}
 use borrow.Author.Needs.{needs}
 use lib.ListN.{length, take, getD, set, length-set}
 use Rattle.terms.specs.Network.{Graph}
-use Rattle.labels.specs.Arcs.{graph}
+use Rattle.star.specs.Layout.{graph-of}
 use Rattle.branching.specs.Branches.{Beginning}
 use Rattle.branching.specs.Found.{Begun, Extent, FirstFound}
 use Rattle.exits.specs.Walks.{Consistent}
@@ -16,11 +16,11 @@ use Rattle.branching.proofs.BranchLaws.{beginning-start}
 use Rattle.exits.proofs.ExitLaws.{chosen-node, chosen-nothing}
 use Rattle.branching.proofs.FirstLaws.{branch-empty}
 use Rattle.branching.proofs.FlagLaws.{flags-none}
-use Rattle.branching.proofs.NetworkLaws.{network-heads, network-starts, network-small, network-consistent}
+use Rattle.branching.proofs.NetworkLaws.{network-small, network-consistent}
 
 -- the start of the function, and the calls
 abbrev entry : tie.After-slice-known2 → tie.Start
-entry c = c .before .before .before .before .before .before .before .before .before .before
+entry c = c .before .before .before .before .before .before
 
 abbrev start : tie.After-least-exit → tie.Start
 start c = entry (c .before .before)
@@ -35,7 +35,7 @@ abbrev found : tie.After-slice-known4 → tie.After-along
 found c = c .before .before .before .before
 
 abbrev net : tie.Start → Graph
-net s = graph (s .args .tails .now) (s .args .heads .now) (s .args .weights .now)
+net s = graph-of (s .args .star .now) (s .args .weights .now)
 
 -- the start is laid out
 module _ (s : tie.Start) where
@@ -66,13 +66,13 @@ least-exit-requires c κs =
     let p = s .pre in
     let long = p .1 .1 .1 .1 in
     rw (long, length-set (s .args .used .now) (s .args .start) 1)
-    (network-heads (p .0), ((network-starts (p .0), p .1 .1 .0 .start-place), (network-small (p .0) long (p .1 .1 .1 .0), (refl, p .1 .0 .0 .barred-long))))
+    ((p .0, p .1 .1 .0 .start-place), (network-small (p .0) long (p .1 .1 .1 .0), (refl, p .1 .0 .0 .barred-long)))
 
 returns : tie.Need-returns
 returns c =
     let x = c .before .before in
     let s = start x in
-    let none = chosen-nothing (x .least-exit .ensures .1 _ _ (s .pre .0 .arcs) (s .pre .0 .star)) (c .enum-told .given .1) in
+    let none = chosen-nothing (x .least-exit .ensures .1) (c .enum-told .given .1) in
     (Extent.nothing, FirstFound.none (λ p i. branch-empty (begun s) (flags-none (s .pre .1 .0 .0 .none-barred)) (beginning s) (consistent s _) (rw (last-node s) none) p (rw (laid s) i)))
 
 along-requires : tie.Need-along-requires
@@ -81,7 +81,7 @@ along-requires c κs =
     let x = chosen t in
     let s = start x in
     let p = s .pre in
-    let choice = chosen-node (x .least-exit .ensures .1 _ _ (p .0 .arcs) (p .0 .star)) (t .before .y .given .1) in
+    let choice = chosen-node (x .least-exit .ensures .1) (t .before .y .given .1) in
     let ahead = start-ahead (s .args .path .now) (p .1 .0 .1) (p .1 .0 .0) (p .1 .1 .0) in
     rw (length-set (s .args .used .now) (s .args .start) 1) (p .0, (begun s, (ahead, ((consistent s _, network-small (p .0) (p .1 .1 .1 .1) (p .1 .1 .1 .0)), rw (last-node s) choice))))
 
@@ -93,7 +93,7 @@ same-length-3 c =
 same-length-4 : tie.Need-same-length-4
 same-length-4 c =
     let f = found c in
-    f .along .kept .1 .1 .1 .1 .1 .1 .1 .1 .1 .1 .0 ∙ length-set (start (chosen (told (f .before))) .args .path .now) 0 _
+    f .along .kept .1 .1 .1 .1 .1 .1 .0 ∙ length-set (start (chosen (told (f .before))) .args .path .now) 0 _
 
 returns-2 : tie.Need-returns-2
 returns-2 c =

@@ -8,24 +8,24 @@ use native.Mathlib.Omega.{arith}
 use borrow.Author.Needs.{needs}
 use lib.ListN.{length, take, getD}
 use Rattle.terms.specs.Network.{Graph}
-use Rattle.labels.specs.Arcs.{graph}
+use Rattle.star.specs.Layout.{graph-of}
 use Rattle.labels.specs.Labels.{Least}
 use Rattle.exits.specs.Exits.{Unmarked}
 use Rattle.exits.specs.Walks.{Choice}
 use Rattle.exits.specs.Flags.{Fresh}
 use Rattle.branching.specs.Found.{Begun, Extent, FirstFound}
 use Rattle.branching.specs.Laid.{Laid, Tried}
-use Rattle.exits.specs.Star.{Network}
+use Rattle.star.specs.Layout.{Network}
 use Rattle.exits.proofs.ExitLaws.{usable-node, chosen-node, chosen-nothing}
 use Rattle.branching.proofs.FlagLaws.{unflagged}
 use Rattle.branching.proofs.FirstLaws.{branch-empty, branch-walked, branch-stepped, tried-kept}
 use Rattle.branching.proofs.LaidLaws.{laid-place, laid-kept, tried-again}
-use Rattle.branching.proofs.NetworkLaws.{network-heads, network-starts, network-arrays, network-small, network-exact}
+use Rattle.branching.proofs.NetworkLaws.{network-small, network-exact}
 use Rattle.branching.proofs.WalkLaws.{Exact}
 
 -- the start of the function, and the calls
 abbrev entry : tie.After-least-arg2 → tie.Start
-entry c = c .before .before .before .before .before .before .before .before .before .before .before .before
+entry c = c .before .before .before .before .before .before .before .before
 
 abbrev start : tie.After-least → tie.Start
 start c = entry (c .before)
@@ -53,24 +53,24 @@ abbrev with-labels : tie.After-least-exit → tie.After-least
 with-labels c = labelled (c .before .before .before .before)
 
 -- the network, and the graph in it
-network : (c : tie.After-least) → let s = start c in Network (length (s .args .used .now)) (s .args .tails .now) (s .args .heads .now) (s .args .weights .now) (s .args .first-out .now) (s .args .first-in .now) (s .args .next-in .now)
+network : (c : tie.After-least) → let s = start c in Network (length (s .args .used .now)) (s .args .star .now) (s .args .weights .now)
 network c = start c .pre .0
 
 abbrev net : tie.After-least → Graph
-net c = graph (start c .args .tails .now) (start c .args .heads .now) (start c .args .weights .now)
+net c = graph-of (start c .args .star .now) (start c .args .weights .now)
 
 begun : (c : tie.After-least) → let s = start c in Begun (length (s .args .used .now)) (s .args .used .now) (s .args .barred .now) (s .args .path .now) (s .args .d)
 begun c = start c .pre .1 .0
 
 -- the labels have a place for each node, and are exact
 abbrev made : tie.After-least → List ℕ
-made c = c .least .last .1 .1 .1 .1 .1 .1 .0
+made c = c .least .last .1 .1 .1 .1 .0
 
 made-long : (c : tie.After-least) → length (made c) ≡ length (start c .args .used .now)
-made-long c = c .least .kept .1 .1 .1 .1 .1 .1 .0 ∙ start c .pre .1 .1 .1
+made-long c = c .least .kept .1 .1 .1 .1 .0 ∙ start c .pre .1 .1 .1
 
 made-least : (c : tie.After-least) → Least (net c) (start c .args .used .now) (start c .args .goal) (made c)
-made-least c = let n = network c in c .least .ensures (n .nodes) _ (n .arcs) (n .chains)
+made-least c = c .least .ensures
 
 made-exact : (c : tie.After-least) → Exact (net c) (start c .args .goal) (made c) (take (start c .args .d) (start c .args .path .now))
 made-exact c = network-exact (network c) (made-long c) (made-least c) (begun c .laid .flagged) (unflagged (begun c .laid .flagged) _ (start c .pre .1 .1 .0 .unmet))
@@ -87,21 +87,21 @@ usable c = rw (made-long (with-labels (chosen c))) at (usable-node (chosen c .le
 
 choice : (c : tie.After-known-told) → let a = with-labels (chosen c) in let s = start a in
     Choice (net a) (made a) (Unmarked (s .args .used .now) (s .args .barred .now)) (getD (s .args .path .now) (s .args .d - 1) 0) (rest c) (next c)
-choice c = let n = network (with-labels (chosen c)) in chosen-node (chosen c .least-exit .ensures .1 _ _ (n .arcs) (n .star)) (c .before .y .given .1)
+choice c = let n = network (with-labels (chosen c)) in chosen-node (chosen c .least-exit .ensures .1) (c .before .y .given .1)
 
 -- the walk
 walk-tried : (c : tie.After-attempt) → let s = start (with-labels (chosen (told c))) in
-    Tried (s .args .used .now) (s .args .path .now) (s .args .d) (c .attempt .last .1 .1 .1 .1 .1 .0) (c .attempt .last .1 .1 .1 .1 .1 .1 .0) (c .attempt .result .len)
+    Tried (s .args .used .now) (s .args .path .now) (s .args .d) (c .attempt .last .1 .1 .1 .1 .0) (c .attempt .last .1 .1 .1 .1 .1 .0) (c .attempt .result .len)
 walk-tried c = c .attempt .ensures .0
 
 -- what it left, and the steps after it
-walk-laid : (c : tie.After-attempt) → let s = start (with-labels (chosen (told c))) in Laid (length (s .args .used .now)) (s .args .used .now) (c .attempt .last .1 .1 .1 .1 .1 .1 .0) (s .args .d)
-walk-laid c = laid-kept (walk-tried c .kept) (c .attempt .kept .1 .1 .1 .1 .1 .1 .0) (begun (with-labels (chosen (told c))) .laid)
+walk-laid : (c : tie.After-attempt) → let s = start (with-labels (chosen (told c))) in Laid (length (s .args .used .now)) (s .args .used .now) (c .attempt .last .1 .1 .1 .1 .1 .0) (s .args .d)
+walk-laid c = laid-kept (walk-tried c .kept) (c .attempt .kept .1 .1 .1 .1 .1 .0) (begun (with-labels (chosen (told c))) .laid)
 
 least-requires : tie.Need-least-requires
 least-requires c κs =
     let p = entry c .pre in
-    rw (p .1 .1 .1) (network-arrays (p .0) (p .1 .0 .laid .flags-long), record { place = p .1 .1 .0 .place; free = p .1 .1 .0 .unmet })
+    rw (p .1 .1 .1) ((p .0, p .1 .0 .laid .flags-long), record { place = p .1 .1 .0 .place; free = p .1 .1 .0 .unmet })
 
 mul-v : tie.Need-mul-v
 mul-v c = omega (arith, begun (labelled c) .laid, start (labelled c) .good)
@@ -114,21 +114,21 @@ least-exit-requires c κs =
     let a = labelled (c .before .before .before) in
     let s = start a in
     let n = network a in
-    rw (made-long a) (network-heads n, ((network-starts n, laid-place (s .args .d - 1) (omega (arith, begun a .some)) (begun a .laid)), (network-small n (made-long a) (made-least a), (refl, begun a .barred-long))))
+    rw (made-long a) ((n, laid-place (s .args .d - 1) (omega (arith, begun a .some)) (begun a .laid)), (network-small n (made-long a) (made-least a), (refl, begun a .barred-long)))
 
 returns : tie.Need-returns
 returns c =
     let x = c .before .before in
     let a = with-labels x in
     let n = network a in
-    (record { flags = refl; kept = refl; reach = Extent.nothing }, λ s F B h. FirstFound.none (branch-empty (begun a) h B (made-exact a .consistent) (chosen-nothing (x .least-exit .ensures .1 _ _ (n .arcs) (n .star)) (c .enum-told .given .1))))
+    (record { flags = refl; kept = refl; reach = Extent.nothing }, λ s F B h. FirstFound.none (branch-empty (begun a) h B (made-exact a .consistent) (chosen-nothing (x .least-exit .ensures .1) (c .enum-told .given .1))))
 
 attempt-requires : tie.Need-attempt-requires
 attempt-requires c κs =
     let t = c .before .before .before in
     let a = with-labels (chosen t) in
     let n = network a in
-    rw (made-long a) (network-heads n, (network-starts n, (begun a .laid, usable t)))
+    rw (made-long a) (n, ((begun a .laid, usable t)))
 
 returns-2 : tie.Need-returns-2
 returns-2 c =
@@ -136,7 +136,7 @@ returns-2 c =
     let t = told w in
     let a = with-labels (chosen t) in
     let n = network a in
-    (tried-kept (walk-tried w), λ s F B h. let r = branch-walked (begun a) h B (choice t) (made-exact a .consistent) (w .attempt .ensures .1 _ _ (n .arcs) (n .star) (choice t .exit .reached) (c .if1 .taken)) in FirstFound.found (r .0) (r .1))
+    (tried-kept (walk-tried w), λ s F B h. let r = branch-walked (begun a) h B (choice t) (made-exact a .consistent) (w .attempt .ensures .1 (choice t .exit .reached) (c .if1 .taken)) in FirstFound.found (r .0) (r .1))
 
 by-steps-requires : tie.Need-by-steps-requires
 by-steps-requires c κs =
@@ -149,7 +149,7 @@ by-steps-requires c κs =
 same-length-8 : tie.Need-same-length-8
 same-length-8 c =
     let w = stepped c in
-    w .by-steps .kept .1 .1 .1 .1 .1 .1 .1 .1 .1 .1 .1 .0 ∙ with-labels (chosen (told (strayed w))) .least .kept .1 .1 .1 .1 .1 .1 .0
+    w .by-steps .kept .1 .1 .1 .1 .1 .1 .1 .0 ∙ with-labels (chosen (told (strayed w))) .least .kept .1 .1 .1 .1 .0
 
 returns-3 : tie.Need-returns-3
 returns-3 c =

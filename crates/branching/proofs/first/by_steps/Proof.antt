@@ -12,7 +12,7 @@ use Rattle.branching.proofs.LaidLaws.{take-more, laid-room, laid-more, 
 
 -- the start of the function, and the calls
 abbrev entry : tie.After-slice-known3 → tie.Start
-entry c = c .before .before .before .before .before .before .before .before .before
+entry c = c .before .before .before .before .before
 
 abbrev start : tie.After-steps → tie.Start
 start c = entry (c .before .before .before .before)
@@ -26,11 +26,11 @@ cleared c = c .before .before
 room : (s : tie.Start) → s .args .d < length (s .args .path .now)
 room s = laid-room (s .pre .1 .0 .0) (s .pre .1 .0 .1)
 
-longer : (c : tie.After-steps) → let s = start c in Longer (length (s .args .used .now)) (set (s .args .path .now) (s .args .d) (s .args .y)) (s .args .d + 1) (c .steps .last .1 .1 .1 .1 .1 .1 .1 .0) (c .steps .last .1 .1 .1 .1 .1 .1 .1 .1 .0) (c .steps .result)
+longer : (c : tie.After-steps) → let s = start c in Longer (length (s .args .used .now)) (set (s .args .path .now) (s .args .d) (s .args .y)) (s .args .d + 1) (c .steps .last .1 .1 .1 .0) (c .steps .last .1 .1 .1 .1 .0) (c .steps .result)
 longer c = let s = start c in rw (length-set (s .args .used .now) (s .args .y) 1) at (c .steps .ensures .0)
 
 done : (c : tie.After-slice-known7) → let w = stepped (cleared c .before) in let s = start w in
-    Tried (s .args .used .now) (s .args .path .now) (s .args .d) (cleared c .unmark .last .1 .1 .1 .0) (w .steps .last .1 .1 .1 .1 .1 .1 .1 .1 .0) (w .steps .result)
+    Tried (s .args .used .now) (s .args .path .now) (s .args .d) (cleared c .unmark .last .1 .1 .1 .0) (w .steps .last .1 .1 .1 .1 .0) (w .steps .result)
 done c =
     let w = stepped (cleared c .before) in
     let s = start w in
@@ -59,7 +59,7 @@ same-length c = ap length (done c .flags)
 same-length-2 : tie.Need-same-length-2
 same-length-2 c =
     let w = stepped (cleared c .before) in
-    w .steps .kept .1 .1 .1 .1 .1 .1 .1 .1 .0 ∙ length-set (start w .args .path .now) _ _
+    w .steps .kept .1 .1 .1 .1 .0 ∙ length-set (start w .args .path .now) _ _
 
 returns : tie.Need-returns
 returns c =

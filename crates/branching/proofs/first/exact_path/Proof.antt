@@ -4,12 +4,12 @@ use mathlib.Core.Path.{sym}
 use lib.ListN.{length}
 use borrow.Author.Needs.{needs}
 use Rattle.terms.proofs.RoomLaws.{part-long}
-use Rattle.branching.proofs.NetworkLaws.{network-few}
+use Rattle.star.proofs.NetworkLaws.{network-few}
 use Rattle.branching.proofs.first.exact_path.Statement.{statement}
 use Rattle.branching.proofs.first.exact_path.Tie as tie
 
 abbrev entry : tie.After-by-labels-arg2 → tie.Start
-entry c = c .before .before .before .before .before .before .before .before .before .before .before
+entry c = c .before .before .before .before .before .before .before
 
 nodes-fit : (c : tie.After-by-labels-arg2) → length (entry c .args .used .now) ≤ 201
 nodes-fit c = network-few (entry c .pre .0)

@@ -7,11 +7,11 @@ use Rattle.branching.specs.Found.{FirstFound, FirstWithin}
 use Rattle.branching.specs.Laid.{Tried}
 use Rattle.branching.proofs.FirstLaws.{branch-walked, tried-kept, kept-again}
 use Rattle.branching.proofs.LaidLaws.{laid-kept}
-use Rattle.branching.proofs.NetworkLaws.{network-heads, network-starts, choice-fresh}
+use Rattle.branching.proofs.NetworkLaws.{choice-fresh}
 
 -- the start of the function, and the walk
 abbrev entry : tie.After-attempt-arg2 → tie.Start
-entry c = c .before .before .before .before .before .before .before .before .before .before .before .before
+entry c = c .before .before .before .before .before .before .before .before
 
 abbrev start : tie.After-attempt → tie.Start
 start c = entry (c .before)
@@ -23,13 +23,13 @@ abbrev strayed : tie.After-sharp-path-arg2 → tie.After-attempt
 strayed c = walked (c .before .before .before)
 
 walk-tried : (c : tie.After-attempt) → let s = start c in
-    Tried (s .args .used .now) (s .args .path .now) (s .args .d) (c .attempt .last .1 .1 .1 .1 .1 .0) (c .attempt .last .1 .1 .1 .1 .1 .1 .0) (c .attempt .result .len)
+    Tried (s .args .used .now) (s .args .path .now) (s .args .d) (c .attempt .last .1 .1 .1 .1 .0) (c .attempt .last .1 .1 .1 .1 .1 .0) (c .attempt .result .len)
 walk-tried c = c .attempt .ensures .0
 
 attempt-requires : tie.Need-attempt-requires
 attempt-requires c κs =
     let p = entry c .pre in
-    rw (p .1 .1 .1 .0 .1 .long) (network-heads (p .0), (network-starts (p .0), (p .1 .0 .laid, choice-fresh (p .0) (p .1 .1 .1 .1))))
+    rw (p .1 .1 .1 .0 .1 .long) (p .0, ((p .1 .0 .laid, choice-fresh (p .0) (p .1 .1 .1 .1))))
 
 returns : tie.Need-returns
 returns c =
@@ -38,7 +38,7 @@ returns c =
     let choice = p .1 .1 .1 .1 in (
       tried-kept (walk-tried w),
       λ s F B h.
-          let r = branch-walked (p .1 .0) h B choice (p .1 .1 .1 .0 .0) (w .attempt .ensures .1 _ _ (p .0 .arcs) (p .0 .star) (choice .exit .reached) (c .if1 .taken)) in
+          let r = branch-walked (p .1 .0) h B choice (p .1 .1 .1 .0 .0) (w .attempt .ensures .1 (choice .exit .reached) (c .if1 .taken)) in
           FirstWithin.is (FirstFound.found (r .0) (r .1)),
     )
 
@@ -46,7 +46,7 @@ sharp-path-requires : tie.Need-sharp-path-requires
 sharp-path-requires c κs =
     let w = strayed c in
     let p = start w .pre in
-    rw (walk-tried w .flags) (p .0, (record { laid = laid-kept (walk-tried w .kept) (w .attempt .kept .1 .1 .1 .1 .1 .1 .0) (p .1 .0 .laid); some = p .1 .0 .some; barred-long = p .1 .0 .barred-long }, (p .1 .1 .0, (rw (walk-tried w .kept) (p .1 .1 .1 .0 .0), p .1 .1 .1 .0 .1, p .1 .1 .1 .0 .2))))
+    rw (walk-tried w .flags) (p .0, (record { laid = laid-kept (walk-tried w .kept) (w .attempt .kept .1 .1 .1 .1 .1 .0) (p .1 .0 .laid); some = p .1 .0 .some; barred-long = p .1 .0 .barred-long }, (p .1 .1 .0, (rw (walk-tried w .kept) (p .1 .1 .1 .0 .0), p .1 .1 .1 .0 .1, p .1 .1 .1 .0 .2))))
 
 returns-2 : tie.Need-returns-2
 returns-2 c =

@@ -3,13 +3,13 @@ use Prim.Native.Nat.{_≤_}
 use mathlib.Core.Path.{sym}
 use lib.ListN.{length}
 use Rattle.terms.proofs.RoomLaws.{part-long}
-use Rattle.branching.proofs.NetworkLaws.{network-few}
+use Rattle.star.proofs.NetworkLaws.{network-few}
 use borrow.Author.Needs.{needs}
 use Rattle.branching.proofs.first.sharp_path.Statement.{statement}
 use Rattle.branching.proofs.first.sharp_path.Tie as tie
 
 abbrev start : tie.After-by-sharper-arg2 → tie.Start
-start c = c .before .before .before .before .before .before .before .before .before .before .before .before
+start c = c .before .before .before .before .before .before .before .before
 
 few : (c : tie.After-by-sharper-arg2) → length (start c .args .used .now) ≤ 201
 few c = network-few (start c .pre .0)

@@ -11,29 +11,28 @@ use lib.ListN.{length, take, length-set}
 use Rattle.terms.specs.Network.{Graph}
 use Rattle.terms.specs.Paths.{Route}
 use Rattle.labels.specs.Labels.{Least}
-use Rattle.labels.specs.Arcs.{graph}
+use Rattle.star.specs.Layout.{graph-of, Network}
 use Rattle.exits.specs.Flags.{Fresh}
-use Rattle.exits.specs.Star.{Network}
 use Rattle.branching.specs.Branches.{branch, In}
 use Rattle.branching.proofs.FlagLaws.{unflagged}
 use Rattle.branching.proofs.LaidLaws.{laid-room}
 use Rattle.branching.proofs.WalkLaws.{Exact}
 use Rattle.exits.proofs.ExitLaws.{usable-node, chosen-node, chosen-nothing}
 use Rattle.branching.proofs.FirstLaws.{Stepping, stepping-place, stepping-more, stepping-onward, stepping-stuck, stepping-end, Onward, onward-start}
-use Rattle.branching.proofs.NetworkLaws.{network-heads, network-starts, network-arrays, network-small, network-exact}
+use Rattle.branching.proofs.NetworkLaws.{network-small, network-exact}
 
 abbrev Inv-loop : tie.InvT-loop
-Inv-loop tails heads weights first-out first-in next-in goal used₀ path₀ at labels₀ len₀ x₀ used path labels len x =
+Inv-loop star weights goal used₀ path₀ at labels₀ len₀ x₀ used path labels len x =
     Stepping (length used₀) path₀ at goal used path len x × (length labels ≡ length used₀)
-    × ((s : ℕ) (p : Route) → In (graph tails heads weights) s goal (branch (take at path₀) []) p → Onward (graph tails heads weights) s goal (take at path₀) (take len path))
+    × ((s : ℕ) (p : Route) → In (graph-of star weights) s goal (branch (take at path₀) []) p → Onward (graph-of star weights) s goal (take at path₀) (take len path))
 
 abbrev μ-loop : tie.MeasureT-loop
-μ-loop tails heads weights first-out first-in next-in goal used₀ path₀ at labels₀ len₀ x₀ used path labels len x =
+μ-loop star weights goal used₀ path₀ at labels₀ len₀ x₀ used path labels len x =
     length path - len
 
 -- the start of the function, from before the loop and from the loop's head
 abbrev entry : tie.After-slice-known4 Inv-loop μ-loop → tie.Start Inv-loop μ-loop
-entry c = c .before .before .before .before .before .before .before .before .before .before
+entry c = c .before .before .before .before .before .before
 
 abbrev start : tie.At-loop Inv-loop μ-loop → tie.Start Inv-loop μ-loop
 start c = entry (c .before)
@@ -55,21 +54,21 @@ abbrev next : tie.After-known-told Inv-loop μ-loop → ℕ
 next c = c .before .y .given .0 .0
 
 -- the network, and the graph in it
-network : (c : tie.At-loop Inv-loop μ-loop) → let s = start c in Network (length (s .args .used .now)) (s .args .tails .now) (s .args .heads .now) (s .args .weights .now) (s .args .first-out .now) (s .args .first-in .now) (s .args .next-in .now)
+network : (c : tie.At-loop Inv-loop μ-loop) → let s = start c in Network (length (s .args .used .now)) (s .args .star .now) (s .args .weights .now)
 network c = start c .pre .0
 
 abbrev net : tie.At-loop Inv-loop μ-loop → Graph
-net c = graph (start c .args .tails .now) (start c .args .heads .now) (start c .args .weights .now)
+net c = graph-of (start c .args .star .now) (start c .args .weights .now)
 
 -- the new labels have a place for each node, and are exact
 abbrev made : tie.After-least Inv-loop μ-loop → List ℕ
-made c = c .least .last .1 .1 .1 .1 .1 .1 .0
+made c = c .least .last .1 .1 .1 .1 .0
 
 made-long : (c : tie.After-least Inv-loop μ-loop) → length (made c) ≡ length (start (head c) .args .used .now)
-made-long c = c .least .kept .1 .1 .1 .1 .1 .1 .0 ∙ head c .loop .inv .1
+made-long c = c .least .kept .1 .1 .1 .1 .0 ∙ head c .loop .inv .1
 
 made-least : (c : tie.After-least Inv-loop μ-loop) → Least (net (head c)) (head c .loop .used) (start (head c) .args .goal) (made c)
-made-least c = let n = network (head c) in c .least .ensures (n .nodes) _ (n .arcs) (n .chains)
+made-least c = c .least .ensures
 
 made-exact : (c : tie.After-least Inv-loop μ-loop) → Exact (net (head c)) (start (head c) .args .goal) (made c) (take (head c .loop .len) (head c .loop .path))
 made-exact c =
@@ -87,7 +86,7 @@ room c = laid-room (head (labelled (chosen c .before)) .loop .inv .0 .longer .la
 short : (c : tie.After-known-told Inv-loop μ-loop) → let l = head (labelled (chosen c .before)) in length (l .loop .path) < 4611686018427387904
 short c =
     let l = head (labelled (chosen c .before)) in
-    omega (arith, l .loop .inv .0 .same, start l .good .1 .1 .1 .1 .1 .1 .1 .1 .0)
+    omega (arith, l .loop .inv .0 .same, start l .good .1 .1 .1 .1 .0)
 
 sub-x : tie.Need-sub-x Inv-loop μ-loop
 sub-x c = omega arith
@@ -111,7 +110,7 @@ least-requires c κs =
     let l = turn c .before in
     let i = l .loop .inv in
     let p = start l .pre in
-    rw (i .1) (network-arrays (p .0) (i .0 .longer .laid .flags-long), record { place = p .1 .1 .0 .0; free = i .0 .goal-ahead (turn c .loop-test .taken) })
+    rw (i .1) ((p .0, i .0 .longer .laid .flags-long), record { place = p .1 .1 .0 .0; free = i .0 .goal-ahead (turn c .loop-test .taken) })
 
 least-exit-requires : tie.Need-least-exit-requires Inv-loop μ-loop
 least-exit-requires c κs =
@@ -119,7 +118,7 @@ least-exit-requires c κs =
     let l = head a in
     let n = network l in
     let flags = l .loop .inv .0 .longer .laid .flags-long in
-    rw (made-long a) (network-heads n, ((network-starts n, stepping-place (l .loop .inv .0)), (network-small n (made-long a) (made-least a), (flags, flags))))
+    rw (made-long a) ((n, stepping-place (l .loop .inv .0)), (network-small n (made-long a) (made-least a), (flags, flags)))
 
 same-length : tie.Need-same-length Inv-loop μ-loop
 same-length c = omega arith
@@ -139,7 +138,7 @@ returns c =
     let l = head a in
     let i = l .loop .inv in
     let n = turn (a .before) .loop-test .taken in
-    (i .0 .longer, λ s p k. absurd (stepping-stuck (i .0) (i .2 s p k) n (made-exact a) (chosen-nothing (x .least-exit .ensures .1 _ _ (network l .arcs) (network l .star)) (c .enum-told .given .1))))
+    (i .0 .longer, λ s p k. absurd (stepping-stuck (i .0) (i .2 s p k) n (made-exact a) (chosen-nothing (x .least-exit .ensures .1) (c .enum-told .given .1))))
 
 mul-path : tie.Need-mul-path Inv-loop μ-loop
 mul-path c = omega (arith, room c, short c)
@@ -167,7 +166,7 @@ loop-again c =
     let n = turn (a .before) .loop-test .taken in (
       stepping-more n (usable c) (i .0),
       made-long a,
-      λ s p k. stepping-onward (i .0) (i .2 s p k) n (made-exact a) (usable c) (chosen-node (chosen c .least-exit .ensures .1 _ _ (network l .arcs) (network l .star)) (c .before .y .given .1)),
+      λ s p k. stepping-onward (i .0) (i .2 s p k) n (made-exact a) (usable c) (chosen-node (chosen c .least-exit .ensures .1) (c .before .y .given .1)),
     )
 
 same-length-4 : tie.Need-same-length-4 Inv-loop μ-loop

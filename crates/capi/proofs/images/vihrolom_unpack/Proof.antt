@@ -1,7 +1,7 @@
 -- `capi::images::vihrolom_unpack` meets its contract. Assumes nothing.
 use mathlib.Core.Path.{ap, _∙_}
 use borrow.Author.Needs.{needs}
-use Rattle.replies.specs.Replies.{reply-of}
+use Rattle.c_replies.specs.Replies.{reply-of}
 use Rattle.capi.proofs.images.vihrolom_unpack.Statement.{statement}
 use Rattle.capi.proofs.images.vihrolom_unpack.Tie as tie
 

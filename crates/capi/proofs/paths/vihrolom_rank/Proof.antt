@@ -1,7 +1,7 @@
 -- `capi::paths::vihrolom_rank` meets its contract. Assumes nothing.
 use mathlib.Core.Path.{ap, _∙_}
 use borrow.Author.Needs.{needs}
-use Rattle.replies.specs.Replies.{reply-of}
+use Rattle.c_replies.specs.Replies.{reply-of}
 use Rattle.capi.proofs.paths.vihrolom_rank.Statement.{statement}
 use Rattle.capi.proofs.paths.vihrolom_rank.Tie as tie
 

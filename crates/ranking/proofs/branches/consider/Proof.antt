@@ -5,7 +5,7 @@ use mathlib.Core.Path.{refl, _∙_}
 use mathlib.Core.List.{List}
 use lib.ListN.{getD}
 use Rattle.terms.specs.Network.{Graph}
-use Rattle.labels.specs.Arcs.{graph}
+use Rattle.star.specs.Layout.{graph-of}
 use Rattle.candidates.specs.Slots.{Entry, entries}
 use Rattle.candidates.proofs.EntryLaws.{length-entries}
 use Rattle.exits.specs.Exits.{Unmarked}
@@ -14,13 +14,12 @@ use Rattle.exits.specs.Walks.{Choice}
 use Rattle.ranking.proofs.EnterLaws.{dear-facts, unchanged, choice-small, choice-floor, settled-none, settled-beyond, settled-dear}
 use Rattle.exits.proofs.ExitLaws.{chosen-node, chosen-nothing}
 use Rattle.branching.proofs.LaidLaws.{laid-place}
-use Rattle.branching.proofs.NetworkLaws.{network-heads, network-starts}
 use borrow.Author.Needs.{needs}
 use Rattle.ranking.proofs.branches.consider.Statement.{statement}
 use Rattle.ranking.proofs.branches.consider.Tie as tie
 
 abbrev start : tie.After-slice-known4 → tie.Start
-start c = c .before .before .before .before .before .before .before .before .before .before .before .before
+start c = c .before .before .before .before .before .before .before .before
 
 abbrev entry : tie.After-least-exit → tie.Start
 entry c = start (c .before .before)
@@ -30,27 +29,27 @@ told c = c .before .before .before
 
 -- what is known at the start
 abbrev net : tie.Start → Graph
-net s = graph (s .args .tails .now) (s .args .heads .now) (s .args .weights .now)
+net s = graph-of (s .args .star .now) (s .args .weights .now)
 
 abbrev kept-entries : tie.Start → List Entry
-kept-entries s = entries (s .args .n) (s .args .work .now) (s .args .count)
+kept-entries s = entries (s .args .query .n) (s .args .work .now) (s .args .detour .count)
 
-problem : (s : tie.Start) → Problem (s .args .n) (s .args .start) (s .args .goal) (s .args .tails .now) (s .args .heads .now) (s .args .weights .now) (s .args .first-out .now) (s .args .first-in .now) (s .args .next-in .now) (s .args .overall .now)
+problem : (s : tie.Start) → Problem (s .args .query .n) (s .args .query .start) (s .args .query .goal) (s .args .star .now) (s .args .weights .now) (s .args .overall .now)
 problem s = s .pre .0
 
-filled : (s : tie.Start) → Filled (s .args .n) (s .args .slots) (net s) (s .args .start) (s .args .from) (s .args .work .now) (s .args .count)
+filled : (s : tie.Start) → Filled (s .args .query .n) (s .args .query .slots) (net s) (s .args .query .start) (s .args .detour .parent) (s .args .work .now) (s .args .detour .count)
 filled s = s .pre .1 .0
 
-deviation : (s : tie.Start) → Deviation (s .args .n) (net s) (s .args .start) (s .args .goal) (kept-entries s) (s .args .from) (s .args .used .now) (s .args .barred .now) (s .args .path .now) (s .args .parent) (s .args .d) (s .args .before)
+deviation : (s : tie.Start) → Deviation (s .args .query .n) (net s) (s .args .query .start) (s .args .query .goal) (kept-entries s) (s .args .detour .parent) (s .args .used .now) (s .args .barred .now) (s .args .path .now) (s .args .detour .parent) (s .args .detour .d) (s .args .detour .before)
 deviation s = s .pre .1 .1
 
-last-place : (s : tie.Start) → getD (s .args .path .now) (s .args .d - 1) 0 < s .args .n + 1
-last-place s = let b = deviation s .begun in laid-place (s .args .d - 1) (omega (arith, b .some)) (b .laid)
+last-place : (s : tie.Start) → getD (s .args .path .now) (s .args .detour .d - 1) 0 < s .args .query .n + 1
+last-place s = let b = deviation s .begun in laid-place (s .args .detour .d - 1) (omega (arith, b .some)) (b .laid)
 
 -- the exit that was chosen
 choice : (c : tie.After-known-told) → let s = entry (told c) in
-    Choice (net s) (s .args .overall .now) (Unmarked (s .args .used .now) (s .args .barred .now)) (getD (s .args .path .now) (s .args .d - 1) 0) (c .before .y .given .0 .1 .0) (c .before .y .given .0 .0)
-choice c = let n = problem (entry (told c)) .network in chosen-node (told c .least-exit .ensures .1 _ _ (n .arcs) (n .star)) (c .before .y .given .1)
+    Choice (net s) (s .args .overall .now) (Unmarked (s .args .used .now) (s .args .barred .now)) (getD (s .args .path .now) (s .args .detour .d - 1) 0) (c .before .y .given .0 .1 .0) (c .before .y .given .0 .0)
+choice c = chosen-node (told c .least-exit .ensures .1) (c .before .y .given .1)
 
 cast-v : tie.Need-cast-v
 cast-v c = omega (arith, last-place (start c), problem (start c) .start-to, filled (start c) .kept .few)
@@ -59,13 +58,12 @@ least-exit-requires : tie.Need-least-exit-requires
 least-exit-requires c κs = let s = start (c .before) in
     let P = problem s in
     let b = deviation s .begun in
-    rw (P .small .long) (network-heads (P .network), ((network-starts (P .network), last-place s), (P .small, (b .laid .flags-long, b .barred-long))))
+    rw (P .small .long) ((P .network, last-place s), (P .small, (b .laid .flags-long, b .barred-long)))
 
 returns : tie.Need-returns
 returns c = let x = c .before .before in
     let s = entry x in
-    let n = problem s .network in
-    (record { flags = refl; kept = refl }, (unchanged (filled s), settled-none (problem s) (deviation s) _ _ (filled s .entered) (chosen-nothing (x .least-exit .ensures .1 _ _ (n .arcs) (n .star)) (c .enum-told .given .1))))
+    (record { flags = refl; kept = refl }, (unchanged (filled s), settled-none (problem s) (deviation s) _ _ (filled s .entered) (chosen-nothing (x .least-exit .ensures .1) (c .enum-told .given .1))))
 
 add-bound : tie.Need-add-bound
 add-bound c = let s = entry (told c) in omega (arith, choice-small (problem s) (choice c), deviation s .small)
@@ -84,7 +82,7 @@ returns-3 c = let x = c .before in
     let s = entry (told k) in
     let F = filled s in
     let d = dear-facts (x .too-dear .ensures) (c .if2 .taken) in
-    (record { flags = refl; kept = refl }, (unchanged F, settled-dear (problem s) (deviation s) _ _ (F .entered) (k .before .y .given .0 .1 .0) (choice-floor (problem s) (deviation s) (choice k)) (length-entries (s .args .n) (s .args .work .now) (s .args .count) ∙ d .0) (F .some) (d .1)))
+    (record { flags = refl; kept = refl }, (unchanged F, settled-dear (problem s) (deviation s) _ _ (F .entered) (k .before .y .given .0 .1 .0) (choice-floor (problem s) (deviation s) (choice k)) (length-entries (s .args .query .n) (s .args .work .now) (s .args .detour .count) ∙ d .0) (F .some) (d .1)))
 
 enter-requires : tie.Need-enter-requires
 enter-requires c κs = let k = c .before .before .before .before .before .before .before in

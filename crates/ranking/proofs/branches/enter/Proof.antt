@@ -8,7 +8,7 @@ use lib.ListN.{length, take, getD}
 use lib.Seq.{length-take-le}
 use Rattle.terms.specs.Network.{Graph}
 use Rattle.terms.specs.Paths.{cost}
-use Rattle.labels.specs.Arcs.{graph}
+use Rattle.star.specs.Layout.{graph-of}
 use Rattle.candidates.specs.Slots.{Entry, none, entries}
 use Rattle.candidates.specs.Bars.{barred}
 use Rattle.candidates.proofs.EntryLaws.{kept-readable, length-entries}
@@ -23,7 +23,7 @@ use Rattle.ranking.proofs.branches.enter.Statement.{statement}
 use Rattle.ranking.proofs.branches.enter.Tie as tie
 
 abbrev entry : tie.After-first-path-arg2 → tie.Start
-entry c = c .before .before .before .before .before .before .before .before .before .before .before .before .before .before .before
+entry c = c .before .before .before .before .before .before .before .before .before .before .before
 
 abbrev start : tie.After-first-path → tie.Start
 start c = entry (c .before)
@@ -42,35 +42,35 @@ known c = c .before .before .before
 
 -- what is known at the start
 abbrev net : tie.Start → Graph
-net s = graph (s .args .tails .now) (s .args .heads .now) (s .args .weights .now)
+net s = graph-of (s .args .star .now) (s .args .weights .now)
 
 abbrev kept-entries : tie.Start → List Entry
-kept-entries s = entries (s .args .n) (s .args .work .now) (s .args .count)
+kept-entries s = entries (s .args .query .n) (s .args .work .now) (s .args .detour .count)
 
-problem : (s : tie.Start) → Problem (s .args .n) (s .args .start) (s .args .goal) (s .args .tails .now) (s .args .heads .now) (s .args .weights .now) (s .args .first-out .now) (s .args .first-in .now) (s .args .next-in .now) (s .args .overall .now)
+problem : (s : tie.Start) → Problem (s .args .query .n) (s .args .query .start) (s .args .query .goal) (s .args .star .now) (s .args .weights .now) (s .args .overall .now)
 problem s = s .pre .0
 
-filled : (s : tie.Start) → Filled (s .args .n) (s .args .slots) (net s) (s .args .start) (s .args .from) (s .args .work .now) (s .args .count)
+filled : (s : tie.Start) → Filled (s .args .query .n) (s .args .query .slots) (net s) (s .args .query .start) (s .args .detour .parent) (s .args .work .now) (s .args .detour .count)
 filled s = s .pre .1 .0
 
-deviation : (s : tie.Start) → Deviation (s .args .n) (net s) (s .args .start) (s .args .goal) (kept-entries s) (s .args .from) (s .args .used .now) (s .args .barred .now) (s .args .path .now) (s .args .parent) (s .args .d) (s .args .before)
+deviation : (s : tie.Start) → Deviation (s .args .query .n) (net s) (s .args .query .start) (s .args .query .goal) (kept-entries s) (s .args .detour .parent) (s .args .used .now) (s .args .barred .now) (s .args .path .now) (s .args .detour .parent) (s .args .detour .d) (s .args .detour .before)
 deviation s = s .pre .1 .1 .0
 
 -- the path, and what was found in it
 abbrev made : tie.After-first-path → List ℕ
-made c = c .first-path .last .1 .1 .1 .1 .1 .1 .1 .1 .1 .1 .0
+made c = c .first-path .last .1 .1 .1 .1 .1 .1 .0
 
-restored : (c : tie.After-first-path) → let s = start c in Restored (s .args .used .now) (s .args .path .now) (s .args .d) (c .first-path .last .1 .1 .1 .1 .1 .1 .1 .1 .0) (made c)
+restored : (c : tie.After-first-path) → let s = start c in Restored (s .args .used .now) (s .args .path .now) (s .args .detour .d) (c .first-path .last .1 .1 .1 .1 .0) (made c)
 restored c = record { flags = c .first-path .ensures .0 .flags; kept = c .first-path .ensures .0 .kept }
 
 -- what a tail may cost
-wanted : (c : tie.After-most-wanted) → let s = c .before .before .before .before .before .before .before .before .before .before .before .before .before in Wanted (s .args .slots) (s .args .count) (kept-entries s) (s .args .before) (c .most-wanted .result)
+wanted : (c : tie.After-most-wanted) → let s = c .before .before .before .before .before .before .before .before .before in Wanted (s .args .query .slots) (s .args .detour .count) (kept-entries s) (s .args .detour .before) (c .most-wanted .result)
 wanted c = c .most-wanted .ensures
 
 abbrev asked : tie.After-first-path → tie.After-most-wanted
 asked c = c .before .before .before
 
-result : (c : tie.After-first-path) → let s = start c in FirstWithin (net s) (s .args .start) (s .args .goal) (branch (take (s .args .d) (s .args .path .now)) (barred (kept-entries s) (taking-over (s .args .d) (s .args .parent)))) (made c) (asked c .most-wanted .result) (c .first-path .result)
+result : (c : tie.After-first-path) → let s = start c in FirstWithin (net s) (s .args .query .start) (s .args .query .goal) (branch (take (s .args .detour .d) (s .args .path .now)) (barred (kept-entries s) (taking-over (s .args .detour .d) (s .args .detour .parent)))) (made c) (asked c .most-wanted .result) (c .first-path .result)
 result c = let D = deviation (start c) in c .first-path .ensures .1 _ _ (D .begins) (D .flagged)
 
 abbrev len : tie.After-known-told → ℕ
@@ -80,18 +80,18 @@ abbrev rest : tie.After-known-told → ℕ
 rest c = c .before .len .given .0 .1 .0
 
 first : (c : tie.After-known-told) → let s = start (told c) in
-    First (net s) (s .args .start) (s .args .goal) (branch (take (s .args .d) (s .args .path .now)) (barred (kept-entries s) (taking-over (s .args .d) (s .args .parent)))) (take (len c) (made (told c)))
-    × (cost (net s) (take (len c) (made (told c))) ≡ cost (net s) (take (s .args .d) (s .args .path .now)) + rest c)
+    First (net s) (s .args .query .start) (s .args .query .goal) (branch (take (s .args .detour .d) (s .args .path .now)) (barred (kept-entries s) (taking-over (s .args .detour .d) (s .args .detour .parent)))) (take (len c) (made (told c)))
+    × (cost (net s) (take (len c) (made (told c))) ≡ cost (net s) (take (s .args .detour .d) (s .args .path .now)) + rest c)
 first c = within-tail (result (told c)) (c .before .len .given .1)
 
-extent : (c : tie.After-known-told) → (start (told c) .args .d < len c) × (len c ≤ length (made (told c)))
+extent : (c : tie.After-known-told) → (start (told c) .args .detour .d < len c) × (len c ≤ length (made (told c)))
 extent c = extent-tail (told c .first-path .ensures .0 .reach) (c .before .len .given .1)
 
-count-is : (s : tie.Start) → length (kept-entries s) ≡ s .args .count
-count-is s = length-entries (s .args .n) (s .args .work .now) (s .args .count)
+count-is : (s : tie.Start) → length (kept-entries s) ≡ s .args .detour .count
+count-is s = length-entries (s .args .query .n) (s .args .work .now) (s .args .detour .count)
 
 most-wanted-requires : tie.Need-most-wanted-requires
-most-wanted-requires c κs = let F = filled (c .before .before .before .before .before .before .before .before .before .before .before .before) in (F .kept, F .some)
+most-wanted-requires c κs = let F = filled (c .before .before .before .before .before .before .before .before) in (F .kept, F .some)
 
 first-path-requires : tie.Need-first-path-requires
 first-path-requires c κs = let s = entry c in
@@ -166,7 +166,7 @@ returns-3 c = let i = c .before .before in
     let P = problem s in
     let D = deviation s in
     let F = filled s in
-    let room : s .args .from ≤ s .args .slots = omega (arith, F .entered .border, count-is s, F .kept .upto) in
+    let room : s .args .detour .parent ≤ s .args .query .slots = omega (arith, F .entered .border, count-is s, F .kept .upto) in
     let R = restored (told k) in
     let e = extent k in
     let f = first k in

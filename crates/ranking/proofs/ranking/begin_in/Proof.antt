@@ -8,7 +8,7 @@ use Rattle.ranking.proofs.ranking.begin_in.Statement.{statement}
 use Rattle.ranking.proofs.ranking.begin_in.Tie as tie
 
 abbrev start : tie.After-slice-known3 → tie.Start
-start c = c .before .before .before .before .before .before .before .before .before .before .before
+start c = c .before .before .before .before .before .before .before
 
 abbrev entry : tie.After-reset → tie.Start
 entry c = start (c .before .before)
@@ -19,13 +19,13 @@ freed c = c .before .before .before .before .before .before
 abbrev looked : tie.After-slice-known7 → tie.After-consider
 looked c = c .before .before .before .before .before .before
 
-problem : (s : tie.Start) → Problem (s .args .n) (s .args .start) (s .args .goal) (s .args .tails .now) (s .args .heads .now) (s .args .weights .now) (s .args .first-out .now) (s .args .first-in .now) (s .args .next-in .now) (s .args .overall .now)
+problem : (s : tie.Start) → Problem (s .args .query .n) (s .args .query .start) (s .args .query .goal) (s .args .star .now) (s .args .weights .now) (s .args .overall .now)
 problem s = s .pre .0
 
-space : (s : tie.Start) → Space (s .args .n) (s .args .slots) (s .args .work .now)
+space : (s : tie.Start) → Space (s .args .query .n) (s .args .query .slots) (s .args .work .now)
 space s = s .pre .1 .0
 
-blank : (s : tie.Start) → Blank (s .args .n) (s .args .used .now) (s .args .barred .now) (s .args .path .now)
+blank : (s : tie.Start) → Blank (s .args .query .n) (s .args .used .now) (s .args .barred .now) (s .args .path .now)
 blank s = s .pre .1 .1
 
 consider-requires : tie.Need-consider-requires
@@ -37,12 +37,12 @@ consider-requires c κs = let x = c .before .before .before .before .before in
 same-length : tie.Need-same-length
 same-length c = let x = looked c in
     let s = entry (freed x) in
-    omega (arith, x .consider .kept .1 .1 .1 .1 .1 .1 .1 .1 .1 .0, length-set (s .args .used .now) (s .args .start) 1)
+    omega (arith, x .consider .kept .1 .1 .1 .1 .0, length-set (s .args .used .now) (s .args .query .start) 1)
 
 same-length-2 : tie.Need-same-length-2
 same-length-2 c = let x = looked c in
     let s = entry (freed x) in
-    omega (arith, x .consider .kept .1 .1 .1 .1 .1 .1 .1 .1 .1 .1 .1 .0, length-set (s .args .path .now) 0 (s .args .start))
+    omega (arith, x .consider .kept .1 .1 .1 .1 .1 .1 .0, length-set (s .args .path .now) 0 (s .args .query .start))
 
 returns : tie.Need-returns
 returns c = let x = looked c in
@@ -56,6 +56,7 @@ begin-in-spec =
     tie.close
     (tie.spec
     (λ c κs. search needs)
+    (λ c. search needs)
     (λ c. search needs)
     (λ c. search needs)
     consider-requires

@@ -5,48 +5,47 @@ use mathlib.Core.Path.{_≡_, refl, sym, _∙_}
 use mathlib.Core.List.{List}
 use lib.ListN.{length, getD}
 use Rattle.terms.specs.Network.{Graph, weight}
-use Rattle.labels.specs.Arcs.{graph}
+use Rattle.star.specs.Layout.{graph-of}
 use Rattle.candidates.specs.Slots.{Entry, none, entries}
 use Rattle.ranking.specs.Ranking.{Filled, Along}
 use Rattle.ranking.proofs.BackLaws.{Going, back-some, back-linked, back-le, along-back, going-start, going-filled, going-shared, going-next, going-end}
-use Rattle.branching.proofs.NetworkLaws.{network-heads, network-starts}
 use Rattle.ranking.proofs.splitting.deviations.Statement.{statement}
 use Rattle.ranking.proofs.splitting.deviations.Tie as tie
 
 abbrev Inv-loop : tie.InvT-loop
-Inv-loop tails heads weights first-out first-in next-in start goal overall used₀ barred₀ path₀ work₀ n slots count limit rank shared len cost now₀ d₀ before₀ used barred path work now d before =
-    Going n slots (graph tails heads weights) start goal limit rank work₀ count barred₀ len work now used barred path d before
+Inv-loop query star weights overall used₀ barred₀ path₀ work₀ count stem shared now₀ d₀ before₀ used barred path work now d before =
+    Going (query .n) (query .slots) (graph-of star weights) (query .start) (query .goal) (query .limit) (stem .rank) work₀ count barred₀ (stem .len) work now used barred path d before
     × (length path ≡ length path₀) × (length work ≡ length work₀)
 
 abbrev μ-loop : tie.MeasureT-loop
-μ-loop tails heads weights first-out first-in next-in start goal overall used₀ barred₀ path₀ work₀ n slots count limit rank shared len cost now₀ d₀ before₀ used barred path work now d before =
+μ-loop query star weights overall used₀ barred₀ path₀ work₀ count stem shared now₀ d₀ before₀ used barred path work now d before =
     d
 
 -- the start of the function
 abbrev start : tie.After-slice-known4 Inv-loop μ-loop → tie.Start Inv-loop μ-loop
-start c = c .before .before .before .before .before .before .before .before .before .before .before
+start c = c .before .before .before .before .before .before .before
 
 abbrev entry : tie.At-loop Inv-loop μ-loop → tie.Start Inv-loop μ-loop
 entry l = start (l .before)
 
 abbrev net : tie.Start Inv-loop μ-loop → Graph
-net s = graph (s .args .tails .now) (s .args .heads .now) (s .args .weights .now)
+net s = graph-of (s .args .star .now) (s .args .weights .now)
 
-filled : (s : tie.Start Inv-loop μ-loop) → Filled (s .args .n) (s .args .slots) (net s) (s .args .start) (s .args .rank + 1) (s .args .work .now) (s .args .count)
+filled : (s : tie.Start Inv-loop μ-loop) → Filled (s .args .query .n) (s .args .query .slots) (net s) (s .args .query .start) (s .args .stem .rank + 1) (s .args .work .now) (s .args .count)
 filled s = s .pre .1 .0
 
 -- at the loop's test
 abbrev kept-entries : tie.At-loop Inv-loop μ-loop → List Entry
-kept-entries l = entries (entry l .args .n) (l .loop .work) (l .loop .now)
+kept-entries l = entries (entry l .args .query .n) (l .loop .work) (l .loop .now)
 
-now-filled : (l : tie.At-loop Inv-loop μ-loop) → let s = entry l in Filled (s .args .n) (s .args .slots) (net s) (s .args .start) (s .args .rank + 1) (l .loop .work) (l .loop .now)
+now-filled : (l : tie.At-loop Inv-loop μ-loop) → let s = entry l in Filled (s .args .query .n) (s .args .query .slots) (net s) (s .args .query .start) (s .args .stem .rank + 1) (l .loop .work) (l .loop .now)
 now-filled l = going-filled (filled (entry l)) (l .loop .inv .0)
 
-place : (l : tie.At-loop Inv-loop μ-loop) → let s = entry l in Along (s .args .n) (net s) (s .args .start) (s .args .goal) (kept-entries l) (s .args .rank) (l .loop .used) (l .loop .barred) (l .loop .path) (l .loop .d) (l .loop .before)
+place : (l : tie.At-loop Inv-loop μ-loop) → let s = entry l in Along (s .args .query .n) (net s) (s .args .query .start) (s .args .query .goal) (kept-entries l) (s .args .stem .rank) (l .loop .used) (l .loop .barred) (l .loop .path) (l .loop .d) (l .loop .before)
 place l = l .loop .inv .0 .place
 
 -- in the loop
-more : (c : tie.In-loop Inv-loop μ-loop) → let l = c .before in getD (kept-entries l) (entry l .args .rank) none .shared < l .loop .d
+more : (c : tie.In-loop Inv-loop μ-loop) → let l = c .before in getD (kept-entries l) (entry l .args .stem .rank) none .shared < l .loop .d
 more c = let l = c .before in omega (arith, going-shared (filled (entry l)) (l .loop .inv .0), entry l .pre .1 .1 .1, c .loop-test .taken)
 
 -- after the step back
@@ -58,11 +57,10 @@ stepped c = c .before .before
 
 arc : (b : tie.After-step-back Inv-loop μ-loop) → let l = inner b .before in b .step-back .result ≡ weight (net (entry l)) (getD (l .loop .path) (l .loop .d - 1 - 1) 0) (getD (l .loop .path) (l .loop .d - 1) 0)
 arc b = let l = inner b .before in
-    let n = entry l .pre .0 .network in
-    b .step-back .ensures .1 _ _ (n .arcs) (n .star) (back-linked (now-filled l .entered) (place l) (more (inner b)))
+    b .step-back .ensures .1 (back-linked (now-filled l .entered) (place l) (more (inner b)))
 
 back-place : (b : tie.After-step-back Inv-loop μ-loop) → let l = inner b .before in let s = entry l in
-    Along (s .args .n) (net s) (s .args .start) (s .args .goal) (kept-entries l) (s .args .rank) (b .step-back .last .1 .1 .1 .0) (l .loop .barred) (l .loop .path) (l .loop .d - 1) (l .loop .before - b .step-back .result)
+    Along (s .args .query .n) (net s) (s .args .query .start) (s .args .query .goal) (kept-entries l) (s .args .stem .rank) (b .step-back .last .1 .1 .0) (l .loop .barred) (l .loop .path) (l .loop .d - 1) (l .loop .before - b .step-back .result)
 back-place b = let l = inner b .before in along-back (now-filled l .entered) (place l) (more (inner b)) (arc b) (rw (place l .laid .flags-long) at (b .step-back .ensures .0))
 
 abbrev inside : tie.After-deviate Inv-loop μ-loop → tie.After-step-back Inv-loop μ-loop
@@ -79,7 +77,7 @@ step-back-requires c κs = let i = c .before .before in
     let l = i .before in
     let n = entry l .pre .0 .network in
     let z : l .loop .d - 1 + 1 ≡ l .loop .d = omega (arith, i .loop-test .taken) in
-    rw (place l .laid .flags-long) ((network-heads n, network-starts n), (rw z (place l .laid), back-some (now-filled l .entered) (place l) (more i)))
+    rw (place l .laid .flags-long) (n, (rw z (place l .laid), back-some (now-filled l .entered) (place l) (more i)))
 
 sub-before : tie.Need-sub-before Inv-loop μ-loop
 sub-before c = let b = stepped c in let l = inner b .before in back-le (now-filled l .entered) (place l) (more (inner b)) (arc b)
@@ -99,7 +97,7 @@ loop-again c = let e = c .before .before .before .before .before .before .before
     let l = inner b .before in
     let s = entry l in
     let i = l .loop .inv in
-    let k = e .deviate .kept .1 .1 .1 .1 .1 .1 .1 .1 .1 .1 .1 in (
+    let k = e .deviate .kept .1 .1 .1 .1 .1 .1 in (
       going-next (filled s) (i .0) (more (inner b)) (back-place b) (e .deviate .ensures .0) (e .deviate .ensures .1 .0) (e .deviate .ensures .1 .1 .0) (e .deviate .ensures .1 .1 .1) (k .0),
       k .0 ∙ i .1,
       k .1 .0 ∙ i .2,
@@ -121,7 +119,7 @@ returns : tie.Need-returns Inv-loop μ-loop
 returns c = let l = c .before in
     let s = entry l in
     let G = l .loop .inv .0 in
-    let z : s .args .shared ≡ l .loop .d = omega (arith, going-shared (filled s) G, s .pre .1 .1 .1, G .place .lower, c .loop-test .left) in
+    let z : s .args .stem .shared ≡ l .loop .d = omega (arith, going-shared (filled s) G, s .pre .1 .1 .1, G .place .lower, c .loop-test .left) in
     (G .changed, going-end (filled s) G (sym z ∙ s .pre .1 .1 .1))
 
 pub deviations-spec : {M : Type 1} → statement M

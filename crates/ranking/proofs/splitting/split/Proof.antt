@@ -9,12 +9,12 @@ use Rattle.ranking.proofs.splitting.split.Statement.{statement}
 use Rattle.ranking.proofs.splitting.split.Tie as tie
 
 abbrev entry : tie.After-slice-known → tie.Start
-entry c = c .before .before .before .before .before .before .before .before
+entry c = c .before .before .before .before
 
-few : (c : tie.After-slice-known) → entry c .args .n ≤ 200
+few : (c : tie.After-slice-known) → entry c .args .query .n ≤ 200
 few c = problem-few (entry c .pre .0)
 
-places : (c : tie.After-slice-known) → entry c .args .n + 1 ≤ 201
+places : (c : tie.After-slice-known) → entry c .args .query .n + 1 ≤ 201
 places c = omega (arith, few c)
 
 add-places : tie.Need-add-places

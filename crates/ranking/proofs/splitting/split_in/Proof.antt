@@ -5,7 +5,7 @@ use mathlib.Core.Path.{_≡_, _∙_, ap}
 use mathlib.Core.List.{List}
 use lib.ListN.{length, getD}
 use Rattle.terms.specs.Network.{Graph}
-use Rattle.labels.specs.Arcs.{graph}
+use Rattle.star.specs.Layout.{graph-of}
 use Rattle.candidates.specs.Slots.{Entry, none, entries}
 use Rattle.candidates.specs.Routes.{size}
 use Rattle.branching.specs.Found.{Idle}
@@ -17,7 +17,7 @@ use Rattle.ranking.proofs.splitting.split_in.Statement.{statement}
 use Rattle.ranking.proofs.splitting.split_in.Tie as tie
 
 abbrev start : tie.After-slice-known4 → tie.Start
-start c = c .before .before .before .before .before .before .before .before .before .before .before
+start c = c .before .before .before .before .before .before .before
 
 abbrev entry : tie.After-shared-at → tie.Start
 entry c = start (c .before .before)
@@ -39,27 +39,27 @@ counted c = c .before .before .before .before .before
 
 -- what is known at the start
 abbrev net : tie.Start → Graph
-net s = graph (s .args .tails .now) (s .args .heads .now) (s .args .weights .now)
+net s = graph-of (s .args .star .now) (s .args .weights .now)
 
 abbrev kept-entries : tie.Start → List Entry
-kept-entries s = entries (s .args .n) (s .args .work .now) (s .args .count)
+kept-entries s = entries (s .args .query .n) (s .args .work .now) (s .args .count)
 
 abbrev top : tie.Start → Entry
 top s = getD (kept-entries s) (s .args .rank) none
 
-problem : (s : tie.Start) → Problem (s .args .n) (s .args .start) (s .args .goal) (s .args .tails .now) (s .args .heads .now) (s .args .weights .now) (s .args .first-out .now) (s .args .first-in .now) (s .args .next-in .now) (s .args .overall .now)
+problem : (s : tie.Start) → Problem (s .args .query .n) (s .args .query .start) (s .args .query .goal) (s .args .star .now) (s .args .weights .now) (s .args .overall .now)
 problem s = s .pre .0
 
-filled : (s : tie.Start) → Filled (s .args .n) (s .args .slots) (net s) (s .args .start) (s .args .rank) (s .args .work .now) (s .args .count)
+filled : (s : tie.Start) → Filled (s .args .query .n) (s .args .query .slots) (net s) (s .args .query .start) (s .args .rank) (s .args .work .now) (s .args .count)
 filled s = s .pre .1 .0
 
-idle : (s : tie.Start) → Idle (s .args .n + 1) (s .args .used .now) (s .args .barred .now)
+idle : (s : tie.Start) → Idle (s .args .query .n + 1) (s .args .used .now) (s .args .barred .now)
 idle s = s .pre .1 .1 .0 .idle
 
-used-long : (s : tie.Start) → length (s .args .used .now) ≡ s .args .n + 1
+used-long : (s : tie.Start) → length (s .args .used .now) ≡ s .args .query .n + 1
 used-long s = s .pre .1 .1 .0 .used-long
 
-due : (s : tie.Start) → Due (s .args .n) (net s) (s .args .start) (s .args .goal) (s .args .slots) (s .args .limit) (kept-entries s) (s .args .rank)
+due : (s : tie.Start) → Due (s .args .query .n) (net s) (s .args .query .start) (s .args .query .goal) (s .args .query .slots) (s .args .query .limit) (kept-entries s) (s .args .rank)
 due s = s .pre .1 .1 .1
 
 -- the path's length
@@ -82,11 +82,11 @@ route c = c .lay-out .last .1 .1 .1 .1 .1 .0
 abbrev marked-flags : tie.After-mark → List ℕ
 marked-flags c = c .mark .last .1 .1 .0
 
-marked-laid : (c : tie.After-mark) → let s = entry (first (measured (laid c))) in Laid (s .args .n + 1) (marked-flags c) (route (laid c)) (total (measured (laid c)))
+marked-laid : (c : tie.After-mark) → let s = entry (first (measured (laid c))) in Laid (s .args .query .n + 1) (marked-flags c) (route (laid c)) (total (measured (laid c)))
 marked-laid c = rw (used-long (entry (first (measured (laid c))))) at (c .mark .ensures)
 
 along : (c : tie.After-cost-at) → let m = flagged c in let o = laid m in let s = entry (first (measured o)) in
-    Along (s .args .n) (net s) (s .args .start) (s .args .goal) (kept-entries s) (s .args .rank) (marked-flags m) (s .args .barred .now) (route o) (total (measured o)) (c .cost-at .result)
+    Along (s .args .query .n) (net s) (s .args .query .start) (s .args .query .goal) (kept-entries s) (s .args .rank) (marked-flags m) (s .args .barred .now) (route o) (total (measured o)) (c .cost-at .result)
 along c =
     let m = flagged c in
     let o = laid m in

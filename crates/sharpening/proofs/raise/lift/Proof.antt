@@ -1,7 +1,7 @@
 -- `raise::lift` raises the label of x, or leaves it. Assumes nothing.
 use Prim.Native.Nat.{_≤_}
 use native.Mathlib.Omega.{arith}
-use Rattle.exits.specs.Star.{longest}
+use Rattle.exits.specs.Small.{longest}
 use Rattle.sharpening.proofs.SharpLaws.{raises-set, small-set}
 use borrow.Author.Needs.{needs}
 use Rattle.sharpening.proofs.raise.lift.Statement.{statement}

@@ -4,7 +4,7 @@ use native.Mathlib.Omega.{arith}
 use mathlib.Core.Path.{_≡_, refl}
 use mathlib.Core.Logic.{⊎-elim}
 use lib.ListN.{length}
-use Rattle.exits.specs.Star.{Small}
+use Rattle.exits.specs.Small.{Small}
 use Rattle.sharpening.specs.Sharp.{Lifted}
 use Rattle.sharpening.proofs.SharpLaws.{lifted-none, lifted-pass, lifted-more}
 use borrow.Author.Needs.{needs}

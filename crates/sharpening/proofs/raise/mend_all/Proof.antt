@@ -5,8 +5,8 @@ use mathlib.Core.Path.{_≡_, refl}
 use mathlib.Core.List.{List}
 use lib.ListN.{length, getD}
 use Rattle.terms.proofs.ListLaws.{clash}
-use Rattle.labels.specs.Arcs.{graph, Arcs}
-use Rattle.exits.specs.Star.{Star, Small}
+use Rattle.star.specs.Layout.{graph-of}
+use Rattle.exits.specs.Small.{Small}
 use Rattle.sharpening.specs.Sharp.{Lifted}
 use Rattle.sharpening.proofs.SharpLaws.{Mending, mending-start, mending-next, mending-goal, mending-at, mending-end, from-not}
 use borrow.Author.Needs.{needs}
@@ -14,51 +14,51 @@ use Rattle.sharpening.proofs.raise.mend_all.Statement.{statement}
 use Rattle.sharpening.proofs.raise.mend_all.Tie as tie
 
 abbrev Inv-loop : tie.InvT-loop
-Inv-loop heads weights first-out nodes taken goal used labels₀ i₀ labels i =
+Inv-loop star weights nodes taken goal used labels₀ i₀ labels i =
     (i ≤ taken) × Small (length used) labels
-    × ((n : ℕ) (ts os : List ℕ) → Arcs n ts heads weights → Star n ts heads first-out → getD os goal 0 ≡ 0 → Lifted goal nodes taken os labels₀ → Mending (graph ts heads weights) goal used nodes i os labels)
+    × ((os : List ℕ) → getD os goal 0 ≡ 0 → Lifted goal nodes taken os labels₀ → Mending (graph-of star weights) goal used nodes i os labels)
 
 abbrev μ-loop : tie.MeasureT-loop
-μ-loop heads weights first-out nodes taken goal used labels₀ i₀ labels i = i
+μ-loop star weights nodes taken goal used labels₀ i₀ labels i = i
 
 -- the start of the function, from the loop's head, and that from where a node is read
 abbrev start : tie.At-loop Inv-loop μ-loop → tie.Start Inv-loop μ-loop
-start c = c .before .before .before .before .before .before .before
+start c = c .before .before .before .before .before .before
 
-abbrev head : tie.After-shared-slice-known6 Inv-loop μ-loop → tie.At-loop Inv-loop μ-loop
+abbrev head : tie.After-shared-slice-known5 Inv-loop μ-loop → tie.At-loop Inv-loop μ-loop
 head c = c .before .before
 
 loop-holds : tie.Need-loop-holds Inv-loop μ-loop
-loop-holds c = (omega arith, c .before .before .before .before .before .before .pre .1 .1 .0, λ n ts os a s z l. mending-start l)
+loop-holds c = (omega arith, c .before .before .before .before .before .pre .1 .0, λ os z l. mending-start l)
 
 cast-x : tie.Need-cast-x Inv-loop μ-loop
-cast-x c = omega (arith, c .shared-slice-known6 .given (head c .loop .i - 1))
+cast-x c = omega (arith, c .shared-slice-known5 .given (head c .loop .i - 1))
 
 mend-requires : tie.Need-mend-requires Inv-loop μ-loop
 mend-requires c κs =
     let l = head (c .before .before) in
     let p = start l .pre in
-    (p .0, (p .1 .0, (l .loop .inv .1, p .1 .1 .1 .below _)))
+    (p .0, (l .loop .inv .1, p .1 .1 .below _))
 
 returns : tie.Need-returns Inv-loop μ-loop
-returns c = (c .before .before .before .mend .ensures .0, λ n ts os bar a s e l free k. clash e refl)
+returns c = (c .before .before .before .mend .ensures .0, λ os bar e l free k. clash e refl)
 
 loop-again : tie.Need-loop-again Inv-loop μ-loop
 loop-again c =
     let m = c .before .before .before in
     let t = m .before .before in
-    (omega arith, m .mend .ensures .0, λ n ts os a s z l. mending-next refl (t .if1 .taken) (m .mend .ensures .1 n ts a s (from-not _ (c .if2 .left))) (mending-at (omega arith) (head (t .before) .loop .inv .2 n ts os a s z l)))
+    (omega arith, m .mend .ensures .0, λ os z l. mending-next refl (t .if1 .taken) (m .mend .ensures .1 (from-not _ (c .if2 .left))) (mending-at (omega arith) (head (t .before) .loop .inv .2 os z l)))
 
 loop-again-2 : tie.Need-loop-again-2 Inv-loop μ-loop
 loop-again-2 c =
     let i = head (c .before) .loop .inv in
-    (omega arith, i .1, λ n ts os a s z l. mending-goal refl (c .if1 .left) z (mending-at (omega arith) (i .2 n ts os a s z l)))
+    (omega arith, i .1, λ os z l. mending-goal refl (c .if1 .left) z (mending-at (omega arith) (i .2 os z l)))
 
 returns-2 : tie.Need-returns-2 Inv-loop μ-loop
 returns-2 c =
     let l = c .before .loop in
     let h : l .i ≡ 0 = omega arith in
-    (l .inv .1, λ n ts os bar a s e k free g. mending-end free g (mending-at h (l .inv .2 n ts os a s (g .goal-zero) k)))
+    (l .inv .1, λ os bar e k free g. mending-end free g (mending-at h (l .inv .2 os (g .goal-zero) k)))
 
 pub mend-all-spec : {M : Type 1} → statement M
 mend-all-spec =

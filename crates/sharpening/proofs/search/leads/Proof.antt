@@ -8,15 +8,15 @@ use Rattle.sharpening.proofs.search.leads.Statement.{statement}
 use Rattle.sharpening.proofs.search.leads.Tie as tie
 
 abbrev Inv-loop : tie.InvT-loop
-Inv-loop heads weights first-out goal overall used keys x key most at₀ left₀ at left =
+Inv-loop star weights goal overall used keys x key most at₀ left₀ at left =
     at < length overall
 
 abbrev μ-loop : tie.MeasureT-loop
-μ-loop heads weights first-out goal overall used keys x key most at₀ left₀ at left = left
+μ-loop star weights goal overall used keys x key most at₀ left₀ at left = left
 
 -- the start of the function, and the next node
 abbrev start : tie.At-loop Inv-loop μ-loop → tie.Start Inv-loop μ-loop
-start c = c .before .before .before .before .before .before .before
+start c = c .before .before .before .before .before .before
 
 abbrev head : tie.After-known-told Inv-loop μ-loop → tie.At-loop Inv-loop μ-loop
 head c = c .before .before .before .before .before .before
@@ -33,7 +33,7 @@ sub-left c = omega arith
 tight-exit-requires : tie.Need-tight-exit-requires Inv-loop μ-loop
 tight-exit-requires c κs =
     let p = start (c .before .before) .pre in
-    (p .0 .0, ((p .0 .1, c .before .before .loop .inv), p .1 .1))
+    ((p .0, c .before .before .loop .inv), p .1 .1)
 
 cast-at : tie.Need-cast-at Inv-loop μ-loop
 cast-at c = omega (arith, next-in c)

@@ -3,7 +3,7 @@ use Prim.Native.Nat.{ℕ, _+_, _-_, _*_, _≤_, _<_}
 use native.Mathlib.Omega.{arith}
 use mathlib.Core.Path.{_≡_, refl, _∙_}
 use lib.ListN.{length, getD, set, length-set}
-use Rattle.exits.specs.Star.{longest}
+use Rattle.exits.specs.Small.{longest}
 use Rattle.sharpening.specs.Sharp.{Listed, Front}
 use Rattle.sharpening.proofs.SharpLaws.{listed-set, listed-to}
 use borrow.Author.Needs.{needs}
@@ -11,15 +11,15 @@ use Rattle.sharpening.proofs.search.search.Statement.{statement}
 use Rattle.sharpening.proofs.search.search.Tie as tie
 
 abbrev Inv-loop : tie.InvT-loop
-Inv-loop heads weights first-out goal overall used keys₀ nodes₀ met most listed₀ taken₀ floor₀ keys nodes listed taken floor =
+Inv-loop star weights goal overall used keys₀ nodes₀ met most listed₀ taken₀ floor₀ keys nodes listed taken floor =
     Front (length overall) keys nodes taken listed × (length keys ≡ length keys₀) × (length nodes ≡ length nodes₀)
 
 abbrev μ-loop : tie.MeasureT-loop
-μ-loop heads weights first-out goal overall used keys₀ nodes₀ met most listed₀ taken₀ floor₀ keys nodes listed taken floor = length nodes₀ - taken
+μ-loop star weights goal overall used keys₀ nodes₀ met most listed₀ taken₀ floor₀ keys nodes listed taken floor = length nodes₀ - taken
 
 -- the start of the function, from the loop's head
 abbrev start : tie.At-loop Inv-loop μ-loop → tie.Start Inv-loop μ-loop
-start c = c .before .before .before .before .before .before .before .before
+start c = c .before .before .before .before .before .before .before
 
 most-small : (c : tie.At-loop Inv-loop μ-loop) → start c .args .most ≤ longest
 most-small c = start c .pre .1 .0 .2
@@ -58,7 +58,7 @@ exchanged c =
     listed-set {taken = l .taken} {met = l .listed} _ _ (simp length-set (first-in k)) (node-in k) more (simp length-set (f .upto)) (listed-set _ _ (place-in k) (f .below _) (f .part) (f .upto) f)
 
 loop-holds : tie.Need-loop-holds Inv-loop μ-loop
-loop-holds c = (c .before .before .before .before .before .before .before .pre .1 .1, refl, refl)
+loop-holds c = (c .before .before .before .before .before .before .pre .1 .1, refl, refl)
 
 pick-requires : tie.Need-pick-requires Inv-loop μ-loop
 pick-requires c κs = let l = c .before .before .before in let f = l .loop .inv .0 in rw (f .keyed .long) (f, c .before .before .loop-test .taken)
@@ -121,7 +121,7 @@ loop-again c =
     let s = c .before .before .before .before in
     let k = picked (s .before .before .before .before) in
     let i = head k .loop .inv in
-    (s .spread .ensures, s .spread .kept .1 .1 .1 .1 .1 .1 .1 .0 ∙ i .1, s .spread .kept .1 .1 .1 .1 .1 .1 .1 .1 .0 ∙ simp length-set (i .2))
+    (s .spread .ensures, s .spread .kept .1 .1 .1 .1 .1 .1 .0 ∙ i .1, s .spread .kept .1 .1 .1 .1 .1 .1 .1 .0 ∙ simp length-set (i .2))
 
 beyond-requires-2 : tie.Need-beyond-requires-2 Inv-loop μ-loop
 beyond-requires-2 c κs = most-small (c .before)

@@ -6,7 +6,7 @@ use Rattle.sharpening.proofs.search.search_from.Tie as tie
 
 -- the start of the function, where the key is no mark
 abbrev start : tie.Else1 → tie.Start
-start c = c .before .before .before .before .before .before .before .before .before .before
+start c = c .before .before .before .before .before .before .before .before .before
 
 spread-requires : tie.Need-spread-requires
 spread-requires c κs =

@@ -4,7 +4,7 @@ use native.Mathlib.Omega.{arith}
 use mathlib.Core.Path.{_≡_, refl}
 use lib.ListN.{length, getD, length-set}
 use lib.Seq.{ext-getD}
-use Rattle.labels.proofs.Stores.{set-each}
+use Rattle.star.proofs.Stores.{set-each}
 use borrow.Author.Needs.{needs}
 use Rattle.sharpening.proofs.sharp.copy.Statement.{statement}
 use Rattle.sharpening.proofs.sharp.copy.Tie as tie

@@ -10,7 +10,7 @@ use Rattle.sharpening.proofs.sharp.sharpen.Statement.{statement}
 use Rattle.sharpening.proofs.sharp.sharpen.Tie as tie
 
 abbrev start : tie.After-slice-known → tie.Start
-start c = c .before .before .before .before .before .before .before
+start c = c .before .before .before .before .before .before
 
 few : (c : tie.After-slice-known) → length (start c .args .overall .now) ≤ 201
 few c = start c .pre .1 .1 .2

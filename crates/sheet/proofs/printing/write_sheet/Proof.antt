@@ -4,8 +4,8 @@ use mathlib.Core.Path.{sym, _∙_, ap}
 use Rattle.image.specs.Answers.{checked}
 use Rattle.image.specs.Refusals.{numberOf, placeOf}
 use Rattle.image.proofs.CheckLaws.{rejected}
-use Rattle.calls.specs.Decoded.{Accepted}
-use Rattle.calls.proofs.RowLaws.{given-network}
+use Rattle.loading.specs.Accepted.{Accepted}
+use Rattle.outcomes.proofs.RowLaws.{given-network}
 use Rattle.sheet.specs.Sheet.{refused-line}
 use Rattle.sheet.proofs.TextLaws.{wrote-as}
 use Rattle.sheet.proofs.PrintLaws.{sheet-refused, sheet-told, sheet-printable}

@@ -1,0 +1,40 @@
+-- `shortest::check_shortest` meets its contract. Assumes nothing.
+use native.Mathlib.Omega.{arith}
+use mathlib.Core.Path.{_≡_, sym, _∙_, ap}
+use Rattle.image.specs.Outcome.{gives, sound}
+use Rattle.image.specs.Answers.{checked}
+use Rattle.image.specs.Calls.{sizes}
+use Rattle.image.proofs.OutcomeLaws.{then-fault, then-next, outcome-fault, outcome-sound, refuses-fault}
+use Rattle.outcomes.specs.Calls.{search-rows, shortest-rows}
+use Rattle.loading.specs.Accepted.{Accepted}
+use Rattle.outcomes.proofs.RowLaws.{given-sizes, sizes-of, search-sound, too-short, long-enough}
+use borrow.Author.Needs.{needs}
+use Rattle.column_calls.proofs.shortest.check_shortest.Statement.{statement}
+use Rattle.column_calls.proofs.shortest.check_shortest.Tie as tie
+
+returns : tie.Need-returns
+unfolding shortest-rows
+returns c = let k = c .before .before in
+    let a = k .before .before .args in
+    let told = ap checked (c .enum-told .given .1) in
+    told ∙ sym (outcome-fault _ (then-fault _ (refuses-fault (search-rows (a .image .now) (a .column) (a .start) (a .goal)) (sizes (a .image .now)) (sym told ∙ k .check-search .ensures))))
+
+-- where the first rows give sizes, none of them applies and they are the image's
+abbrev start : tie.After-answer → tie.Start
+start c = c .before .before .before .before
+
+passes : (c : tie.After-answer) → (search-rows (start c .args .image .now) (start c .args .column) (start c .args .start) (start c .args .goal) ≡ sound) × Accepted (start c .args .image .now) (c .answer .given .0 .0 .n) (c .answer .given .0 .0 .m) (c .answer .given .0 .0 .k)
+passes c = given-sizes _ (λ e. search-sound _ _ _ _ e .accepted) (sym (ap checked (c .answer .given .1)) ∙ c .before .before .check-search .ensures)
+
+returns-2 : tie.Need-returns-2
+unfolding shortest-rows
+returns-2 c = let p = passes (c .before .before .before) in
+    sym (outcome-fault _ (then-next _ (p .0) ∙ too-short _ _ (omega (arith, p .1 .nodes-are, c .if1 .taken))))
+
+returns-3 : tie.Need-returns-3
+unfolding shortest-rows
+returns-3 c = let p = passes (c .before .before .before) in
+    ap gives (sizes-of (p .1)) ∙ sym (outcome-sound _ (then-next _ (p .0) ∙ long-enough _ _ (omega (arith, p .1 .nodes-are, c .if1 .left))))
+
+pub check-shortest-spec : {M : Type 1} → statement M
+check-shortest-spec = tie.close (tie.spec (λ c κs. search needs) (λ c. search needs) (λ c. search needs) returns (λ c. search needs) returns-2 returns-3)

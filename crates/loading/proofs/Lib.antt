@@ -1,0 +1,4 @@
+pub mod PartLaws
+pub mod DecodeLaws
+pub mod ShapeLaws
+pub mod LoadLaws

@@ -1,0 +1,9 @@
+// What each call comes to, for every input, is defined in specs/Calls.antt. Here are the rows of the refusal
+// table that calls share.
+mod rows;
+
+pub use rows::check_costs;
+pub use rows::check_ends;
+pub use rows::check_ranking;
+pub use rows::check_search;
+pub use rows::is_column;

@@ -1,0 +1,7 @@
+pub mod Stores
+pub mod ArcLaws
+pub mod StarLaws
+pub mod NetworkLaws
+pub mod LayoutLaws
+-- for the proofs of this crate
+mod ChainLaws

@@ -1,0 +1,5 @@
+pub mod Arcs
+pub mod Chains
+pub mod Found
+pub mod Layout
+pub mod Star

@@ -1,0 +1,195 @@
+// Random networks, and random networks with something changed: the calls on their lists and their
+// image.
+use super::image_calls::build_agrees;
+use super::image_calls::note_image;
+use super::image_networks::note_network;
+use super::plain_answers::build_answer;
+use test_fixtures::networks::draw_network;
+use test_fixtures::networks::number_at;
+use test_fixtures::plain_image::encode;
+use test_fixtures::plain_image::total;
+use test_fixtures::random::Random;
+use test_fixtures::random::draw;
+use test_fixtures::report::BUILD;
+use test_fixtures::report::CHECK;
+use test_fixtures::report::Report;
+
+// The calls on a sound network.
+fn note_sound(
+    report: Report,
+    n: u32,
+    k: u32,
+    nodes: &[u16],
+    costs: &[u32],
+    image: &mut [u8],
+) -> Report {
+    encode(n, k, nodes, costs, image);
+    note_network(report, n, k, nodes, costs, image)
+}
+
+// The calls on lists that may be in error, held to the plain answers.
+fn note_lists(
+    mut report: Report,
+    n: u32,
+    k: u32,
+    nodes: &[u16],
+    costs: &[u32],
+    image: &mut [u8],
+) -> Report {
+    encode(n, k, nodes, costs, image);
+    let room = image.len();
+    let expected = build_answer(n, k, nodes, costs, room);
+    report = note_image(report, image);
+    if expected.number != 0 {
+        return report.note(BUILD, build_agrees(n, k, nodes, costs, room, expected, &[]));
+    }
+    report.note(
+        BUILD,
+        build_agrees(n, k, nodes, costs, room, expected, image),
+    )
+}
+
+// Changes one node number, to 0 to 9.
+fn change_node(nodes: &mut [u16], place: u32, number: u32) {
+    if nodes.len() == 0 {
+        return;
+    }
+    let at = (place as usize) % nodes.len();
+    if at < nodes.len() {
+        nodes[at] = (number % 10) as u16;
+    }
+}
+
+// Changes one cost, to 999,998 to 1,000,002.
+fn change_cost(costs: &mut [u32], place: u32, number: u32) {
+    if costs.len() == 0 {
+        return;
+    }
+    let at = (place as usize) % costs.len();
+    if at < costs.len() {
+        costs[at] = 999998 + number % 5;
+    }
+}
+
+// Changes a node number, a cost or both.
+fn change_lists(nodes: &mut [u16], costs: &mut [u32], change: u32, place: u32, number: u32) {
+    if change == 0 {
+        change_node(nodes, place, number);
+        return;
+    }
+    if change == 1 {
+        change_cost(costs, place, number);
+        return;
+    }
+    change_node(nodes, place, number);
+    change_cost(costs, place, number);
+}
+
+// The calls after one of five changes, as the drawn numbers have it: n, k, a node, a cost or both.
+fn note_changed(
+    report: Report,
+    n: u32,
+    k: u32,
+    nodes: &mut [u16],
+    costs: &mut [u32],
+    numbers: &[u32],
+    image: &mut [u8],
+) -> Report {
+    let change = number_at(numbers, 4) % 5;
+    let place = number_at(numbers, 5);
+    let number = number_at(numbers, 6);
+    if change == 4 {
+        return note_lists(report, number % 10, k, nodes, costs, image);
+    }
+    if change == 3 {
+        return note_lists(report, n, number % 10, nodes, costs, image);
+    }
+    change_lists(nodes, costs, change, place, number);
+    note_lists(report, n, k, nodes, costs, image)
+}
+
+// The calls on a drawn network, or on one that is changed.
+fn note_drawn(
+    report: Report,
+    changed: bool,
+    n: u32,
+    k: u32,
+    nodes: &mut [u16],
+    costs: &mut [u32],
+    numbers: &[u32],
+    image: &mut [u8],
+) -> Report {
+    if changed {
+        note_changed(report, n, k, nodes, costs, numbers, image)
+    } else {
+        note_sound(report, n, k, nodes, costs, image)
+    }
+}
+
+// Draws a network from numbers, and lends its lists and as much as its image takes.
+fn note_numbers(
+    report: Report,
+    changed: bool,
+    numbers: &[u32],
+    nodes: &mut [u16],
+    costs: &mut [u32],
+    image: &mut [u8],
+) -> Report {
+    let drawn = draw_network(numbers, nodes, costs);
+    let node_count = drawn.node_count;
+    let cost_count = drawn.cost_count;
+    if nodes.len() < node_count {
+        return report.note(CHECK, false);
+    }
+    if costs.len() < cost_count {
+        return report.note(CHECK, false);
+    }
+    let bytes = total(&nodes[0..node_count], &costs[0..cost_count]) as usize;
+    if image.len() < bytes {
+        return report.note(CHECK, false);
+    }
+    let node_list = &mut nodes[0..node_count];
+    let cost_list = &mut costs[0..cost_count];
+    let image_part = &mut image[0..bytes];
+    note_drawn(
+        report,
+        changed,
+        drawn.n,
+        drawn.k,
+        node_list,
+        cost_list,
+        numbers,
+        image_part,
+    )
+}
+
+// 3,000 networks.
+fn networks_with(
+    changed: bool,
+    numbers: &mut [u32],
+    nodes: &mut [u16],
+    costs: &mut [u32],
+    image: &mut [u8],
+) -> Report {
+    let mut random = Random { state: 1 };
+    let mut report = Report::new();
+    for _ in 0..3000u32 {
+        random = draw(random, numbers);
+        report = note_numbers(report, changed, numbers, nodes, costs, image);
+    }
+    report
+}
+
+// The most arcs are 56, and the most costs 448.
+fn networks(changed: bool) -> Report {
+    let mut numbers = [0u32; 520];
+    let mut nodes = [0u16; 112];
+    let mut costs = [0u32; 448];
+    let mut image = [0u8; 2040];
+    networks_with(changed, &mut numbers, &mut nodes, &mut costs, &mut image)
+}
+
+pub fn run() {
+    networks(false).print(b"random networks");
+    networks(true).print(b"changed networks");
+}
