@@ -16,7 +16,7 @@ use Rattle.star.specs.Layout.{graph-of}
 use Rattle.labels.specs.Labels.{far, Least}
 use Rattle.candidates.specs.Slots.{Entry, entries, entry-at}
 use Rattle.candidates.specs.Routes.{routes}
-use Rattle.candidates.specs.Rows.{rows-of}
+use Rattle.listing.specs.Rows.{rows-of}
 use Rattle.image.specs.Outcome.{Fault, sound, fault, _then_, after}
 use Rattle.image.specs.Layout.{netOf}
 use Rattle.image.proofs.NetworkLaws.{accepted-network}

@@ -1,8 +1,8 @@
 // The first paths of the ranking order in one column of an accepted image.
-use candidates::clear;
-use candidates::write_rows;
 use image::Sizes;
 use labels::FAR;
+use listing::clear;
+use listing::write_rows;
 use loading::load;
 use ranking::Query;
 use ranking::rank_paths;
@@ -14,7 +14,7 @@ ghost use Rattle.terms.specs.Paths.{Route, Path, cost};
 ghost use Rattle.terms.specs.Ranking.{ranked};
 ghost use Rattle.star.specs.Layout.{graph-of};
 ghost use Rattle.labels.specs.Labels.{far};
-ghost use Rattle.candidates.specs.Rows.{rows-of};
+ghost use Rattle.listing.specs.Rows.{rows-of};
 ghost use Rattle.ranking.specs.Ranking.{Problem};
 ghost use Rattle.image.specs.Outcome.{sound, after};
 ghost use Rattle.image.specs.Layout.{netOf};

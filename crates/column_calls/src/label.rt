@@ -3,10 +3,10 @@ use image::Checked;
 use image::Refusal;
 use image::check::check;
 use image::is_node;
-use labels::FAR;
 use loading::load;
 use outcomes::check_costs;
 use outcomes::is_column;
+use outcomes::write_narrow;
 ghost use mathlib.Core.Path.{_≡_};
 ghost use mathlib.Core.List.{_++_, map};
 ghost use Prim.Native.Nat.{ℕ, _+_, _≤_, _<_, _-_};
@@ -19,7 +19,6 @@ ghost use Rattle.column_calls.specs.Answers.{labelled};
 ghost use Rattle.outcomes.specs.Calls.{label-fault, label-outcome, labels-of};
 ghost use Rattle.loading.specs.Accepted.{Node, InColumn};
 ghost use Rattle.loading.specs.Loaded.{Room};
-ghost use Rattle.outcomes.specs.Labels.{Narrow, narrowed};
 
 // Label's answer.
 pub enum Labelled {
@@ -45,30 +44,6 @@ fn check_label(image: &[u8], column: u32, goal: u32, room: usize) -> Checked
         return Checked::Refused(Refusal::SliceTooShort);
     }
     check_costs(sizes)
-}
-
-// A label in 32 bits: Label's mark in the place of FAR.
-fn narrow(label: u64) -> u32
-    requires { ⌜ Narrow label ⌝ }
-    ensures { λ r. ⌜ r ≡ narrowed label ⌝ }
-{
-    if label == FAR {
-        return 4294967295;
-    }
-    label as u32
-}
-
-// Writes the labels of the nodes 1, 2 and so on, in 32 bits.
-fn write_narrow(exact: &[u64], labels: &mut [u32])
-    requires { ⌜ (length (now exact) ≤ length (now labels) + 1) ⌝ }
-    requires { ⌜ ((v : ℕ) → v < length (now exact) → Narrow (getD (now exact) v 0)) ⌝ }
-    ensures { λ _. ⌜ now (labels .exit) ≡ map narrowed (drop 1 (now (exact .entry))) ++ drop (length (now (exact .entry)) - 1) (now (labels .entry)) ⌝ }
-{
-    let mut i = 0;
-    while i + 1 < exact.len() {
-        labels[i] = narrow(exact[i + 1]);
-        i += 1;
-    }
 }
 
 // Writes the labels of the column, with room for its graph and the exact labels.

@@ -6,6 +6,7 @@ use image::Refusal;
 use image::Sizes;
 use outcomes::check_costs;
 use outcomes::check_search;
+use outcomes::write_path;
 ghost use mathlib.Core.Path.{_≡_};
 ghost use mathlib.Core.List.{_++_};
 ghost use Prim.Native.Nat.{_≤_};
@@ -40,18 +41,6 @@ fn check_shortest(image: &[u8], column: u32, start: u32, goal: u32, room: usize)
     answer
 }
 
-// Copies the first `count` nodes.
-fn copy(route: &[u16], count: usize, path: &mut [u16])
-    requires { ⌜ (count ≤ length (now route)) × (count ≤ length (now path)) ⌝ }
-    ensures { λ _. ⌜ now (path .exit) ≡ take count (now (route .entry)) ++ drop count (now (path .entry)) ⌝ }
-{
-    let mut i = 0;
-    while i < count {
-        path[i] = route[i];
-        i += 1;
-    }
-}
-
 // Rows 15 and 16, and the path, with room to lay it out before it is written.
 fn write_first(
     image: &[u8],
@@ -75,7 +64,7 @@ fn write_first(
     let Checked::Network(_) = limit else {
         return Routed::Refused(limit.refusal());
     };
-    copy(route, len, path);
+    write_path(route, len, path);
     Routed::Path(len as u32, cost as u32)
 }
 

@@ -1,12 +1,12 @@
 // The path whose greatest regret is least, of an accepted image.
 use super::pricing::price;
-use candidates::clear;
 use choosing::Answer;
 use choosing::Task;
 use choosing::least_regret;
 use image::Refusal;
 use image::Sizes;
 use labels::FAR;
+use listing::clear;
 use loading::load;
 ghost use mathlib.Core.Path.{_≡_};
 ghost use Prim.Native.Nat.{_+_, _≤_};

@@ -12,7 +12,7 @@ use Rattle.terms.specs.Ranking.{ranked}
 use Rattle.terms.specs.Regret.{labels, figure, worst}
 use Rattle.terms.specs.Regret as regret
 use Rattle.terms.specs.Robust.{Answer, settled, left-open, no-path, robust}
-use Rattle.candidates.specs.Rows.{rows-of}
+use Rattle.listing.specs.Rows.{rows-of}
 use Rattle.image.specs.Outcome.{Fault, sound, fault, row, _then_, Outcome, outcome, after}
 use Rattle.image.specs.Rows.{is-node}
 use Rattle.image.specs.Layout.{netOf}

@@ -119,29 +119,29 @@ pub fn unpack_agrees(
     )
 }
 
-// Unpack into slices, and Build from what it wrote.
-fn rebuild_with(image: &[u8], nodes: &mut [u16], costs: &mut [u32]) -> bool {
-    let answer = unpack(image, nodes, costs);
-    let Unpacked::Lists(sizes) = answer else {
-        return false;
-    };
-    let node_count = 2 * (sizes.m as usize);
-    let cost_count = product(sizes.m, sizes.k) as usize;
+// Whether Build gives an image back from the lists at the front of two slices.
+fn build_back(image: &[u8], n: u32, m: u32, k: u32, nodes: &[u16], costs: &[u32]) -> bool {
+    let node_count = 2 * (m as usize);
+    let cost_count = product(m, k) as usize;
     if nodes.len() < node_count {
         return false;
     }
     if costs.len() < cost_count {
         return false;
     }
-    build_agrees(
-        sizes.n,
-        sizes.k,
-        &nodes[0..node_count],
-        &costs[0..cost_count],
-        image.len(),
-        single(count(image.len())),
-        image,
-    )
+    let node_list = &nodes[0..node_count];
+    let cost_list = &costs[0..cost_count];
+    let bytes = single(count(image.len()));
+    build_agrees(n, k, node_list, cost_list, image.len(), bytes, image)
+}
+
+// Unpack into slices, and Build from what it wrote.
+fn rebuild_with(image: &[u8], nodes: &mut [u16], costs: &mut [u32]) -> bool {
+    let answer = unpack(image, nodes, costs);
+    let Unpacked::Lists(sizes) = answer else {
+        return false;
+    };
+    build_back(image, sizes.n, sizes.m, sizes.k, nodes, costs)
 }
 
 // Whether Unpack, and Build from the lists that it wrote, give an image back byte for byte.

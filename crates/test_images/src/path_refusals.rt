@@ -42,16 +42,27 @@ fn note_row(mut report: Report, image: &[u8], row: [u32; 7]) -> Report {
     let start = row[1];
     let goal = row[2];
     let room = row[3] as usize;
-    let label = label_agrees(image, column, goal, room, refusal(row[4], 0), &[]);
-    let shortest = shortest_agrees(image, column, start, goal, room, refusal(row[5], 0), &[]);
-    let regret = regret_agrees(image, start, goal, &[1, 3, 4], refusal(row[6], 0));
-    if row[4] != 0 {
+    let by_label = row[4];
+    let by_shortest = row[5];
+    let by_regret = row[6];
+    let label = label_agrees(image, column, goal, room, refusal(by_label, 0), &[]);
+    let shortest = shortest_agrees(
+        image,
+        column,
+        start,
+        goal,
+        room,
+        refusal(by_shortest, 0),
+        &[],
+    );
+    let regret = regret_agrees(image, start, goal, &[1, 3, 4], refusal(by_regret, 0));
+    if by_label != 0 {
         report = report.note(LABEL, label);
     }
-    if row[5] != 0 {
+    if by_shortest != 0 {
         report = report.note(SHORTEST, shortest);
     }
-    if row[6] != 0 {
+    if by_regret != 0 {
         report = report.note(REGRET, regret);
     }
     report

@@ -71,8 +71,11 @@ fn change_cost(costs: &mut [u32], place: u32, number: u32) {
     }
 }
 
-// Changes a node number, a cost or both.
+// Changes by 0 a node number, by 1 a cost, by 2 both and by more nothing.
 fn change_lists(nodes: &mut [u16], costs: &mut [u32], change: u32, place: u32, number: u32) {
+    if 2 < change {
+        return;
+    }
     if change == 0 {
         change_node(nodes, place, number);
         return;
@@ -85,7 +88,13 @@ fn change_lists(nodes: &mut [u16], costs: &mut [u32], change: u32, place: u32, n
     change_cost(costs, place, number);
 }
 
-// The calls after one of five changes, as the drawn numbers have it: n, k, a node, a cost or both.
+// A size, or where it is changed another one of 0 to 9.
+fn size_after(changed: bool, size: u32, number: u32) -> u32 {
+    if changed { number % 10 } else { size }
+}
+
+// The calls after one of five changes, as the drawn numbers have it: by 0 to 2 of the lists, by 3 of
+// k and by 4 of n.
 fn note_changed(
     report: Report,
     n: u32,
@@ -98,17 +107,13 @@ fn note_changed(
     let change = number_at(numbers, 4) % 5;
     let place = number_at(numbers, 5);
     let number = number_at(numbers, 6);
-    if change == 4 {
-        return note_lists(report, number % 10, k, nodes, costs, image);
-    }
-    if change == 3 {
-        return note_lists(report, n, number % 10, nodes, costs, image);
-    }
+    let new_n = size_after(change == 4, n, number);
+    let new_k = size_after(change == 3, k, number);
     change_lists(nodes, costs, change, place, number);
-    note_lists(report, n, k, nodes, costs, image)
+    note_lists(report, new_n, new_k, nodes, costs, image)
 }
 
-// The calls on a drawn network, or on one that is changed.
+// The calls on a drawn network, or on one that is changed, with as much as its image takes.
 fn note_drawn(
     report: Report,
     changed: bool,
@@ -119,14 +124,18 @@ fn note_drawn(
     numbers: &[u32],
     image: &mut [u8],
 ) -> Report {
-    if changed {
-        note_changed(report, n, k, nodes, costs, numbers, image)
-    } else {
-        note_sound(report, n, k, nodes, costs, image)
+    let bytes = total(nodes, costs) as usize;
+    if image.len() < bytes {
+        return report.note(CHECK, false);
     }
+    let image_part = &mut image[0..bytes];
+    if changed {
+        return note_changed(report, n, k, nodes, costs, numbers, image_part);
+    }
+    note_sound(report, n, k, nodes, costs, image_part)
 }
 
-// Draws a network from numbers, and lends its lists and as much as its image takes.
+// Draws a network from numbers, and lends its lists.
 fn note_numbers(
     report: Report,
     changed: bool,
@@ -144,13 +153,8 @@ fn note_numbers(
     if costs.len() < cost_count {
         return report.note(CHECK, false);
     }
-    let bytes = total(&nodes[0..node_count], &costs[0..cost_count]) as usize;
-    if image.len() < bytes {
-        return report.note(CHECK, false);
-    }
     let node_list = &mut nodes[0..node_count];
     let cost_list = &mut costs[0..cost_count];
-    let image_part = &mut image[0..bytes];
     note_drawn(
         report,
         changed,
@@ -159,7 +163,7 @@ fn note_numbers(
         node_list,
         cost_list,
         numbers,
-        image_part,
+        image,
     )
 }
 

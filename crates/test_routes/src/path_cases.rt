@@ -146,9 +146,25 @@ fn note_line(image: &[u8], nodes: &[u16], labels: &[u32]) -> Report {
     list_refused(report, image, 2, 1, &nodes[1..200], 199)
 }
 
-pub fn run() {
+fn on_s() {
     note_s(Report::new(), &network_s()).print(b"network S");
+}
+
+fn on_zero_costs() {
     note_zero_costs(Report::new(), &zero_costs()).print(b"network of zero costs");
+}
+
+fn on_no_arcs() {
     note_no_arcs(Report::new(), &no_arcs()).print(b"network without arcs");
+}
+
+fn on_line() {
     note_line(&line(), &line_path(), &line_labels()).print(b"line of 200 nodes");
+}
+
+pub fn run() {
+    on_s();
+    on_zero_costs();
+    on_no_arcs();
+    on_line();
 }

@@ -16,6 +16,12 @@ use test_fixtures::report::LABEL;
 use test_fixtures::report::Report;
 use test_fixtures::report::SHORTEST;
 
+// The nodes and the columns of a network.
+struct Size {
+    n: u32,
+    k: u32,
+}
+
 fn put_number(numbers: &mut [u32], i: usize, number: u32) {
     if i < numbers.len() {
         numbers[i] = number;
@@ -102,8 +108,7 @@ fn note_firsts(
 fn note_pair(
     mut report: Report,
     code: u32,
-    n: u32,
-    k: u32,
+    size: Size,
     arcs: &[u16],
     costs: &[u32],
     numbers: &[u32],
@@ -117,11 +122,11 @@ fn note_pair(
     if start == goal {
         return report;
     }
-    report = note_firsts(report, n, k, start, goal, image, rows, prices);
+    report = note_firsts(report, size.n, size.k, start, goal, image, rows, prices);
     let path = drawn_path(rows, number_at(numbers, start as usize));
     report = note_lists(
         report,
-        n,
+        size.n,
         start,
         goal,
         arcs,
@@ -131,7 +136,17 @@ fn note_pair(
         numbers,
         image,
     );
-    note_ranks(report, n, k, code, numbers, image, bests, rows, prices)
+    note_ranks(
+        report,
+        size.n,
+        size.k,
+        code,
+        numbers,
+        image,
+        bests,
+        rows,
+        prices,
+    )
 }
 
 // Label with a goal, in each column, held to the table of labels.
@@ -169,8 +184,7 @@ fn note_goal(report: Report, code: u32, n: u32, k: u32, image: &[u8], labels: &[
 fn note_code(
     report: Report,
     code: u32,
-    n: u32,
-    k: u32,
+    size: Size,
     arcs: &[u16],
     costs: &[u32],
     numbers: &[u32],
@@ -181,7 +195,7 @@ fn note_code(
 ) -> Report {
     let start = code % 8 + 1;
     let goal = code / 8 + 1;
-    if n < start || n < goal {
+    if size.n < start || size.n < goal {
         return report;
     }
     let paths = lay_out_paths(start, goal, arcs, costs, rows, prices);
@@ -193,13 +207,12 @@ fn note_code(
     }
     let all = &mut rows[0..paths];
     let priced = &mut prices[0..paths];
-    let bests = test_enumerate::labels(k, node(start), node(goal), all, priced);
+    let bests = test_enumerate::labels(size.k, node(start), node(goal), all, priced);
     put_labels(labels, start, bests);
     note_pair(
         report,
         code,
-        n,
-        k,
+        size,
         arcs,
         costs,
         numbers,
@@ -212,8 +225,7 @@ fn note_code(
 
 fn note_codes(
     mut report: Report,
-    n: u32,
-    k: u32,
+    size: Size,
     arcs: &[u16],
     costs: &[u32],
     numbers: &[u32],
@@ -226,8 +238,7 @@ fn note_codes(
         report = note_code(
             report,
             code,
-            n,
-            k,
+            size,
             arcs,
             costs,
             numbers,
@@ -236,7 +247,7 @@ fn note_codes(
             prices,
             labels,
         );
-        report = note_goal(report, code, n, k, image, labels);
+        report = note_goal(report, code, size.n, size.k, image, labels);
     }
     report
 }
@@ -259,8 +270,7 @@ pub fn note_paths(
     let mut labels = [0u32; 64];
     note_codes(
         report,
-        n,
-        k,
+        Size { n, k },
         arcs,
         costs,
         numbers,

@@ -48,17 +48,34 @@ fn no_path(report: Report, image: &[u8], n: u32, start: u32, goal: u32) -> Repor
     report.note(RANK, agrees)
 }
 
+// Rank on network S by column 1 gives the first so many of three paths, in so many places.
+fn first_of_s(report: Report, image: &[u8], wanted: u32, places: usize, paths: usize) -> Report {
+    let rows = [1u16, 2, 3, 4, 1, 3, 4, 0, 1, 2, 4, 0];
+    let costs = [5u32, 7, 8];
+    if 12 < places {
+        return report.note(RANK, false);
+    }
+    if 3 < paths {
+        return report.note(RANK, false);
+    }
+    ranked(report, image, 1, wanted, &rows[0..places], &costs[0..paths])
+}
+
+// Network S by column 2.
+fn second_of_s(mut report: Report, image: &[u8]) -> Report {
+    let rows = [1, 2, 4, 0, 1, 3, 4, 0, 1, 2, 3, 4];
+    report = ranked(report, image, 2, 5, &rows, &[5, 8, 13]);
+    ranked(report, image, 2, 2, &rows[0..8], &[5, 8])
+}
+
 // K below, at and above the number of paths.
 fn note_s(mut report: Report, image: &[u8]) -> Report {
-    let rows = [1, 2, 3, 4, 1, 3, 4, 0, 1, 2, 4, 0];
-    report = ranked(report, image, 1, 5, &rows, &[5, 7, 8]);
-    report = ranked(report, image, 1, 256, &rows, &[5, 7, 8]);
-    report = ranked(report, image, 1, 3, &rows, &[5, 7, 8]);
-    report = ranked(report, image, 1, 2, &rows[0..8], &[5, 7]);
-    report = ranked(report, image, 1, 1, &rows[0..4], &[5]);
-    let others = [1, 2, 4, 0, 1, 3, 4, 0, 1, 2, 3, 4];
-    report = ranked(report, image, 2, 5, &others, &[5, 8, 13]);
-    report = ranked(report, image, 2, 2, &others[0..8], &[5, 8]);
+    report = first_of_s(report, image, 5, 12, 3);
+    report = first_of_s(report, image, 256, 12, 3);
+    report = first_of_s(report, image, 3, 12, 3);
+    report = first_of_s(report, image, 2, 8, 2);
+    report = first_of_s(report, image, 1, 4, 1);
+    report = second_of_s(report, image);
     report = no_path(report, image, 4, 4, 1);
     no_path(report, image, 4, 3, 2)
 }
@@ -118,9 +135,25 @@ fn note_lines(mut report: Report, image: &[u8], nodes: &[u16]) -> Report {
     note_line(report, image, 256, nodes)
 }
 
-pub fn run() {
+fn on_s() {
     note_s(Report::new(), &network_s()).print(b"network S");
+}
+
+fn on_zero_costs() {
     note_zero_costs(Report::new(), &zero_costs()).print(b"network of zero costs");
+}
+
+fn on_no_arcs() {
     no_path(Report::new(), &no_arcs(), 2, 1, 2).print(b"network without arcs");
+}
+
+fn on_line() {
     note_lines(Report::new(), &line(), &line_path()).print(b"line of 200 nodes");
+}
+
+pub fn run() {
+    on_s();
+    on_zero_costs();
+    on_no_arcs();
+    on_line();
 }

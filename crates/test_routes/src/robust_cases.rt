@@ -119,9 +119,25 @@ fn note_lines(mut report: Report, image: &[u8], nodes: &[u16]) -> Report {
     note_line(report, image, 256, nodes)
 }
 
-pub fn run() {
+fn on_s() {
     note_s(Report::new(), &network_s()).print(b"network S");
+}
+
+fn on_zero_costs() {
     note_zero_costs(Report::new(), &zero_costs()).print(b"network of zero costs");
+}
+
+fn on_no_arcs() {
     no_path(Report::new(), &no_arcs(), 2, 1, 2).print(b"network without arcs");
+}
+
+fn on_line() {
     note_lines(Report::new(), &line(), &line_path()).print(b"line of 200 nodes");
+}
+
+pub fn run() {
+    on_s();
+    on_zero_costs();
+    on_no_arcs();
+    on_line();
 }

@@ -51,8 +51,8 @@ returns-2 : tie.Need-returns-2
 returns-2 c = let k = c .before .before .before in
     never (sym (ap checked (c .before .enum-told3 .given .1)) ∙ k .check-costs .ensures ∙ outcome-sound _ (bound-row-sound (bounded (start (k .before .before .before .before .before .before)) .1)))
 
-copy-requires : tie.Need-copy-requires
-copy-requires c κs = let k = c .before .before .before .before .before .before in
+write-path-requires : tie.Need-write-path-requires
+write-path-requires c κs = let k = c .before .before .before .before .before .before in
     let p = start (k .before .before .before .before) .pre in
     (reach k .1, omega (arith, reach k .1, k .before .before .before .before .find .kept, p .1))
 
@@ -70,7 +70,7 @@ returns-3 : tie.Need-returns-3
 returns-3 c = let k = c .before .before .before .before .before .before .before .before .before in
     let p = start (k .before .before .before .before) .pre in
     let f = first k in
-    (ap gives (values-are (p .0 .0) (p .0 .1) (f .0) _ _ refl (reach k .1) (f .1)) ∙ sym (outcome-sound _ (path-some (p .0 .0) (p .0 .1) (f .0))), c .before .before .copy .ensures ∙ written-is (p .0 .0) (p .0 .1) (f .0) _ _ refl (reach k .1) (f .1) _)
+    (ap gives (values-are (p .0 .0) (p .0 .1) (f .0) _ _ refl (reach k .1) (f .1)) ∙ sym (outcome-sound _ (path-some (p .0 .0) (p .0 .1) (f .0))), c .before .before .write-path .ensures ∙ written-is (p .0 .0) (p .0 .1) (f .0) _ _ refl (reach k .1) (f .1) _)
 
 pub write-first-spec : {M : Type 1} → statement M
 write-first-spec =
@@ -87,7 +87,7 @@ write-first-spec =
     (λ c κs. search needs)
     (λ c. search needs)
     returns-2
-    copy-requires
+    write-path-requires
     cast-t21
     cast-t22
     (λ c. search needs)

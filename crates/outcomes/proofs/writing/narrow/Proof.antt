@@ -1,9 +1,9 @@
--- `label::narrow`: a label that is not the mark is small. Assumes nothing.
+-- `writing::narrow`: a label that is not the mark is small. Assumes nothing.
 use native.Mathlib.Omega.{arith}
 use mathlib.Core.Path.{sym}
 use Rattle.outcomes.proofs.LabelLaws.{narrowed-far, narrowed-near, narrow-fits}
-use Rattle.column_calls.proofs.label.narrow.Statement.{statement}
-use Rattle.column_calls.proofs.label.narrow.Tie as tie
+use Rattle.outcomes.proofs.writing.narrow.Statement.{statement}
+use Rattle.outcomes.proofs.writing.narrow.Tie as tie
 
 returns : tie.Need-returns
 returns c = sym (narrowed-far _ (c .if1 .taken))

@@ -1,12 +1,12 @@
--- `shortest::copy` meets its contract. Assumes nothing.
+-- `writing::write_path` meets its contract. Assumes nothing.
 use Prim.Native.Nat.{_-_, _≤_}
 use native.Mathlib.Omega.{arith}
 use mathlib.Core.Path.{_≡_, refl, _∙_}
 use mathlib.Core.List.{_++_}
 use lib.ListN.{length, take, drop, length-set}
 use Rattle.image.proofs.SliceLaws.{copy-more}
-use Rattle.column_calls.proofs.shortest.copy.Statement.{statement}
-use Rattle.column_calls.proofs.shortest.copy.Tie as tie
+use Rattle.outcomes.proofs.writing.write_path.Statement.{statement}
+use Rattle.outcomes.proofs.writing.write_path.Tie as tie
 
 abbrev Inv-loop : tie.InvT-loop
 Inv-loop route count path₀ i₀ path i = (i ≤ count) × (length path ≡ length path₀) × (path ≡ take i route ++ drop i path₀)
@@ -48,8 +48,8 @@ returns c = let a = c .before .before .args in
     let done : c .before .loop .i ≡ a .count = omega arith in
     c .before .loop .inv .2 ∙ rw done
 
-pub copy-spec : {M : Type 1} → statement M
-copy-spec =
+pub write-path-spec : {M : Type 1} → statement M
+write-path-spec =
     tie.close
     (tie.spec
     Inv-loop

@@ -1,4 +1,4 @@
--- `label::write_narrow` writes the labels from node 1 on. The loop: the first i places hold those of the nodes 1 to i. Assumes nothing.
+-- `writing::write_narrow` writes the labels from node 1 on. The loop: the first i places hold those of the nodes 1 to i. Assumes nothing.
 use Prim.Native.Nat.{_+_, _-_, _≤_}
 use native.Mathlib.Omega.{arith}
 use mathlib.Core.Path.{_≡_, refl, sym, _∙_}
@@ -6,10 +6,10 @@ use mathlib.Core.List.{_++_, map}
 use lib.ListN.{length, getD, take, drop, length-set}
 use lib.Seq.{take-all}
 use Rattle.image.proofs.SliceLaws.{copy-more}
 use Rattle.outcomes.specs.Labels.{narrowed}
 use Rattle.outcomes.proofs.LabelLaws.{narrowed-at, length-narrowed}
-use Rattle.column_calls.proofs.label.write_narrow.Statement.{statement}
-use Rattle.column_calls.proofs.label.write_narrow.Tie as tie
+use Rattle.outcomes.proofs.writing.write_narrow.Statement.{statement}
+use Rattle.outcomes.proofs.writing.write_narrow.Tie as tie
 
 abbrev Inv-loop : tie.InvT-loop
 Inv-loop exact labels₀ i₀ labels i = (i ≤ length exact - 1) × (length labels ≡ length labels₀) × (labels ≡ take i (map narrowed (drop 1 exact)) ++ drop i labels₀)

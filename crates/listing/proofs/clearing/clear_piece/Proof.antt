@@ -3,10 +3,10 @@ use Prim.Native.Nat.{ℕ, _≤_, _<_, _-_}
 use native.Mathlib.Omega.{arith}
 use mathlib.Core.Path.{_≡_, refl, sym}
 use lib.ListN.{length, take, replicate, length-set, length-replicate, getD-replicate}
 use Rattle.candidates.proofs.PartLaws.{copy-more}
 use borrow.Author.Needs.{needs}
-use Rattle.candidates.proofs.clearing.clear_piece.Statement.{statement}
-use Rattle.candidates.proofs.clearing.clear_piece.Tie as tie
+use Rattle.listing.proofs.clearing.clear_piece.Statement.{statement}
+use Rattle.listing.proofs.clearing.clear_piece.Tie as tie
 
 abbrev Inv-loop : tie.InvT-loop
 Inv-loop work₀ from to i₀ work i =
