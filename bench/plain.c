@@ -2,7 +2,7 @@
 // is ranked splits its branch; the first path of a part is found by a walk along those labels, else along
 // labels that a search outwards sharpens, else along labels with its beginning barred, else step by step;
 // candidates stand in slots of the workspace in the ranking order; a part is passed over where all slots
-// are taken and its bound is above the last cost.
+// are taken and its bound is above the last cost. It takes images of edition 1, in which no arc is closed.
 #include "rank.h"
 
 #include <stdbool.h>

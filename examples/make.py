@@ -8,7 +8,8 @@ neighbours, both ways, and 4 columns of costs. In `close` the columns differ lit
 stopping rule needs few paths; in `apart` they differ much, and 48 paths are not enough.
 
 The sheets are computed here in the plainest way, apart from the library: paths are ranked by
-Yen's method with labels made anew for each search. All costs are above 0.
+Yen's method with labels made anew for each search. All costs are above 0; None is that of an arc which
+is closed in the column, and an image that has one is of edition 2.
 """
 import heapq
 import os
@@ -17,13 +18,18 @@ import struct
 EXAMPLES = os.path.dirname(os.path.abspath(__file__))
 TESTS = os.path.join(os.path.dirname(EXAMPLES), "crates", "test_sheets")
 
+# in the place of a cost: the arc is closed in that column
+CLOSED = 2**32 - 1
+
 
 def image(n, arcs, columns):
-    """The bytes of an image of edition 1."""
+    """The bytes of an image: of edition 2 if an arc is closed in a column, else of edition 1."""
     m, k = len(arcs), len(columns)
-    parts = [struct.pack("<HHHHIIII", 1, n, m, k, 24, 24 + 4 * m, 24 + 4 * m + 4 * m * k, 0)]
+    costs = [cost for column in columns for cost in column]
+    edition = 2 if None in costs else 1
+    parts = [struct.pack("<HHHHIIII", edition, n, m, k, 24, 24 + 4 * m, 24 + 4 * m + 4 * m * k, 0)]
     parts += [struct.pack("<HH", tail, head) for tail, head in arcs]
-    parts += [struct.pack("<I", cost) for column in columns for cost in column]
+    parts += [struct.pack("<I", CLOSED if cost is None else cost) for cost in costs]
     return b"".join(parts)
 
 
@@ -86,9 +92,16 @@ def refused(number, place):
 
 
 def sheet(n, arcs, columns, most=48):
-    """The sheet, as text: Robust with column 1, start 1, goal n."""
-    costs = [dict(zip(arcs, column)) for column in columns]
-    paths = ranked(n, costs[0], 1, n, most + 1)
+    """The sheet, as text: Robust with column 1, start 1, goal n.
+
+    The ranked paths are those that are open in every column; each column's best is that of all paths
+    that are open in it.
+    """
+    costs = [
+        {arc: cost for arc, cost in zip(arcs, column) if cost is not None} for column in columns
+    ]
+    common = {arc: costs[0][arc] for arc in arcs if all(arc in column for column in costs)}
+    paths = ranked(n, common, 1, n, most + 1)
     if not paths:
         return refused(15, 0)
     best = [labels(n, column, n, set())[1] for column in costs]

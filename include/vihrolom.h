@@ -9,9 +9,11 @@
 // is written must not overlap another list of the same call. Nothing is kept after a call, and threads may
 // call at the same time with lists of their own.
 //
-// Nodes are 1 to n and columns 1 to k. A path is the list of its nodes, and no node repeats. Its deviation in
-// a column is its cost there less the least cost of any path there; its figure, or greatest regret, is its
-// largest deviation, and its worst column the lowest-numbered one that has it.
+// Nodes are 1 to n and columns 1 to k. In an image of edition 2 an arc may be closed in a column: no path of
+// that column uses it. A path is the list of its nodes, and no node repeats. Its deviation in a column is its
+// cost there less the least cost of any path there; its figure, or greatest regret, is its largest deviation,
+// and its worst column the lowest-numbered one that has it. Only a path that is open in every column has a
+// figure.
 // The ranking order in a column is by cost, then by node list: the first differing place decides, and the
 // smaller node comes first.
 #ifndef VIHROLOM_H
@@ -37,20 +39,20 @@ struct vihrolom_reply {
 // are examined in their order, each by rows 6, 7 and 8. A call skips rows about things that it has not got.
 enum vihrolom_refusal {
     VIHROLOM_IMAGE_TOO_SHORT = 1,   // image under 24 bytes
-    VIHROLOM_WRONG_EDITION = 2,     // edition isn't 1
+    VIHROLOM_WRONG_EDITION = 2,     // edition isn't 1 or 2
     VIHROLOM_SIZE_OUT_OF_RANGE = 3, // n, m or k outside its range
     VIHROLOM_WRONG_FIELD = 4,       // an offset, total or reserved field is wrong; in Build, odd node list or costs not mk
     VIHROLOM_WRONG_LENGTH = 5,      // image length isn't the total
     VIHROLOM_ARC_OUT_OF_RANGE = 6,  // tail or head outside 1..n; place: arc index
     VIHROLOM_ARC_TO_ITSELF = 7,     // tail equals head; place: arc index
     VIHROLOM_ARC_NOT_RISING = 8,    // arc not above the one before; place: arc index
-    VIHROLOM_COST_TOO_LARGE = 9,    // cost above 1,000,000; place: first such index in the costs, from 0
+    VIHROLOM_COST_TOO_LARGE = 9,    // cost above 1,000,000 that isn't VIHROLOM_CLOSED in edition 2; place: its index, from 0
     VIHROLOM_WRONG_ENDS = 10,       // start or goal outside 1..n, or equal
     VIHROLOM_WRONG_COLUMN = 11,     // column outside 1..k
     VIHROLOM_WRONG_PATH_COUNT = 12, // K outside 1..256
     VIHROLOM_SLICE_TOO_SHORT = 13,  // a lent slice is too short
     VIHROLOM_NOT_A_PATH = 14,       // the node list is no path; place: see vihrolom_regret
-    VIHROLOM_NO_PATH = 15,          // no path exists (not Label)
+    VIHROLOM_NO_PATH = 15,          // no path exists: in the column (Shortest, Rank), or open in every column (Robust)
     VIHROLOM_COST_OVERFLOW = 16     // a path cost exceeds 4,000,000,000
 };
 
@@ -63,6 +65,7 @@ enum vihrolom_state {
 // ---- limits and lengths
 
 enum vihrolom_limit {
+    VIHROLOM_LATEST_EDITION = 2,  // an image's edition, from 1
     VIHROLOM_LEAST_NODES = 2,     // n
     VIHROLOM_MOST_NODES = 200,    // n
     VIHROLOM_MOST_ARCS = 1000,    // m, from 0
@@ -71,6 +74,9 @@ enum vihrolom_limit {
     VIHROLOM_MOST_PATHS = 256,    // K, from 1
     VIHROLOM_MOST_BYTES = 36024   // an image with the most arcs and columns
 };
+
+// In the place of a cost, in edition 2 only: the arc is closed in that column. It's no number to add or compare.
+#define VIHROLOM_CLOSED UINT32_C(4294967295)
 
 // The label of a node from which the goal can't be reached.
 #define VIHROLOM_UNREACHED UINT32_C(4294967295)
@@ -87,25 +93,26 @@ enum vihrolom_limit {
 // ---- the image layer
 
 // Check: whether the bytes are an image, and its sizes. Every other call with an image checks it first.
-//   v0: n   v1: arc count m   v2: column count k
+//   v0: n   v1: arc count m   v2: column count k   v3: the edition, 1 or 2
 // Refuses by rows 1 to 9.
 struct vihrolom_reply vihrolom_check(const uint8_t *image, size_t image_length);
 
-// Build: writes an image of n nodes and k columns from lists.
+// Build: writes an image of an edition, of n nodes and k columns, from lists.
+//   edition: 1, or 2 so that costs may be VIHROLOM_CLOSED
 //   nodes: 2m node numbers, tail and head of each arc, strictly rising by tail, then head; m is half the
 //          length rounded down
 //   costs: mk costs, one column after the other, each in arc order
 //   image: at least VIHROLOM_IMAGE_LENGTH(m, k) bytes, of which so many are written
 //   v0: the image's length in bytes
-// Refuses by rows 3, 4, 6 to 9 and 13.
-struct vihrolom_reply vihrolom_build(uint32_t n, uint32_t k, const uint16_t *nodes, size_t nodes_length,
-                                     const uint32_t *costs, size_t costs_length, uint8_t *image,
-                                     size_t image_length);
+// Refuses by rows 2, 3, 4, 6 to 9 and 13.
+struct vihrolom_reply vihrolom_build(uint32_t edition, uint32_t n, uint32_t k, const uint16_t *nodes,
+                                     size_t nodes_length, const uint32_t *costs, size_t costs_length,
+                                     uint8_t *image, size_t image_length);
 
-// Unpack: writes the lists from which Build makes the same image.
+// Unpack: writes the lists from which Build, told the same edition, makes the same image.
 //   nodes: at least 2m places, of which 2m are written
 //   costs: at least mk places, of which mk are written
-//   v0: n   v1: m   v2: k
+//   v0: n   v1: m   v2: k   v3: the edition
 // Refuses by rows 1 to 9 and 13.
 struct vihrolom_reply vihrolom_unpack(const uint8_t *image, size_t image_length, uint16_t *nodes,
                                       size_t nodes_length, uint32_t *costs, size_t costs_length);
@@ -126,12 +133,12 @@ struct vihrolom_reply vihrolom_label(const uint8_t *image, size_t image_length, 
 struct vihrolom_reply vihrolom_shortest(const uint8_t *image, size_t image_length, uint32_t column,
                                         uint32_t start, uint32_t goal, uint16_t *path, size_t path_length);
 
-// Regret: the figure of a path.
+// Regret: the figure of a path that is open in every column.
 //   nodes: the path, of any length
 //   v0: the figure   v1: the worst column
 // Refuses by rows 1 to 9, 10, 14 and 16. The place of 14 is 0 if the list is empty or doesn't begin with
-// start; else the first position, from 0, whose node repeats or has no arc from the node before; else the
-// length, if the last node isn't the goal.
+// start; else the first position, from 0, whose node repeats or has no arc from the node before that is open
+// in every column; else the length, if the last node isn't the goal.
 struct vihrolom_reply vihrolom_regret(const uint8_t *image, size_t image_length, uint32_t start, uint32_t goal,
                                       const uint16_t *nodes, size_t nodes_length);
 
@@ -145,8 +152,8 @@ struct vihrolom_reply vihrolom_rank(const uint8_t *image, size_t image_length, u
                                     uint32_t goal, uint32_t wanted, uint16_t *rows, size_t rows_length,
                                     uint32_t *costs, size_t costs_length, uint32_t *work, size_t work_length);
 
-// Robust: the path of least figure. Paths are counted in the ranking order in a column, until no later one
-// can have a smaller figure (settled), or until K are counted (open); K is `wanted`.
+// Robust: the path of least figure. Paths that are open in every column are counted in the ranking order in
+// one, until no later one can have a smaller figure (settled), or until K are counted (open); K is `wanted`.
 //   path: at least n places; the earliest path with the least figure among those counted is written, in as
 //         many places as it has nodes
 //   work: as in vihrolom_rank

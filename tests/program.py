@@ -26,6 +26,14 @@ def largest():
     return 200, arcs, columns
 
 
+def closed(network, every, u):
+    """The network with every so-manyth arc closed in column u."""
+    n, arcs, columns = network
+    columns = list(columns)
+    columns[u - 1] = [None if i % every == 0 else cost for i, cost in enumerate(columns[u - 1])]
+    return n, arcs, columns
+
+
 class Sheets(unittest.TestCase):
     def prints(self, given, sheet):
         done = subprocess.run([PROGRAM], input=given, capture_output=True, check=True)
@@ -36,6 +44,15 @@ class Sheets(unittest.TestCase):
         for name, (given, sheet) in make.CASES.items():
             with self.subTest(name):
                 self.prints(given, sheet)
+
+    def test_closed_arcs(self):
+        given = [(make.grid(10, spread, 3), every) for spread in (300, 1000) for every in (2, 5, 7, 50)]
+        given += [(make.S, every) for every in (1, 2, 3, 5)] + [(largest(), 9)]
+        for network, every in given:
+            for u in (1, len(network[2])):
+                with self.subTest(every=every, u=u):
+                    some_closed = closed(network, every, u)
+                    self.prints(make.image(*some_closed), make.sheet(*some_closed))
 
     def test_largest_image(self):
         network = largest()

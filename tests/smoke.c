@@ -120,11 +120,11 @@ static struct list image;
 
 // ---- one case of each call: what is given to it, and what it has to give and write
 
-static void build_case(const char *name, uint32_t n, uint32_t k, struct list arcs, struct list costs, size_t room, reply due, const uint8_t *result) {
+static void build_case(const char *name, uint32_t edition, uint32_t n, uint32_t k, struct list arcs, struct list costs, size_t room, reply due, const uint8_t *result) {
     running = name;
     struct list target = places(room);
     written(&target, result, due.v0);
-    expect_reply(vihrolom_build(n, k, arcs.is.nodes, arcs.length, costs.is.numbers, costs.length, target.is.bytes, target.length), due);
+    expect_reply(vihrolom_build(edition, n, k, arcs.is.nodes, arcs.length, costs.is.numbers, costs.length, target.is.bytes, target.length), due);
     expect_list("the nodes", &arcs);
     expect_list("the costs", &costs);
     expect_list("the image", &target);
@@ -202,6 +202,12 @@ static reply gives(uint32_t v0, uint32_t v1, uint32_t v2) {
     return due;
 }
 
+// The sizes of S, in an edition.
+static reply sizes_in(uint32_t edition) {
+    reply due = {0, 0, N, M, COLUMNS, edition, 0, 0};
+    return due;
+}
+
 static reply refused(uint32_t row, uint32_t place) {
     reply due = {row, place, 0, 0, 0, 0, 0, 0};
     return due;
@@ -211,14 +217,19 @@ static reply refused(uint32_t row, uint32_t place) {
 
 static void build_cases(void) {
     struct list arcs = nodes(S_nodes, 2 * M), costs = numbers(S_costs, M * COLUMNS);
-    build_case("Build S", N, COLUMNS, arcs, costs, sizeof S_image + 3, gives(84, 0, 0), S_image);
-    build_case("Build with n = 1", 1, COLUMNS, arcs, costs, sizeof S_image, refused(VIHROLOM_SIZE_OUT_OF_RANGE, 0), NULL);
-    build_case("Build with an odd node list", N, COLUMNS, nodes(S_nodes, 2 * M - 1), costs, sizeof S_image, refused(VIHROLOM_WRONG_FIELD, 0), NULL);
-    build_case("Build with a cost too few", N, COLUMNS, arcs, numbers(S_costs, M * COLUMNS - 1), sizeof S_image, refused(VIHROLOM_WRONG_FIELD, 0), NULL);
-    build_case("Build with n = 3", 3, COLUMNS, arcs, costs, sizeof S_image, refused(VIHROLOM_ARC_OUT_OF_RANGE, 3), NULL);
+    build_case("Build S", 1, N, COLUMNS, arcs, costs, sizeof S_image + 3, gives(84, 0, 0), S_image);
+    build_case("Build with edition 0", 0, 1, COLUMNS, arcs, costs, sizeof S_image, refused(VIHROLOM_WRONG_EDITION, 0), NULL);
+    build_case("Build with edition 3", 3, N, COLUMNS, arcs, costs, sizeof S_image, refused(VIHROLOM_WRONG_EDITION, 0), NULL);
+    build_case("Build with n = 1", 1, 1, COLUMNS, arcs, costs, sizeof S_image, refused(VIHROLOM_SIZE_OUT_OF_RANGE, 0), NULL);
+    build_case("Build with an odd node list", 1, N, COLUMNS, nodes(S_nodes, 2 * M - 1), costs, sizeof S_image, refused(VIHROLOM_WRONG_FIELD, 0), NULL);
+    build_case("Build with a cost too few", 1, N, COLUMNS, arcs, numbers(S_costs, M * COLUMNS - 1), sizeof S_image, refused(VIHROLOM_WRONG_FIELD, 0), NULL);
+    build_case("Build with n = 3", 1, 3, COLUMNS, arcs, costs, sizeof S_image, refused(VIHROLOM_ARC_OUT_OF_RANGE, 3), NULL);
     const uint32_t dear[] = {0, 1000000, 1000001};
-    build_case("Build with cost 1,000,001", N, 3, nodes(S_nodes, 2), numbers(dear, 3), sizeof S_image, refused(VIHROLOM_COST_TOO_LARGE, 2), NULL);
-    build_case("Build into 83 bytes", N, COLUMNS, arcs, costs, sizeof S_image - 1, refused(VIHROLOM_SLICE_TOO_SHORT, 0), NULL);
+    build_case("Build with cost 1,000,001", 1, N, 3, nodes(S_nodes, 2), numbers(dear, 3), sizeof S_image, refused(VIHROLOM_COST_TOO_LARGE, 2), NULL);
+    const uint32_t marked[] = {0, VIHROLOM_CLOSED, VIHROLOM_CLOSED - 1};
+    build_case("Build with the mark in edition 1", 1, N, 3, nodes(S_nodes, 2), numbers(marked, 3), sizeof S_image, refused(VIHROLOM_COST_TOO_LARGE, 1), NULL);
+    build_case("Build with one less than the mark in edition 2", 2, N, 3, nodes(S_nodes, 2), numbers(marked, 3), sizeof S_image, refused(VIHROLOM_COST_TOO_LARGE, 2), NULL);
+    build_case("Build into 83 bytes", 1, N, COLUMNS, arcs, costs, sizeof S_image - 1, refused(VIHROLOM_SLICE_TOO_SHORT, 0), NULL);
 }
 
 // S with one byte replaced.
@@ -231,8 +242,11 @@ static struct list damaged(size_t offset, uint8_t byte) {
 static void check_cases(void) {
     struct list longer = bytes(S_image, sizeof S_image);
     longer.length++;
-    check_case("Check S", bytes(S_image, sizeof S_image), gives(N, M, COLUMNS));
+    check_case("Check S", bytes(S_image, sizeof S_image), sizes_in(1));
+    check_case("Check S in edition 2", damaged(0, 2), sizes_in(2));
     check_case("Check an empty image", bytes(S_image, 0), refused(VIHROLOM_IMAGE_TOO_SHORT, 0));
+    check_case("Check edition 0", damaged(0, 0), refused(VIHROLOM_WRONG_EDITION, 0));
+    check_case("Check edition 3", damaged(0, 3), refused(VIHROLOM_WRONG_EDITION, 0));
     check_case("Check edition 7", damaged(0, 7), refused(VIHROLOM_WRONG_EDITION, 0));
     check_case("Check n = 1", damaged(2, 1), refused(VIHROLOM_SIZE_OUT_OF_RANGE, 0));
     check_case("Check reserved = 1", damaged(20, 1), refused(VIHROLOM_WRONG_FIELD, 0));
@@ -244,7 +258,7 @@ static void check_cases(void) {
 }
 
 static void unpack_cases(void) {
-    unpack_case("Unpack S", 2 * M + 1, M * COLUMNS + 1, gives(N, M, COLUMNS), S_nodes, S_costs);
+    unpack_case("Unpack S", 2 * M + 1, M * COLUMNS + 1, sizes_in(1), S_nodes, S_costs);
     unpack_case("Unpack with 9 places for nodes", 2 * M - 1, M * COLUMNS, refused(VIHROLOM_SLICE_TOO_SHORT, 0), NULL, NULL);
     unpack_case("Unpack with 9 places for costs", 2 * M, M * COLUMNS - 1, refused(VIHROLOM_SLICE_TOO_SHORT, 0), NULL, NULL);
     image = damaged(0, 7);
@@ -319,7 +333,7 @@ static void robust_cases(void) {
 // The image that Build makes of a network with one column.
 static struct list built(uint32_t n, struct list arcs, struct list costs) {
     struct list made = places(VIHROLOM_IMAGE_LENGTH(costs.length, 1));
-    expect_reply(vihrolom_build(n, 1, arcs.is.nodes, arcs.length, costs.is.numbers, costs.length, made.is.bytes, made.length), gives((uint32_t)made.length, 0, 0));
+    expect_reply(vihrolom_build(1, n, 1, arcs.is.nodes, arcs.length, costs.is.numbers, costs.length, made.is.bytes, made.length), gives((uint32_t)made.length, 0, 0));
     written(&made, &made.is, made.length);
     expect_list("the image", &made);
     return bytes(made.is.bytes, made.length);
@@ -352,6 +366,38 @@ static void other_networks(void) {
     shortest_case("Shortest on 200 nodes in a line", 1, 1, 200, 200, gives(200, 199000000, 0), path);
 }
 
+// S in edition 2, with the arc 3 4 closed in column 2. There 1 2 4 alone is left, and it alone is open in both columns;
+// in column 1 all three paths are.
+static void closed_arc(void) {
+    uint32_t closed[M * COLUMNS];
+    memcpy(closed, S_costs, sizeof S_costs);
+    closed[9] = VIHROLOM_CLOSED;
+    struct list made = damaged(0, 2);
+    memset(made.is.bytes + 80, 255, 4);
+    memset(made.due.bytes + 80, 255, 4);
+    build_case("Build with a closed arc", 2, N, COLUMNS, nodes(S_nodes, 2 * M), numbers(closed, M * COLUMNS), sizeof S_image, gives(84, 0, 0), made.is.bytes);
+    check_case("Check with a closed arc", made, sizes_in(2));
+    image = made;
+    unpack_case("Unpack with a closed arc", 2 * M, M * COLUMNS, sizes_in(2), S_nodes, closed);
+
+    const uint32_t first[] = {5, 3, 2, 0}, second[] = {5, 1, VIHROLOM_UNREACHED, 0};
+    label_case("Label column 1 with a closed arc", 1, 4, N, gives(0, 0, 0), first);
+    label_case("Label column 2 with a closed arc", 2, 4, N, gives(0, 0, 0), second);
+    shortest_case("Shortest column 1 with a closed arc", 1, 3, 4, N, gives(2, 2, 0), by_3 + 1);
+    shortest_case("Shortest column 2 with a closed arc", 2, 3, 4, N, refused(VIHROLOM_NO_PATH, 0), NULL);
+
+    const uint16_t ranked[] = {1, 2, 3, 4, 1, 3, 4, 0, 1, 2, 4, 0}, left[] = {1, 2, 4, 0};
+    const uint32_t ranked_costs[] = {5, 7, 8}, left_costs[] = {5};
+    const size_t work = VIHROLOM_WORK_LENGTH(N, 5);
+    rank_case("Rank column 1 with a closed arc", 1, 1, 4, 5, work, gives(3, 0, 0), ranked, ranked_costs);
+    rank_case("Rank column 2 with a closed arc", 2, 1, 4, 5, work, gives(1, 0, 0), left, left_costs);
+    regret_case("Regret of 1 2 4 with a closed arc", 1, 4, nodes(by_2, 3), gives(3, 1, 0));
+    regret_case("Regret of 1 3 4 with a closed arc", 1, 4, nodes(by_3, 3), refused(VIHROLOM_NOT_A_PATH, 2));
+    const reply settled = {0, 0, 3, 3, 1, 1, VIHROLOM_SETTLED, 0};
+    robust_case("Robust column 1 with a closed arc", 1, 1, 4, 5, N, work, settled, by_2);
+    robust_case("Robust column 1, from 3 to 4 with a closed arc", 1, 3, 4, 5, N, work, refused(VIHROLOM_NO_PATH, 0), NULL);
+}
+
 int main(void) {
     image = bytes(S_image, sizeof S_image);
     build_cases();
@@ -362,6 +408,7 @@ int main(void) {
     regret_cases();
     rank_cases();
     robust_cases();
+    closed_arc();
     other_networks();
     printf("smoke: %u checks\n", checks);
     return 0;

@@ -4,8 +4,10 @@
 
 The file is CSV text in UTF-8. Its first line is `from,to` and the names of 1 to 8 columns, the
 pictures of traffic. Each other line is a road in one direction: the place it leaves, the place it
-leads to, and its travel time in each column, a whole number from 0 to 1,000,000 in any unit. The
-route leads from the first place of the file to the last if no others are named.
+leads to, and its travel time in each column, a whole number from 0 to 1,000,000 in any unit; or `-`,
+or nothing, where the road is closed in that column, like a ferry that does not sail. The route leads
+from the first place of the file to the last if no others are named. It is open in every column, and
+in each it is held against the best route of that column.
 """
 from __future__ import annotations
 
@@ -13,7 +15,7 @@ import argparse
 import csv
 import os
 import sys
-from typing import Dict, Iterator, List, NoReturn, Sequence, Tuple
+from typing import Dict, Iterable, Iterator, List, NoReturn, Optional, Sequence, Tuple
 
 import vihrolom
 
@@ -34,7 +36,7 @@ class Roads:
         """No roads yet, with the columns that the first line of a file names."""
         self.columns = list(header[2:])
         self.places: Dict[str, int] = {}
-        self.times: Dict[Tuple[int, int], List[int]] = {}
+        self.times: Dict[Tuple[int, int], List[Optional[int]]] = {}
         self._lines: Dict[Tuple[int, int], int] = {}
         if list(header[:2]) != ["from", "to"] or not self.columns:
             raise Complaint("the first line must be from,to and the names of the columns")
@@ -69,15 +71,23 @@ class Roads:
             self.places[place] = len(self.places) + 1
         return self.places[place]
 
-    def image(self) -> bytes:
-        """The network image of the roads, with each place as a node."""
-        arcs = sorted(self.times)
+    def always_open(self) -> List[Tuple[int, int]]:
+        """The roads that are open in every column."""
+        return [road for road, times in self.times.items() if None not in times]
+
+    def image(self, roads: Iterable[Tuple[int, int]]) -> bytes:
+        """The network image of some of the roads, with each place as a node.
+
+        It has edition 2 if one of them is closed in a column, else edition 1.
+        """
+        arcs = sorted(roads)
         ends = [place for arc in arcs for place in arc]
         costs = [self.times[arc][u] for u in range(len(self.columns)) for arc in arcs]
-        return vihrolom.build(len(self.places), len(self.columns), ends, costs)
+        edition = 2 if None in costs else 1
+        return vihrolom.build(edition, len(self.places), len(self.columns), ends, costs)
 
     def costs(self, path: Sequence[int]) -> List[int]:
-        """The cost of a path in each column."""
+        """The cost in each column of a path that is open in every one."""
         roads = [self.times[road] for road in zip(path, path[1:])]
         return [sum(times) for times in zip(*roads)]
 
@@ -93,8 +103,10 @@ def check_name(name: str) -> None:
         raise Complaint(f"{name!r} is no name")
 
 
-def travel_time(text: str) -> int:
-    """The time that a field of the file gives."""
+def travel_time(text: str) -> Optional[int]:
+    """The time that a field of the file gives, or None if it says that the road is closed."""
+    if text in ("", "-"):
+        return None
     digits = text[1:] if text.startswith("-") else text
     if not (digits.isascii() and digits.isdigit()):
         raise Complaint(f"{text!r} is no whole number")
@@ -150,7 +162,10 @@ def find(names: Sequence[str], name: str, kind: str) -> int:
 
 
 def table(roads: Roads, image: bytes, column: int, paths: Sequence[vihrolom.Path], chosen: Sequence[int]) -> str:
-    """The ranked paths, one a line, with their costs in all columns; the chosen one has a star."""
+    """The ranked paths, one a line, with their costs in all columns; the chosen one has a star.
+
+    Above them stands the best cost of each column, over all paths that are open in it.
+    """
     start, goal = chosen[0], chosen[-1]
     bests = [vihrolom.shortest(image, u + 1, start, goal).cost for u in range(len(roads.columns))]
     rows = [
@@ -186,19 +201,22 @@ def report(options: argparse.Namespace) -> str:
     name = roads.columns[0] if options.column is None else options.column
     ends = find(places, start, "place"), find(places, goal, "place")
     column = find(roads.columns, name, "column")
-    image = roads.image()
+    image, always_open = roads.image(roads.times), roads.always_open()
+    some_closed = len(always_open) < len(roads.times)
     try:
         choice = vihrolom.robust(image, column, *ends, options.paths)
-        paths = vihrolom.rank(image, column, *ends, options.paths)
+        paths = vihrolom.rank(roads.image(always_open), column, *ends, options.paths)
     except vihrolom.Refusal as refusal:
+        open_path = "path that is open in every column" if some_closed else "path"
         reasons = {
             10: f"the route begins and ends at {start!r}",
             12: f"--paths must be 1 to 256, and is {options.paths}",
-            15: f"no path leads from {start!r} to {goal!r}",
+            15: f"no {open_path} leads from {start!r} to {goal!r}",
         }
         raise Complaint(reasons[refusal.number]) from None
     sheet = vihrolom.answer_text(choice, roads.route(choice.path), roads.columns[choice.worst - 1])
-    heading = f"ranked by {name}, with the deviation there; * marks the route above"
+    which = " among the routes open in every column" if some_closed else ""
+    heading = f"ranked by {name}{which}, with the deviation there; * marks the route above"
     return f"{sheet}\n{heading}\n{table(roads, image, column, paths, choice.path)}"
 
 

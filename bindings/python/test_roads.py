@@ -10,7 +10,9 @@ import unittest
 import roads
 
 FOLDER = os.path.dirname(os.path.abspath(__file__))
-EXAMPLE = os.path.join(FOLDER, "..", "..", "examples", "roads.csv")
+EXAMPLES = os.path.join(FOLDER, "..", "..", "examples")
+EXAMPLE = os.path.join(EXAMPLES, "roads.csv")
+FERRY = os.path.join(EXAMPLES, "ferry.csv")
 
 # network S of REFERENCE, section 8.1
 S = """from,to,calm,rush
@@ -116,6 +118,35 @@ class Output(Commands):
         self.assertEqual(len(lines), 7 + 8)
 
 
+    def test_ferry(self):
+        expected = (
+            "route Lab > Hill Road > Clinic\n"
+            "regret 15 column calm\n"
+            "ranked 2 settled\n"
+            "\n"
+            "ranked by calm among the routes open in every column, with the deviation there; * marks the route above\n"
+            "      calm  fog  storm  deviation  figure  worst  route\n"
+            "best    26   32     52\n"
+            "   1    39   46     75         13      23  storm  Lab > Bridge > Clinic\n"
+            "  *2    41   47     52         15      15   calm  Lab > Hill Road > Clinic\n"
+            "   3    42   50     79         16      27  storm  Lab > Quay > Bridge > Clinic\n"
+            "   4    42   47     74         16      22  storm  Lab > Bridge > Landing > Clinic\n"
+            "   5    45   51     78         19      26  storm  Lab > Quay > Bridge > Landing > Clinic\n"
+        )
+        self.assertEqual(self.run_main(FERRY), (0, expected, ""))
+        with open(FERRY, encoding="utf-8") as file:
+            self.write(file.read().replace("-", ""))
+        self.assertEqual(self.run_main(self.file), (0, expected, ""))
+
+    def test_edition(self):
+        for row, edition in [("A,B,1,2", 1), ("A,B,1,-", 2), ("A,B,,2", 2)]:
+            self.write(f"from,to,calm,rush\n{row}\nB,A,0,0\n")
+            network = roads.read_roads(self.file)
+            image = network.image(network.times)
+            self.assertEqual(roads.vihrolom.check(image).edition, edition)
+            self.assertEqual(roads.vihrolom.check(network.image(network.always_open())).edition, 1)
+
+
 class WrongFiles(Commands):
     def test_file_that_cannot_be_read(self):
         missing = os.path.join(self.folder, "missing.csv")
@@ -142,12 +173,11 @@ class WrongFiles(Commands):
 
     def test_times(self):
         for time, complaint in [
-            ("", "'' is no whole number"),
             ("fast", "'fast' is no whole number"),
             ("1.5", "'1.5' is no whole number"),
             ("1_000", "'1_000' is no whole number"),
             ("٣", "'٣' is no whole number"),
-            ("-", "'-' is no whole number"),
+            ("--", "'--' is no whole number"),
             ("-1", "the time -1 is negative"),
             ("1000001", "the time 1000001 is above 1000000"),
             ("9" * 5000, f"the time {'9' * 20} is above 1000000"),
@@ -191,6 +221,9 @@ class WrongCommands(Commands):
         self.complains("the route begins and ends at 'Lab'", EXAMPLE, "--to", "Lab")
         self.write(S)
         self.complains("no path leads from 'D' to 'A'", self.file, "--from", "D", "--to", "A")
+        closed = "no path that is open in every column leads from 'Quay' to 'Clinic'"
+        self.write("from,to,calm,storm\nQuay,Landing,1,-\nLanding,Clinic,1,1\n")
+        self.complains(closed, self.file)
 
     def test_options(self):
         self.complains("the following arguments are required: file")

@@ -25,6 +25,10 @@ S_ENDS = (1, 2, 1, 3, 2, 3, 2, 4, 3, 4)
 S_COSTS = (2, 5, 1, 6, 2, 4, 1, 2, 1, 7)
 S = struct.pack("<4H4I10H10I", 1, 4, 5, 2, 24, 44, 84, 0, *S_ENDS, *S_COSTS)
 
+# S in edition 2, with the arc 3→4 closed in column 2
+CLOSED_COSTS = S_COSTS[:-1] + (None,)
+CLOSED = b"\2" + S[1:-4] + b"\xff" * 4
+
 # numbers that do not fit 32 bits; ctypes would cut three of them to 1
 BEYOND = (2**32, 2**32 + 1, 2**64 + 1, -1, 1 - 2**32)
 
@@ -52,9 +56,9 @@ class Cases(unittest.TestCase):
 
     def test_build_and_unpack(self):
         self.assertEqual(len(S), 84)
-        self.assertEqual(vihrolom.build(4, 2, S_ENDS, S_COSTS), S)
-        self.assertEqual(vihrolom.check(S), Sizes(nodes=4, arcs=5, columns=2))
-        self.assertEqual(vihrolom.unpack(S), Lists(Sizes(4, 5, 2), S_ENDS, S_COSTS))
+        self.assertEqual(vihrolom.build(1, 4, 2, S_ENDS, S_COSTS), S)
+        self.assertEqual(vihrolom.check(S), Sizes(nodes=4, arcs=5, columns=2, edition=1))
+        self.assertEqual(vihrolom.unpack(S), Lists(Sizes(4, 5, 2, 1), S_ENDS, S_COSTS))
 
     def test_rank(self):
         first = [Path((1, 2, 3, 4), 5), Path((1, 3, 4), 7), Path((1, 2, 4), 8)]
@@ -84,20 +88,38 @@ class Cases(unittest.TestCase):
         at_once = Choice((1, 2, 4), figure=3, worst=1, count=1, settled=True, floor=None)
         self.assertEqual(vihrolom.robust(S, 2, 1, 4, 1), at_once)
 
+    def test_arc_closed_in_one_column(self):
+        self.assertEqual(vihrolom.build(2, 4, 2, S_ENDS, CLOSED_COSTS), CLOSED)
+        self.assertEqual(vihrolom.unpack(CLOSED), Lists(Sizes(4, 5, 2, 2), S_ENDS, CLOSED_COSTS))
+        # in column 1 all is as it was
+        self.assertEqual(vihrolom.label(CLOSED, 1, 4), [5, 3, 2, 0])
+        self.assertEqual(vihrolom.rank(CLOSED, 1, 1, 4, 5), vihrolom.rank(S, 1, 1, 4, 5))
+        self.assertEqual(vihrolom.shortest(CLOSED, 1, 3, 4), Path((3, 4), 2))
+        # in column 2 the arc is not there
+        self.assertEqual(vihrolom.label(CLOSED, 2, 4), [5, 1, None, 0])
+        self.assertEqual(vihrolom.rank(CLOSED, 2, 1, 4, 5), [Path((1, 2, 4), 5)])
+        self.assertEqual(outcome(vihrolom.shortest, CLOSED, 2, 3, 4), (15, 0))
+        # a route must be open in both, and is held against the best path of each
+        self.assertEqual(vihrolom.regret(CLOSED, 1, 4, [1, 2, 4]), Regret(3, 1))
+        self.assertEqual(outcome(vihrolom.regret, CLOSED, 1, 4, [1, 3, 4]), (14, 2))
+        self.assertEqual(vihrolom.robust(CLOSED, 1, 1, 4, 5), Choice((1, 2, 4), 3, 1, 1, True, None))
+        self.assertEqual(outcome(vihrolom.robust, CLOSED, 1, 3, 4, 5), (15, 0))
+        self.assertEqual(vihrolom.sheet(CLOSED), "route 1 2 4\nregret 3 column 1\nranked 1 settled\n")
+
     def test_ring_of_zero_costs(self):
-        image = vihrolom.build(4, 1, [1, 3, 2, 3, 2, 4, 3, 2, 3, 4], [0] * 5)
+        image = vihrolom.build(1, 4, 1, [1, 3, 2, 3, 2, 4, 3, 2, 3, 4], [0] * 5)
         self.assertEqual(vihrolom.rank(image, 1, 1, 4, 5), [Path((1, 3, 2, 4), 0), Path((1, 3, 4), 0)])
 
     def test_network_without_arcs(self):
-        image = vihrolom.build(2, 1, [], [])
+        image = vihrolom.build(1, 2, 1, [], [])
         self.assertEqual(len(image), 24)
-        self.assertEqual(vihrolom.unpack(image), Lists(Sizes(2, 0, 1), (), ()))
+        self.assertEqual(vihrolom.unpack(image), Lists(Sizes(2, 0, 1, 1), (), ()))
         self.assertEqual(vihrolom.label(image, 1, 2), [None, 0])
         self.assertEqual(outcome(vihrolom.robust, image, 1, 1, 2, 1), (15, 0))
 
     def test_line_of_200_nodes(self):
         ends = [node for tail in range(1, 200) for node in (tail, tail + 1)]
-        image = vihrolom.build(200, 1, ends, [1_000_000] * 199)
+        image = vihrolom.build(1, 200, 1, ends, [1_000_000] * 199)
         line = Path(tuple(range(1, 201)), 199_000_000)
         self.assertEqual(vihrolom.shortest(image, 1, 1, 200), line)
         self.assertEqual(vihrolom.rank(image, 1, 1, 200, 256), [line])
@@ -120,7 +142,7 @@ class Cases(unittest.TestCase):
 
     def test_sheet_of_a_refusal(self):
         self.assertEqual(vihrolom.sheet(b""), "refused 1 at 0\n")
-        self.assertEqual(vihrolom.sheet(vihrolom.build(2, 1, [], [])), "refused 15 at 0\n")
+        self.assertEqual(vihrolom.sheet(vihrolom.build(1, 2, 1, [], [])), "refused 15 at 0\n")
         self.assertEqual(vihrolom.sheet(S[:32] + S[28:32] + S[36:]), "refused 8 at 2\n")
 
 
@@ -156,7 +178,8 @@ class Refusals(Refusing):
         self.refused_image(5, 0, S[:-1])
 
     def test_header(self):
-        self.refused_field(2, 0, 0, "<H", 7)
+        for edition in (0, 3, 7, 257, 512):
+            self.refused_field(2, 0, 0, "<H", edition)
         for offset, value in [(2, 0), (2, 1), (2, 201), (2, 65535), (4, 1001), (6, 0), (6, 9)]:
             self.refused_field(3, 0, offset, "<H", value)
         for offset, value in [(8, 25), (12, 40), (16, 85), (20, 1)]:
@@ -174,18 +197,21 @@ class Refusals(Refusing):
 
     def test_build(self):
         build = vihrolom.build
+        for edition in (0, 3, 7):
+            self.refused(2, 0, build, edition, 1, 9, S_ENDS, S_COSTS)
         for nodes in (0, 1, 201):
-            self.refused(3, 0, build, nodes, 2, S_ENDS, S_COSTS)
+            self.refused(3, 0, build, 1, nodes, 2, S_ENDS, S_COSTS)
         for columns in (0, 9):
-            self.refused(3, 0, build, 4, columns, S_ENDS, S_COSTS)
-        self.refused(3, 0, build, 4, 1, [1, 2] * 1001, [1] * 1001)
-        self.refused(4, 0, build, 4, 2, S_ENDS + (1,), S_COSTS)
-        self.refused(4, 0, build, 4, 2, S_ENDS, S_COSTS[:-1])
-        self.refused(6, 0, build, 4, 2, (0,) + S_ENDS[1:], S_COSTS)
-        self.refused(6, 4, build, 4, 2, S_ENDS[:-1] + (5,), S_COSTS)
-        self.refused(7, 2, build, 4, 2, S_ENDS[:4] + (2, 2) + S_ENDS[6:], S_COSTS)
-        self.refused(8, 1, build, 4, 2, (1, 2, 1, 2) + S_ENDS[4:], S_COSTS)
-        self.refused(9, 9, build, 4, 2, S_ENDS, S_COSTS[:-1] + (1_000_001,))
+            self.refused(3, 0, build, 1, 4, columns, S_ENDS, S_COSTS)
+        self.refused(3, 0, build, 1, 4, 1, [1, 2] * 1001, [1] * 1001)
+        self.refused(4, 0, build, 1, 4, 2, S_ENDS + (1,), S_COSTS)
+        self.refused(4, 0, build, 1, 4, 2, S_ENDS, S_COSTS[:-1])
+        self.refused(6, 0, build, 1, 4, 2, (0,) + S_ENDS[1:], S_COSTS)
+        self.refused(6, 4, build, 1, 4, 2, S_ENDS[:-1] + (5,), S_COSTS)
+        self.refused(7, 2, build, 1, 4, 2, S_ENDS[:4] + (2, 2) + S_ENDS[6:], S_COSTS)
+        self.refused(8, 1, build, 1, 4, 2, (1, 2, 1, 2) + S_ENDS[4:], S_COSTS)
+        self.refused(9, 9, build, 1, 4, 2, S_ENDS, S_COSTS[:-1] + (1_000_001,))
+        self.refused(9, 9, build, 1, 4, 2, S_ENDS, CLOSED_COSTS)
 
     def test_start_and_goal(self):
         for start, goal in [(1, 1), (0, 4), (5, 4), (1, 0), (1, 5)]:
@@ -247,8 +273,9 @@ class Numbers(Refusing):
 
     def test_numbers_beyond_32_bits(self):
         for number in BEYOND:
-            self.refused(3, 0, vihrolom.build, number, 2, S_ENDS, S_COSTS)
-            self.refused(3, 0, vihrolom.build, 4, number, S_ENDS, S_COSTS)
+            self.refused(2, 0, vihrolom.build, number, 4, 2, S_ENDS, S_COSTS)
+            self.refused(3, 0, vihrolom.build, 1, number, 2, S_ENDS, S_COSTS)
+            self.refused(3, 0, vihrolom.build, 1, 4, number, S_ENDS, S_COSTS)
             self.refused(10, 0, vihrolom.label, S, 1, number)
             self.refused(11, 0, vihrolom.label, S, number, 4)
             self.refused(12, 0, vihrolom.rank, S, 1, 1, 4, number)
@@ -262,95 +289,106 @@ class Numbers(Refusing):
 
     def test_nodes_beyond_16_bits(self):
         for node in (2**16, 2**16 + 3, *BEYOND):
-            self.refused(6, 1, vihrolom.build, 4, 2, S_ENDS[:3] + (node,) + S_ENDS[4:], S_COSTS)
+            self.refused(6, 1, vihrolom.build, 1, 4, 2, S_ENDS[:3] + (node,) + S_ENDS[4:], S_COSTS)
             self.refused(14, 1, vihrolom.regret, S, 1, 4, [1, node, 4])
             self.refused(14, 0, vihrolom.regret, S, 1, 4, [node, 3, 4])
 
     def test_costs(self):
-        for cost in (1_000_001, 2**32 - 1, 2**32, 2**32 + 1, 2**64 + 1):
-            self.refused(9, 3, vihrolom.build, 4, 2, S_ENDS, S_COSTS[:3] + (cost,) + S_COSTS[4:])
+        for cost in (1_000_001, 2**32 - 2, 2**32 - 1, 2**32, 2**32 + 1, 2**64 + 1):
+            for edition in (1, 2):
+                costs = S_COSTS[:3] + (cost,) + S_COSTS[4:]
+                self.refused(9, 3, vihrolom.build, edition, 4, 2, S_ENDS, costs)
         for cost in (-1, 1 - 2**32, -(2**64)):
             with self.assertRaisesRegex(ValueError, "index 3"):
-                vihrolom.build(4, 2, S_ENDS, S_COSTS[:3] + (cost,) + S_COSTS[4:])
-        greatest = vihrolom.build(2, 1, [1, 2], [1_000_000])
+                vihrolom.build(1, 4, 2, S_ENDS, S_COSTS[:3] + (cost,) + S_COSTS[4:])
+        greatest = vihrolom.build(1, 2, 1, [1, 2], [1_000_000])
         self.assertEqual(vihrolom.shortest(greatest, 1, 1, 2), Path((1, 2), 1_000_000))
 
     def test_no_whole_numbers(self):
         for wrong in (1.0, "1", None):
             for call, arguments in [
-                (vihrolom.build, (wrong, 1, [1, 2], [1])),
-                (vihrolom.build, (2, 1, [1, wrong], [1])),
-                (vihrolom.build, (2, 1, [1, 2], [wrong])),
+                (vihrolom.build, (wrong, 2, 1, [1, 2], [1])),
+                (vihrolom.build, (1, wrong, 1, [1, 2], [1])),
+                (vihrolom.build, (1, 2, 1, [1, wrong], [1])),
                 (vihrolom.label, (S, wrong, 4)),
                 (vihrolom.regret, (S, 1, 4, [1, wrong, 4])),
                 (vihrolom.rank, (S, 1, 1, 4, wrong)),
                 (vihrolom.robust, (S, 1, 1, wrong, 5)),
             ]:
                 self.assertRaises(TypeError, call, *arguments)
+        for wrong in (1.0, "1"):
+            self.assertRaises(TypeError, vihrolom.build, 2, 2, 1, [1, 2], [wrong])
 
     def test_images_that_are_no_bytes(self):
         for wrong in (84, "S", None, [1, 0]):
             self.assertRaises(TypeError, vihrolom.check, wrong)
         for image in (bytearray(S), memoryview(S), memoryview(S).cast("I")):
-            self.assertEqual(vihrolom.check(image), Sizes(4, 5, 2))
+            self.assertEqual(vihrolom.check(image), Sizes(4, 5, 2, 1))
 
 
 class Plain:
-    """A network whose answers are found by looking at all loopless paths."""
+    """A network whose answers are found by looking at all loopless paths. A closed arc costs None."""
 
-    def __init__(self, nodes, arcs, columns):
+    def __init__(self, edition, nodes, arcs, columns):
+        self.edition = edition
         self.nodes = nodes
         self.arcs = arcs
         self.columns = columns
+        self.every = range(1, len(columns) + 1)
         self.costs = [dict(zip(arcs, column)) for column in columns]
 
     def image(self):
         m, k = len(self.arcs), len(self.columns)
         ends = [node for arc in self.arcs for node in arc]
-        costs = [cost for column in self.columns for cost in column]
+        costs = [2**32 - 1 if cost is None else cost for column in self.columns for cost in column]
         form = f"<4H4I{2 * m}H{m * k}I"
-        header = (1, self.nodes, m, k, 24, 24 + 4 * m, 24 + 4 * m + 4 * m * k, 0)
+        header = (self.edition, self.nodes, m, k, 24, 24 + 4 * m, 24 + 4 * m + 4 * m * k, 0)
         return struct.pack(form, *header, *ends, *costs)
 
-    def paths(self, start, goal, used=()):
+    def is_open(self, u, arc):
+        return arc in self.arcs and self.costs[u - 1][arc] is not None
+
+    def paths(self, columns, start, goal, used=()):
+        """The paths that are open in these columns."""
         used = (*used, start)
         if start == goal:
             return [used]
         heads = [head for tail, head in self.arcs if tail == start and head not in used]
-        return [path for head in heads for path in self.paths(head, goal, used)]
+        heads = [head for head in heads if all(self.is_open(u, (start, head)) for u in columns)]
+        return [path for head in heads for path in self.paths(columns, head, goal, used)]
 
     def cost(self, u, path):
         return sum(self.costs[u - 1][arc] for arc in zip(path, path[1:]))
 
-    def label(self, u, goal):
-        least = []
-        for node in range(1, self.nodes + 1):
-            least.append(min((self.cost(u, path) for path in self.paths(node, goal)), default=None))
-        return least
+    def least(self, u, start, goal):
+        return min((self.cost(u, path) for path in self.paths([u], start, goal)), default=None)
 
-    def ranked(self, u, start, goal):
-        paths = [Path(path, self.cost(u, path)) for path in self.paths(start, goal)]
+    def label(self, u, goal):
+        return [self.least(u, node, goal) for node in range(1, self.nodes + 1)]
+
+    def ranked(self, columns, u, start, goal):
+        """The paths that are open in these columns, in the ranking order in u."""
+        paths = [Path(path, self.cost(u, path)) for path in self.paths(columns, start, goal)]
         return sorted(paths, key=by_rank)
 
     def rank(self, u, start, goal, limit):
-        return self.ranked(u, start, goal)[:limit] or (15, 0)
+        return self.ranked([u], u, start, goal)[:limit] or (15, 0)
 
     def shortest(self, u, start, goal):
-        ranked = self.ranked(u, start, goal)
+        ranked = self.ranked([u], u, start, goal)
         return ranked[0] if ranked else (15, 0)
 
     def deviations(self, start, goal, paths):
-        """For each path its deviation in each column."""
-        columns = range(1, len(self.columns) + 1)
-        every = self.paths(start, goal)
-        bests = [min(self.cost(u, path) for path in every) for u in columns]
-        return [[self.cost(u, path) - best for u, best in zip(columns, bests)] for path in paths]
+        """For each path, which is open in every column, its deviation in each."""
+        bests = [self.least(u, start, goal) for u in self.every]
+        return [[self.cost(u, path) - best for u, best in zip(self.every, bests)] for path in paths]
 
     def regret(self, start, goal, nodes):
         if not nodes or nodes[0] != start:
             return 14, 0
         for i in range(1, len(nodes)):
-            if nodes[i] in nodes[:i] or (nodes[i - 1], nodes[i]) not in self.arcs:
+            arc = nodes[i - 1], nodes[i]
+            if nodes[i] in nodes[:i] or not all(self.is_open(u, arc) for u in self.every):
                 return 14, i
         if nodes[-1] != goal:
             return 14, len(nodes)
@@ -358,7 +396,7 @@ class Plain:
         return Regret(max(row), row.index(max(row)) + 1)
 
     def robust(self, u, start, goal, limit):
-        paths = [path.nodes for path in self.ranked(u, start, goal)]
+        paths = [path.nodes for path in self.ranked(self.every, u, start, goal)]
         if not paths:
             return 15, 0
         rows = self.deviations(start, goal, paths)
@@ -375,14 +413,20 @@ class Plain:
 
 
 def draw_network(draw):
-    """A network of 2 to 7 nodes, sparse or dense, with few or many equal costs."""
+    """A network of 2 to 7 nodes, sparse or dense, with few or many equal costs and closed arcs."""
     nodes = draw.randint(2, 7)
     share = draw.choice((0.3, 0.5, 0.7, 1.0))
     pairs = [(tail, head) for tail in range(1, nodes + 1) for head in range(1, nodes + 1) if tail != head]
     arcs = [pair for pair in pairs if draw.random() < share]
     top = draw.choice((0, 1, 3, 20, 1_000_000))
-    columns = [[draw.randint(0, top) for _ in arcs] for _ in range(draw.randint(1, 4))]
-    return Plain(nodes, arcs, columns)
+    edition = draw.choice((1, 2))
+    closed = draw.choice((0, 0.05, 0.3)) if edition == 2 else 0
+
+    def cost():
+        return None if draw.random() < closed else draw.randint(0, top)
+
+    columns = [[cost() for _ in arcs] for _ in range(draw.randint(1, 4))]
+    return Plain(edition, nodes, arcs, columns)
 
 
 class AgainstEnumeration(unittest.TestCase):
@@ -397,10 +441,11 @@ class AgainstEnumeration(unittest.TestCase):
 
     def agree_on_lists(self, plain):
         image = plain.image()
-        sizes = Sizes(plain.nodes, len(plain.arcs), len(plain.columns))
+        sizes = Sizes(plain.nodes, len(plain.arcs), len(plain.columns), plain.edition)
         ends = tuple(node for arc in plain.arcs for node in arc)
         costs = tuple(cost for column in plain.columns for cost in column)
-        self.assertEqual(vihrolom.build(sizes.nodes, sizes.columns, ends, costs), image)
+        given = vihrolom.build(sizes.edition, sizes.nodes, sizes.columns, ends, costs)
+        self.assertEqual(given, image)
         self.assertEqual(vihrolom.unpack(image), Lists(sizes, ends, costs))
 
     def agree_on_paths(self, plain, draw):
@@ -412,7 +457,7 @@ class AgainstEnumeration(unittest.TestCase):
             self.agree(plain, vihrolom.rank, column, start, goal, limit)
         for limit in (1, draw.randint(2, 12), 256):
             self.agree(plain, vihrolom.robust, column, start, goal, limit)
-        paths = plain.paths(start, goal)
+        paths = plain.paths([], start, goal)
         for path in draw.sample(paths, min(3, len(paths))):
             self.agree(plain, vihrolom.regret, start, goal, path)
             self.agree(plain, vihrolom.regret, start, goal, path[:-1])
@@ -443,7 +488,7 @@ class Passing(unittest.TestCase):
 
         library = mock.Mock(vihrolom_build=function, vihrolom_check=function, vihrolom_regret=function)
         with mock.patch.object(vihrolom, "_library", return_value=library):
-            outcome(vihrolom.build, 2, 1, [], [])
+            outcome(vihrolom.build, 1, 2, 1, [], [])
             outcome(vihrolom.check, b"")
             outcome(vihrolom.regret, b"", 1, 2, [])
         self.assertEqual(len(seen), 6)

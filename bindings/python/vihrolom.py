@@ -9,10 +9,14 @@ The library's file is named by the environment variable VIHROLOM_LIBRARY; if tha
 target/sharedlib/libvihrolom.so of the repository, which tools/build-library makes. It is loaded by
 the first call.
 
+An image of edition 2 may have arcs that are closed in a column: in lists of costs they have None.
+A path of a column uses arcs that are open in it. `regret` and `robust` are about paths that are open
+in every column, and hold them in each against the best path of that column.
+
 Numbers may be any whole numbers. One that does not fit the 32 bits of its parameter, or the 16 bits
 of a node in a list, is never cut down to them: it is refused by the refusal table, since it is
-outside 1..n, 1..k or 1..256 or above 1,000,000. The table has no row for a negative cost; that
-raises ValueError. What is no whole number raises TypeError.
+no edition, outside 1..n, 1..k or 1..256 or above 1,000,000. The table has no row for a negative cost;
+that raises ValueError. What is no whole number raises TypeError.
 """
 from __future__ import annotations
 
@@ -28,21 +32,22 @@ _LIBRARY = os.path.join(_FOLDER, "..", "..", "target", "sharedlib", "libvihrolom
 
 _GREATEST_16 = 2**16 - 1
 _GREATEST_32 = 2**32 - 1
-_NOT_REACHED = _GREATEST_32
+# in the place of a cost: the arc is closed; in the place of a label: the goal cannot be reached
+_MARK = _GREATEST_32
 _MOST_PATHS = 256
 _SHEET_PATHS = 48
 
 # The rows of the refusal table (REFERENCE, section 6.2), from 1 on, without their places.
 _ROWS = (
     "image under 24 bytes",
-    "edition isn't 1",
+    "edition isn't 1 or 2",
     "n, m or k outside its range",
     "an offset, total or reserved field is wrong; in Build, odd node list or costs not mk",
     "image length isn't the total",
     "tail or head outside 1..n",
     "tail equals head",
     "arc not above the one before",
-    "cost above 1,000,000",
+    "cost above 1,000,000, or an arc closed in edition 1",
     "start or goal outside 1..n, or equal",
     "column outside 1..k",
     "K outside 1..256",
@@ -72,20 +77,24 @@ class LibraryMissing(OSError):
 
 @dataclass(frozen=True)
 class Sizes:
-    """How many nodes, arcs and columns a network has."""
+    """How many nodes, arcs and columns a network has, and the edition of its image."""
 
     nodes: int
     arcs: int
     columns: int
+    edition: int
 
 
 @dataclass(frozen=True)
 class Lists:
-    """What an image holds: tail and head of each arc in turn, and the costs, column after column."""
+    """What an image holds: tail and head of each arc in turn, and the costs, column after column.
+
+    The cost is None where the arc is closed.
+    """
 
     sizes: Sizes
     ends: Tuple[int, ...]
-    costs: Tuple[int, ...]
+    costs: Tuple[Optional[int], ...]
 
 
 @dataclass(frozen=True)
@@ -121,22 +130,30 @@ class Choice:
     floor: Optional[int]
 
 
-def build(nodes: int, columns: int, ends: Iterable[int], costs: Iterable[int]) -> bytes:
-    """The image of a network.
+def build(
+    edition: int,
+    nodes: int,
+    columns: int,
+    ends: Iterable[int],
+    costs: Iterable[Optional[int]],
+) -> bytes:
+    """The image of a network, of edition 1 or 2.
 
     `ends` has tail and head of each arc in turn, rising by tail, then head; `costs` has the costs of
-    all arcs in column 1, then those in column 2, and so on.
+    all arcs in column 1, then those in column 2, and so on. In edition 2 a cost may be None: the arc
+    is closed in that column.
     """
     arc_ends, arc_costs = _node_list(ends), _cost_list(costs)
     image = (ctypes.c_uint8 * (24 + 2 * len(arc_ends) + 4 * len(arc_costs)))()
-    reply = _call("build", _number(nodes), _number(columns), arc_ends, arc_costs, image)
+    sizes = _number(nodes), _number(columns)
+    reply = _call("build", _number(edition), *sizes, arc_ends, arc_costs, image)
     return bytes(image[: reply.v0])
 
 
 def check(image: bytes) -> Sizes:
-    """The sizes of an image's network, if the image is sound."""
+    """The sizes of an image's network and its edition, if the image is sound."""
     reply = _call("check", _image(image))
-    return Sizes(reply.v0, reply.v1, reply.v2)
+    return Sizes(reply.v0, reply.v1, reply.v2, reply.v3)
 
 
 def unpack(image: bytes) -> Lists:
@@ -145,14 +162,14 @@ def unpack(image: bytes) -> Lists:
     ends = (ctypes.c_uint16 * (2 * sizes.arcs))()
     costs = (ctypes.c_uint32 * (sizes.arcs * sizes.columns))()
     _call("unpack", _image(image), ends, costs)
-    return Lists(sizes, tuple(ends), tuple(costs))
+    return Lists(sizes, tuple(ends), tuple(_unmarked(costs)))
 
 
 def label(image: bytes, column: int, goal: int) -> List[Optional[int]]:
     """For each node, from 1 on, its least cost to the goal; None if it cannot reach the goal."""
     labels = (ctypes.c_uint32 * check(image).nodes)()
     _call("label", _image(image), _number(column), _number(goal), labels)
-    return [None if cost == _NOT_REACHED else cost for cost in labels]
+    return _unmarked(labels)
 
 
 def shortest(image: bytes, column: int, start: int, goal: int) -> Path:
@@ -163,7 +180,7 @@ def shortest(image: bytes, column: int, start: int, goal: int) -> Path:
 
 
 def regret(image: bytes, start: int, goal: int, nodes: Iterable[int]) -> Regret:
-    """The greatest regret of the path with these nodes."""
+    """The greatest regret of the path with these nodes, which must be open in every column."""
     reply = _call("regret", _image(image), _number(start), _number(goal), _node_list(nodes))
     return Regret(reply.v0, reply.v1)
 
@@ -182,7 +199,8 @@ def rank(image: bytes, column: int, start: int, goal: int, limit: int) -> List[P
 def robust(image: bytes, column: int, start: int, goal: int, limit: int) -> Choice:
     """The path of least greatest regret, sought among the first `limit` paths ranked in `column`.
 
-    `limit` is 1 to 256. The answer is settled as soon as no later path can have less regret.
+    Ranked are the paths that are open in every column. `limit` is 1 to 256. The answer is settled as
+    soon as no later path can have less regret.
     """
     width = check(image).nodes
     path = (ctypes.c_uint16 * width)()
@@ -215,6 +233,11 @@ def answer_text(choice: Choice, route: str, worst: str) -> str:
         f"regret {choice.figure} column {worst}\n"
         f"ranked {choice.count} {state}\n"
     )
+
+
+def _unmarked(numbers: ctypes.Array) -> List[Optional[int]]:
+    """Costs or labels, with None for the mark."""
+    return [None if number == _MARK else number for number in numbers]
 
 
 def _row(nodes: ctypes.Array, width: int, index: int) -> Tuple[int, ...]:
@@ -251,9 +274,12 @@ def _node_list(nodes: Iterable[int]) -> ctypes.Array:
     return (ctypes.c_uint16 * len(places))(*places)
 
 
-def _cost_list(costs: Iterable[int]) -> ctypes.Array:
-    """The costs of a list; the greatest number, too large for a cost, stands for a greater one."""
-    places = [min(operator.index(cost), _GREATEST_32) for cost in costs]
+def _cost_list(costs: Iterable[Optional[int]]) -> ctypes.Array:
+    """The costs of a list, with the mark for None.
+
+    No number closes an arc: the one below the mark, too large for a cost, stands for a greater one.
+    """
+    places = [_MARK if cost is None else min(operator.index(cost), _MARK - 1) for cost in costs]
     for index, cost in enumerate(places):
         if cost < 0:
             raise ValueError(f"the cost at index {index} is negative: {cost}")
@@ -276,7 +302,7 @@ _NODES = (ctypes.POINTER(ctypes.c_uint16), ctypes.c_size_t)
 _WORDS = (ctypes.POINTER(ctypes.c_uint32), ctypes.c_size_t)
 
 _FUNCTIONS = {
-    "build": (_NUMBER, _NUMBER, _NODES, _WORDS, _BYTES),
+    "build": (_NUMBER, _NUMBER, _NUMBER, _NODES, _WORDS, _BYTES),
     "check": (_BYTES,),
     "unpack": (_BYTES, _NODES, _WORDS),
     "label": (_BYTES, _NUMBER, _NUMBER, _WORDS),

@@ -6,13 +6,17 @@
 
 use crate::raw::{self, Reply};
 
-/// Check: is this an image? Values: n, m, k.
+/// The mark. In the place of a cost, which it may have in edition 2 only: the arc is closed in that
+/// column. In the place of a label: the goal can't be reached from the node.
+pub const MARK: u32 = u32::MAX;
+
+/// Check: is this an image? Values: n, m, k, edition.
 pub fn check(image: &[u8]) -> Reply {
     // SAFETY: pointer and length are those of a slice that is borrowed for the call.
     unsafe { raw::vihrolom_check(image.as_ptr(), image.len()) }
 }
 
-/// Label: writes for each node the least cost to the goal, or 4,294,967,295 if it can't be reached.
+/// Label: writes for each node the least cost to the goal, or [`MARK`].
 pub fn label(image: &[u8], column: u32, goal: u32, labels: &mut [u32]) -> Reply {
     // SAFETY: each pointer and length are those of a slice that is borrowed for the call; the one that
     // is written is borrowed mutably, so that it overlaps no other.
@@ -122,13 +126,21 @@ pub fn robust(
     }
 }
 
-/// Build: writes the image of a network of n nodes and k columns, from 2m node numbers and mk costs;
-/// needs 24 + 4m + 4mk bytes. Value: length.
-pub fn build(n: u32, k: u32, nodes: &[u16], costs: &[u32], image: &mut [u8]) -> Reply {
+/// Build: writes the image, of edition 1 or 2, of a network of n nodes and k columns, from 2m node
+/// numbers and mk costs; needs 24 + 4m + 4mk bytes. Value: length.
+pub fn build(
+    edition: u32,
+    n: u32,
+    k: u32,
+    nodes: &[u16],
+    costs: &[u32],
+    image: &mut [u8],
+) -> Reply {
     // SAFETY: each pointer and length are those of a slice that is borrowed for the call; the one that
     // is written is borrowed mutably, so that it overlaps no other.
     unsafe {
         raw::vihrolom_build(
+            edition,
             n,
             k,
             nodes.as_ptr(),
@@ -141,7 +153,7 @@ pub fn build(n: u32, k: u32, nodes: &[u16], costs: &[u32], image: &mut [u8]) -> 
     }
 }
 
-/// Unpack: writes 2m node numbers and mk costs. Values: n, m, k.
+/// Unpack: writes 2m node numbers and mk costs. Values: n, m, k, edition.
 pub fn unpack(image: &[u8], nodes: &mut [u16], costs: &mut [u32]) -> Reply {
     // SAFETY: each pointer and length are those of a slice that is borrowed for the call; those that
     // are written are borrowed mutably, so that they overlap no other.

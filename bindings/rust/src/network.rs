@@ -8,28 +8,32 @@ const LONGEST_IMAGE: usize = 24 + 4 * 1_000 * (1 + 8);
 /// The largest K that is not refused.
 const MOST_PATHS: u32 = 256;
 
-/// The label of a node from which the goal can't be reached.
-const UNREACHED: u32 = u32::MAX;
-
 /// A network whose image the core has accepted: 2 to 200 nodes, up to 1,000 arcs, 1 to 8 columns,
-/// costs up to 1,000,000.
+/// costs up to 1,000,000; in edition 2 an arc may be closed in a column.
+///
+/// Paths of a column use arcs that are open in it. [`Network::regret`] and [`Network::robust`] are about
+/// paths that are open in every column, and hold them in each against the best path of that column.
 ///
 /// Nodes and columns are numbered from 1. Any number may be given to a call; what is not
 /// admitted is refused.
 #[derive(Clone, Debug, PartialEq, Eq, Hash)]
 pub struct Network {
     image: Vec<u8>,
+    edition: u32,
     nodes: u32,
     arcs: Vec<(u32, u32)>,
-    columns: Vec<Vec<u32>>,
+    columns: Vec<Vec<Option<u32>>>,
 }
 
 impl Network {
-    /// The network with this number of nodes, these arcs from tail to head, and these columns, each
-    /// with the cost of every arc. Arcs must rise strictly by tail, then head.
+    /// The network of an edition, 1 or 2, with this number of nodes, these arcs from tail to head, and
+    /// these columns, each with the cost of every arc. Arcs must rise strictly by tail, then head. Costs
+    /// are numbers, or in edition 2 options, of which `None` closes the arc in that column.
     ///
-    /// A column that hasn't got one cost for each arc is refused as row 4.
-    pub fn build<C: AsRef<[u32]>>(
+    /// A column that hasn't got one cost for each arc is refused as row 4, and `None` in edition 1 as
+    /// row 9.
+    pub fn build<T: Copy + Into<Option<u32>>, C: AsRef<[T]>>(
+        edition: u32,
         nodes: u32,
         arcs: &[(u32, u32)],
         columns: &[C],
@@ -43,7 +47,7 @@ impl Network {
         // More columns than 32 bits can count are as much out of range as the most that they can.
         let k = u32::try_from(columns.len()).unwrap_or(u32::MAX);
         let mut image = vec![0; LONGEST_IMAGE];
-        let [length, ..] = calls::build(nodes, k, &ends, &costs, &mut image).values()?;
+        let [length, ..] = calls::build(edition, nodes, k, &ends, &costs, &mut image).values()?;
         image.truncate(length as usize);
         image.shrink_to_fit();
         Network::from_image(image)
@@ -52,7 +56,7 @@ impl Network {
     /// The network of an image.
     pub fn from_image(image: impl Into<Vec<u8>>) -> Result<Network, Refusal> {
         let image = image.into();
-        let [nodes, m, k, ..] = calls::check(&image).values()?;
+        let [nodes, m, k, edition, ..] = calls::check(&image).values()?;
         let (m, k) = (m as usize, k as usize);
         let mut ends = vec![0; 2 * m];
         let mut costs = vec![0; m * k];
@@ -61,9 +65,12 @@ impl Network {
             .chunks_exact(2)
             .map(|arc| (arc[0].into(), arc[1].into()))
             .collect();
-        let columns = (0..k).map(|u| costs[u * m..(u + 1) * m].to_vec()).collect();
+        let columns = (0..k)
+            .map(|u| unmarked(&costs[u * m..(u + 1) * m]))
+            .collect();
         Ok(Network {
             image,
+            edition,
             nodes,
             arcs,
             columns,
@@ -73,6 +80,11 @@ impl Network {
     /// The image.
     pub fn image(&self) -> &[u8] {
         &self.image
+    }
+
+    /// The edition, 1 or 2.
+    pub fn edition(&self) -> u32 {
+        self.edition
     }
 
     /// The number of nodes.
@@ -85,8 +97,9 @@ impl Network {
         &self.arcs
     }
 
-    /// The columns, each with the costs of all arcs in their order. Column u stands at index u - 1.
-    pub fn columns(&self) -> &[Vec<u32>] {
+    /// The columns, each with the costs of all arcs in their order, `None` for an arc that is closed.
+    /// Column u stands at index u - 1.
+    pub fn columns(&self) -> &[Vec<Option<u32>>] {
         &self.columns
     }
 
@@ -95,10 +108,7 @@ impl Network {
     pub fn label(&self, column: u32, goal: u32) -> Result<Vec<Option<u32>>, Refusal> {
         let mut labels = vec![0; self.nodes as usize];
         calls::label(&self.image, column, goal, &mut labels).values()?;
-        Ok(labels
-            .into_iter()
-            .map(|label| (label != UNREACHED).then_some(label))
-            .collect())
+        Ok(unmarked(&labels))
     }
 
     /// The first path of the ranking order: the cheapest one, and of equally cheap ones the one with
@@ -113,7 +123,7 @@ impl Network {
         })
     }
 
-    /// The greatest regret of the path with these nodes.
+    /// The greatest regret of the path with these nodes, which must be open in every column.
     pub fn regret(&self, start: u32, goal: u32, nodes: &[u32]) -> Result<Regret, Refusal> {
         let nodes: Vec<u16> = nodes.iter().copied().map(in_16_bits).collect();
         let [figure, worst_column, ..] =
@@ -145,8 +155,8 @@ impl Network {
             .collect())
     }
 
-    /// The route of least greatest regret: paths are ranked in the column and counted until the
-    /// stopping rule holds, at most `k` of them. `k` is 1 to 256.
+    /// The route of least greatest regret: paths that are open in every column are ranked in this one and
+    /// counted until the stopping rule holds, at most `k` of them. `k` is 1 to 256.
     pub fn robust(&self, column: u32, start: u32, goal: u32, k: u32) -> Result<Choice, Refusal> {
         let mut path = vec![0; self.nodes as usize];
         let mut work = vec![0; self.workspace(room_for(k))];
@@ -198,13 +208,27 @@ fn filled(row: &[u16]) -> &[u16] {
     &row[..end]
 }
 
+/// Costs or labels, `None` for the mark.
+fn unmarked(numbers: &[u32]) -> Vec<Option<u32>> {
+    numbers
+        .iter()
+        .map(|&number| (number != calls::MARK).then_some(number))
+        .collect()
+}
+
+/// A cost as lists have it. A number never closes an arc: the one that is the mark becomes another,
+/// which is as much too large for a cost.
+fn marked(cost: Option<u32>) -> u32 {
+    cost.map_or(calls::MARK, |cost| cost.min(calls::MARK - 1))
+}
+
 /// The costs of all columns in one list. If a column hasn't got m costs, the list hasn't got m for
 /// each column either, as row 4 wants to see it: where the lengths even out, one cost is added.
-fn joined<C: AsRef<[u32]>>(m: usize, columns: &[C]) -> Vec<u32> {
+fn joined<T: Copy + Into<Option<u32>>, C: AsRef<[T]>>(m: usize, columns: &[C]) -> Vec<u32> {
     let mut costs: Vec<u32> = columns
         .iter()
         .flat_map(|column| column.as_ref())
-        .copied()
+        .map(|&cost| marked(cost.into()))
         .collect();
     let ragged = columns.iter().any(|column| column.as_ref().len() != m);
     if ragged && m.checked_mul(columns.len()) == Some(costs.len()) {

@@ -49,7 +49,7 @@ impl Reply {
 }
 
 extern "C" {
-    /// Check. v: n, m, k.
+    /// Check. v: n, m, k, edition.
     pub fn vihrolom_check(image: *const u8, image_length: usize) -> Reply;
 
     /// Label: writes n labels.
@@ -114,8 +114,9 @@ extern "C" {
         work_length: usize,
     ) -> Reply;
 
-    /// Build: writes an image of n nodes and k columns. v: length.
+    /// Build: writes an image of an edition, of n nodes and k columns. v: length.
     pub fn vihrolom_build(
+        edition: u32,
         n: u32,
         k: u32,
         nodes: *const u16,
@@ -126,7 +127,7 @@ extern "C" {
         image_length: usize,
     ) -> Reply;
 
-    /// Unpack: writes 2m node numbers and mk costs. v: n, m, k.
+    /// Unpack: writes 2m node numbers and mk costs. v: n, m, k, edition.
     pub fn vihrolom_unpack(
         image: *const u8,
         image_length: usize,

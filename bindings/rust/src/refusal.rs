@@ -9,7 +9,7 @@ use std::fmt;
 pub enum Refusal {
     /// 1: image under 24 bytes.
     ImageTooShort,
-    /// 2: edition isn't 1.
+    /// 2: edition isn't 1 or 2.
     WrongEdition,
     /// 3: n, m or k outside its range.
     SizeOutOfRange,
@@ -23,7 +23,8 @@ pub enum Refusal {
     ArcToItself(u32),
     /// 8: arc not above the one before, at this arc, from 0.
     ArcNotRising(u32),
-    /// 9: cost above 1,000,000, at this index in all columns' costs, from 0.
+    /// 9: cost above 1,000,000, or an arc that is closed in edition 1, at this index in all columns'
+    /// costs, from 0.
     CostTooLarge(u32),
     /// 10: start or goal outside 1..n, or equal.
     WrongEnds,
@@ -34,10 +35,10 @@ pub enum Refusal {
     /// 13: a lent slice is too short. A [`Network`](crate::Network) sizes its own and never gives it.
     SliceTooShort,
     /// 14: the node list is no path. The place is 0 if the list is empty or doesn't begin with start,
-    /// else the first position whose node repeats or has no arc from the node before, else the
-    /// list's length.
+    /// else the first position whose node repeats or has no arc from the node before that is open in
+    /// every column, else the list's length.
     NotAPath(u32),
-    /// 15: no path exists.
+    /// 15: no path exists in the column, or, in Robust, none that is open in every column.
     NoPath,
     /// 16: a path cost exceeds 4,000,000,000.
     CostOverflow,
@@ -46,14 +47,14 @@ pub enum Refusal {
 /// The table's words, by number from 1.
 const WORDS: [&str; 16] = [
     "image under 24 bytes",
-    "edition isn't 1",
+    "edition isn't 1 or 2",
     "n, m or k outside its range",
     "an offset, total or reserved field is wrong; in Build, odd node list or costs not mk",
     "image length isn't the total",
     "tail or head outside 1..n",
     "tail equals head",
     "arc not above the one before",
-    "cost above 1,000,000",
+    "cost above 1,000,000, or an arc closed in edition 1",
     "start or goal outside 1..n, or equal",
     "column outside 1..k",
     "K outside 1..256",

@@ -70,7 +70,7 @@ pub fn of_checked(answer: Checked) -> Reply
     ensures { λ r. ⌜ numbers r ≡ reply-of (checked answer) ⌝ }
 {
     match answer {
-        Checked::Network(sizes) => result(sizes.n, sizes.m, sizes.k, 0, 0, 0),
+        Checked::Network(sizes) => result(sizes.n, sizes.m, sizes.k, sizes.edition, 0, 0),
         Checked::Refused(refusal) => of_refusal(refusal),
     }
 }
@@ -90,7 +90,7 @@ pub fn of_unpacked(answer: Unpacked) -> Reply
     ensures { λ r. ⌜ numbers r ≡ reply-of (unpacked answer) ⌝ }
 {
     match answer {
-        Unpacked::Lists(sizes) => result(sizes.n, sizes.m, sizes.k, 0, 0, 0),
+        Unpacked::Lists(sizes) => result(sizes.n, sizes.m, sizes.k, sizes.edition, 0, 0),
         Unpacked::Refused(refusal) => of_refusal(refusal),
     }
 }

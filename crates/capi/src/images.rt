@@ -15,7 +15,7 @@ ghost use Rattle.packing.specs.Calls.{build-fault, build-outcome, unpack-fault,
 ghost use Rattle.packing.specs.RoundTrip.{ReadsBack, WritesAgain};
 ghost use Rattle.c_replies.specs.Replies.{numbers, reply-of};
 
-// REFERENCE, section 4.1. v0 to v2: n, m and k.
+// REFERENCE, section 4.1. v0 to v3: n, m, k and the edition.
 #[no_mangle]
 pub extern "C" fn vihrolom_check(image: &[u8]) -> Reply
     ensures { λ r. ⌜ numbers r ≡ reply-of (check-outcome (now (image .entry))) ⌝ }
@@ -27,21 +27,22 @@ pub extern "C" fn vihrolom_check(image: &[u8]) -> Reply
 // REFERENCE, section 4.7. v0: the image's length.
 #[no_mangle]
 pub extern "C" fn vihrolom_build(
+    edition: u32,
     n: u32,
     k: u32,
     nodes: &[u16],
     costs: &[u32],
     image: &mut [u8],
 ) -> Reply
-    ensures { λ r. ⌜ numbers r ≡ reply-of (build-outcome n k (now (nodes .entry)) (now (costs .entry)) (length (now (image .entry)))) ⌝ }
-    ensures { λ _. ⌜ now (image .exit) ≡ after (build-fault n k (now (nodes .entry)) (now (costs .entry)) (length (now (image .entry)))) (image-of n k (now (nodes .entry)) (now (costs .entry))) (now (image .entry)) ⌝ }
-    ensures { λ _. ⌜ (build-fault n k (now (nodes .entry)) (now (costs .entry)) (length (now (image .entry))) ≡ sound → ReadsBack n k (now (nodes .entry)) (now (costs .entry))) ⌝ }
+    ensures { λ r. ⌜ numbers r ≡ reply-of (build-outcome edition n k (now (nodes .entry)) (now (costs .entry)) (length (now (image .entry)))) ⌝ }
+    ensures { λ _. ⌜ now (image .exit) ≡ after (build-fault edition n k (now (nodes .entry)) (now (costs .entry)) (length (now (image .entry)))) (image-of edition n k (now (nodes .entry)) (now (costs .entry))) (now (image .entry)) ⌝ }
+    ensures { λ _. ⌜ (build-fault edition n k (now (nodes .entry)) (now (costs .entry)) (length (now (image .entry))) ≡ sound → ReadsBack edition n k (now (nodes .entry)) (now (costs .entry))) ⌝ }
 {
-    let answer = build(n, k, nodes, costs, image);
+    let answer = build(edition, n, k, nodes, costs, image);
     of_built(answer)
 }
 
-// REFERENCE, section 4.8. v0 to v2: n, m and k.
+// REFERENCE, section 4.8. v0 to v3: n, m, k and the edition.
 #[no_mangle]
 pub extern "C" fn vihrolom_unpack(image: &[u8], nodes: &mut [u16], costs: &mut [u32]) -> Reply
     ensures { λ r. ⌜ numbers r ≡ reply-of (unpack-outcome (now (image .entry)) (length (now (nodes .entry))) (length (now (costs .entry)))) ⌝ }

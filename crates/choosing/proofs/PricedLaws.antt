@@ -39,7 +39,7 @@ module _ {n m s t : ℕ} {star costs bests : List ℕ} (Q : Priced n m s t star 
   -- ---- one column
   module _ (u : ℕ) (from : 1 ≤ u) (upto : u ≤ length bests) where
     held : column (network n m (length bests) star costs) u ≡ graph (tails-of m star) (heads-of m star) (column-costs m costs u)
-    held = held-column n m (length bests) star costs u from upto
+    held = held-column (Q .columns) u from upto
 
     arcs : Arcs n (tails-of m star) (heads-of m star) (column-costs m costs u)
     arcs = columns-arcs (Q .columns) u from upto

@@ -4,8 +4,8 @@ use native.Mathlib.Omega.{arith}
 use native.Mathlib.Nat.{mul-le-mul-right, eq-or-lt-of-le}
 use mathlib.Core.Path.{_≡_, refl, sym, _∙_, ap, ap₂, subst}
 use mathlib.Core.Logic.{⊎-elim}
-use mathlib.Core.List.{List, [], _∷_, _++_, map, append-nil, List·Memᴰ·head}
-use lib.ListN.{length, getD, take, drop, replicate, drop-of-length-le, length-replicate, length-take, length-drop, length-append, length-map}
+use mathlib.Core.List.{List, [], _∷_, _++_, map, List·Memᴰ·head}
+use lib.ListN.{length, getD, take, drop, replicate, length-take, length-drop, length-append, length-map}
 use Rattle.terms.specs.Lists.{_∈_}
 use Rattle.terms.specs.Network.{Graph, Net, column}
 use Rattle.terms.specs.Paths.{Route, Path, cost}
@@ -17,17 +17,18 @@ use Rattle.labels.specs.Labels.{far, Least}
 use Rattle.candidates.specs.Slots.{Entry, entries, entry-at}
 use Rattle.candidates.specs.Routes.{routes}
 use Rattle.listing.specs.Rows.{rows-of}
-use Rattle.image.specs.Outcome.{Fault, sound, fault, _then_, after}
+use Rattle.image.specs.Outcome.{sound, fault, _then_, after}
 use Rattle.image.specs.Layout.{netOf}
+use Rattle.image.specs.Calls.{image-fault}
 use Rattle.image.proofs.NetworkLaws.{accepted-network}
-use Rattle.image.proofs.OutcomeLaws.{then-fault, then-next, then-sound, after-fault, after-sound}
+use Rattle.image.proofs.OutcomeLaws.{then-fault, then-next, then-sound, after-sound}
 use Rattle.branching.specs.Branches.{everything}
 use Rattle.branching.specs.Found.{FirstFound}
 use Rattle.branching.specs.declared.first.Found.{Found}
 use Rattle.ranking.specs.Ranking.{Ranked}
 use Rattle.ranking.proofs.ResultLaws.{ranked-count, ranked-cost}
 use Rattle.terms.proofs.PathLaws.{column-within}
-use Rattle.outcomes.specs.Calls.{ranking-rows, room-row, workspace, path-rows, rank-rows, rank-of, rank-rows-of, rank-costs-of, cleared}
+use Rattle.outcomes.specs.Calls.{ranking-rows, room-row, workspace, path-rows, rank-rows, rank-of, rank-rows-of, rank-costs-of}
 use Rattle.loading.specs.Accepted.{InColumn, Ends}
 use Rattle.loading.specs.Loaded.{Loaded}
 use Rattle.loading.proofs.LoadLaws.{loaded-least}
@@ -103,7 +104,7 @@ module _ (b : List ℕ) (u s t K : ℕ) where
     no-costs old = rw e
 
   -- ---- rows 15 and 16
-  module _ {m : ℕ} (c : InColumn b m u) (ends : Ends (netOf b .nodes) s t) where
+  module _ (accepted : image-fault b ≡ sound) (c : InColumn b u) (ends : Ends (netOf b .nodes) s t) where
     empty : (l : List Route) → length l ≡ 0 → l ≡ []
     empty [] e = refl
     empty (p ∷ l) e = absurd (omega arith)
@@ -118,7 +119,7 @@ module _ (b : List ℕ) (u s t K : ℕ) where
     none-listed k e =
         let z = empty (take K (ranked (netOf b .nodes) (column (netOf b) u) s t)) e in
         let none = first-of K (ranked (netOf b .nodes) (column (netOf b) u) s t) k z in
-        (path-none c ends (λ p i. let m = mem-length (path-ranked (netOf b .nodes) (column (netOf b) u) s t (column-within (accepted-network b (c .passes)) u) (ends .start-in .from) (ends .start-in .upto) (i .path)) in absurd (omega (arith, ap length none))), z)
+        (path-none accepted c ends (λ p i. let m = mem-length (path-ranked (netOf b .nodes) (column (netOf b) u) s t (column-within (accepted-network b accepted) u) (ends .start-in .from) (ends .start-in .upto) (i .path)) in absurd (omega (arith, ap length none))), z)
 
     first-path : (K : ℕ) (l : List Route) → 1 ≤ length (take K l) → (p : Route) × (p ∈ l)
     first-path zero l h = absurd (omega arith)
@@ -129,7 +130,7 @@ module _ (b : List ℕ) (u s t K : ℕ) where
     unfolding rank-of
     some-listed h =
         let p = first-path K (ranked (netOf b .nodes) (column (netOf b) u) s t) h in
-        some-path c ends (ranked-path (netOf b .nodes) (column (netOf b) u) s t (p .1))
+        some-path accepted c ends (ranked-path (netOf b .nodes) (column (netOf b) u) s t (p .1))
 
 -- ---- the workspace
 pub work-unused : {r : ℕ} {work work′ : List ℕ} → r ≡ 0 → ListedWork r work work′ → work′ ≡ work
@@ -141,7 +142,7 @@ work-emptied h (ListedWork.unused e _) = absurd (omega arith)
 work-emptied h (ListedWork.emptied _ w) = w
 
 -- ---- a loaded column
-module _ {b : List ℕ} {m u s t : ℕ} (c : InColumn b m u) (ends : Ends (netOf b .nodes) s t) {star ws overall : List ℕ} (l : Loaded (netOf b) u t star ws overall) where
+module _ {b : List ℕ} {u s t : ℕ} (accepted : image-fault b ≡ sound) (c : InColumn b u) (ends : Ends (netOf b .nodes) s t) {star ws overall : List ℕ} (l : Loaded (netOf b) u t star ws overall) where
   abbrev N : ℕ
   N = netOf b .nodes
 
@@ -159,13 +160,13 @@ module _ {b : List ℕ} {m u s t : ℕ} (c : InColumn b m u) (ends : Ends (netOf
   unfolding rank-of
   some-reached {K} k h =
       let a = column-least .attained s (omega (arith, ends .start-in .upto, l .labels-long)) (⊎-elim (λ e. absurd (h e)) (λ x. x) (eq-or-lt-of-le (column-least .at-most s))) in
-      let z = mem-length (path-ranked N (column (netOf b) u) s t (column-within (accepted-network b (c .passes)) u) (ends .start-in .from) (ends .start-in .upto) (a .1 .path)) in
+      let z = mem-length (path-ranked N (column (netOf b) u) s t (column-within (accepted-network b accepted) u) (ends .start-in .from) (ends .start-in .upto) (a .1 .path)) in
       omega (arith, length-take K all)
 
   -- paths cost less than 32 bits can hold
   pub light-paths : (p : Route) → Path (graph-of star ws) s t p → cost (graph-of star ws) p < 4294967296
   light-paths p h =
-      let k = column-cost-le (accepted-network b (c .passes)) (c .from) (c .upto) (subst (λ g. Path g s t p) (l .graph-is) h) in
+      let k = column-cost-le (accepted-network b accepted) (c .from) (c .upto) (subst (λ g. Path g s t p) (l .graph-is) h) in
       omega (arith, ap (λ (g : Graph). cost g p) (l .graph-is))
 
   -- what is listed in the arrays, for a network of n nodes, is listed in the image's column

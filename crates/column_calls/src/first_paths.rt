@@ -18,7 +18,7 @@ ghost use Rattle.listing.specs.Rows.{rows-of};
 ghost use Rattle.ranking.specs.Ranking.{Problem};
 ghost use Rattle.image.specs.Outcome.{sound, after};
 ghost use Rattle.image.specs.Layout.{netOf};
-ghost use Rattle.loading.specs.Accepted.{InColumn, Ends};
+ghost use Rattle.loading.specs.Accepted.{Accepted, InColumn, Ends};
 ghost use Rattle.loading.specs.Loaded.{Room};
 ghost use Rattle.outcomes.specs.Calls.{rank-of, rank-rows-of, rank-costs-of};
 ghost use Rattle.column_calls.specs.Slices.{ListSlices, ListedWork};
@@ -52,7 +52,7 @@ fn list_loaded(
 // no path.
 fn list_in(
     image: &[u8],
-    m: u32,
+    sizes: Sizes,
     u: u32,
     query: Query,
     star: &mut [u16],
@@ -62,20 +62,30 @@ fn list_in(
     rows: &mut [u16],
     costs: &mut [u32],
 ) -> usize
-    requires { ⌜ InColumn (now image) m u × Ends (netOf (now image) .nodes) (query .start) (query .goal) ⌝ }
-    requires { ⌜ (query .n ≡ netOf (now image) .nodes) × (query .limit ≡ far) × Room (netOf (now image) .nodes) m (now star) (now weights) (now overall) ⌝ }
+    requires { ⌜ Accepted (now image) sizes × InColumn (now image) u × Ends (netOf (now image) .nodes) (query .start) (query .goal) ⌝ }
+    requires { ⌜ (query .n ≡ sizes .n) × (query .limit ≡ far) × Room (sizes .n) (sizes .m) (now star) (now weights) (now overall) ⌝ }
     requires { ⌜ ListSlices (query .n) (query .slots) (now rows) (now costs) (now work) ⌝ }
     ensures { λ r. ⌜ r ≡ length (rank-of (now (image .entry)) u (query .start) (query .goal) (query .slots)) ⌝ }
     ensures { λ _. ⌜ now (rows .exit) ≡ after sound (rank-rows-of (now (image .entry)) u (query .start) (query .goal) (query .slots)) (now (rows .entry)) ⌝ }
     ensures { λ _. ⌜ now (costs .exit) ≡ after sound (rank-costs-of (now (image .entry)) u (query .start) (query .goal) (query .slots)) (now (costs .entry)) ⌝ }
     ensures { λ r. ⌜ ListedWork r (now (work .entry)) (now (work .exit)) ⌝ }
 {
-    load(image, m, u, query.goal, star, weights, overall);
+    let m = load(image, sizes, u, query.goal, star, weights, overall);
     let start = query.start as usize;
     if overall[start] == FAR {
         return 0;
     }
-    list_loaded(query, star, weights, overall, work, rows, costs)
+    let places = overall.len();
+    let size = 3 * m + places + 1 + places;
+    list_loaded(
+        query,
+        &star[..size],
+        &weights[..m],
+        overall,
+        work,
+        rows,
+        costs,
+    )
 }
 
 // The same, with room made for it.
@@ -90,8 +100,8 @@ pub fn list(
     costs: &mut [u32],
     work: &mut [u32],
 ) -> usize
-    requires { ⌜ InColumn (now image) (sizes .m) u × Ends (netOf (now image) .nodes) start goal ⌝ }
-    requires { ⌜ (sizes .n ≡ netOf (now image) .nodes) × ListSlices (netOf (now image) .nodes) wanted (now rows) (now costs) (now work) ⌝ }
+    requires { ⌜ Accepted (now image) sizes × InColumn (now image) u × Ends (netOf (now image) .nodes) start goal ⌝ }
+    requires { ⌜ ListSlices (netOf (now image) .nodes) wanted (now rows) (now costs) (now work) ⌝ }
     ensures { λ r. ⌜ r ≡ length (rank-of (now (image .entry)) u start goal wanted) ⌝ }
     ensures { λ _. ⌜ now (rows .exit) ≡ after sound (rank-rows-of (now (image .entry)) u start goal wanted) (now (rows .entry)) ⌝ }
     ensures { λ _. ⌜ now (costs .exit) ≡ after sound (rank-costs-of (now (image .entry)) u start goal wanted) (now (costs .entry)) ⌝ }
@@ -113,7 +123,7 @@ pub fn list(
     };
     list_in(
         image,
-        sizes.m,
+        sizes,
         u,
         query,
         &mut star[..size],

@@ -1,6 +1,7 @@
 // Label: for each node the least cost to the goal.
 use image::Checked;
 use image::Refusal;
+use image::Sizes;
 use image::check::check;
 use image::is_node;
 use loading::load;
@@ -17,7 +18,7 @@ ghost use Rattle.image.specs.Calls.{sizes};
 ghost use Rattle.image.specs.Answers.{checked};
 ghost use Rattle.column_calls.specs.Answers.{labelled};
 ghost use Rattle.outcomes.specs.Calls.{label-fault, label-outcome, labels-of};
-ghost use Rattle.loading.specs.Accepted.{Node, InColumn};
+ghost use Rattle.loading.specs.Accepted.{Accepted, Node, InColumn};
 ghost use Rattle.loading.specs.Loaded.{Room};
 
 // Label's answer.
@@ -49,7 +50,7 @@ fn check_label(image: &[u8], column: u32, goal: u32, room: usize) -> Checked
 // Writes the labels of the column, with room for its graph and the exact labels.
 fn write_labels_in(
     image: &[u8],
-    m: u32,
+    sizes: Sizes,
     column: u32,
     goal: u32,
     star: &mut [u16],
@@ -57,30 +58,29 @@ fn write_labels_in(
     exact: &mut [u64],
     labels: &mut [u32],
 )
-    requires { ⌜ InColumn (now image) m column × Node (netOf (now image) .nodes) goal ⌝ }
-    requires { ⌜ Room (netOf (now image) .nodes) m (now star) (now weights) (now exact) × (netOf (now image) .nodes ≤ length (now labels)) ⌝ }
+    requires { ⌜ Accepted (now image) sizes × InColumn (now image) column × Node (netOf (now image) .nodes) goal ⌝ }
+    requires { ⌜ Room (sizes .n) (sizes .m) (now star) (now weights) (now exact) × (netOf (now image) .nodes ≤ length (now labels)) ⌝ }
     ensures { λ _. ⌜ now (labels .exit) ≡ labels-of (now (image .entry)) column goal ++ drop (netOf (now (image .entry)) .nodes) (now (labels .entry)) ⌝ }
 {
-    load(image, m, column, goal as usize, star, weights, exact);
+    load(image, sizes, column, goal as usize, star, weights, exact);
     write_narrow(exact, labels);
 }
 
 // Writes the labels of the column.
-fn write_labels(image: &[u8], n: u32, m: u32, column: u32, goal: u32, labels: &mut [u32])
-    requires { ⌜ InColumn (now image) m column ⌝ }
-    requires { ⌜ (n ≡ netOf (now image) .nodes) × (n ≤ length (now labels)) ⌝ }
-    requires { ⌜ Node (netOf (now image) .nodes) goal ⌝ }
-    ensures { λ _. ⌜ now (labels .exit) ≡ labels-of (now (image .entry)) column goal ++ drop n (now (labels .entry)) ⌝ }
+fn write_labels(image: &[u8], sizes: Sizes, column: u32, goal: u32, labels: &mut [u32])
+    requires { ⌜ Accepted (now image) sizes × InColumn (now image) column × Node (netOf (now image) .nodes) goal ⌝ }
+    requires { ⌜ netOf (now image) .nodes ≤ length (now labels) ⌝ }
+    ensures { λ _. ⌜ now (labels .exit) ≡ labels-of (now (image .entry)) column goal ++ drop (netOf (now (image .entry)) .nodes) (now (labels .entry)) ⌝ }
 {
     let mut star = [0u16; 3403];
     let mut weights = [0u32; 1000];
     let mut exact = [0u64; 201];
-    let arcs = m as usize;
-    let places = n as usize + 1;
+    let arcs = sizes.m as usize;
+    let places = sizes.n as usize + 1;
     let size = 3 * arcs + places + 1 + places;
     write_labels_in(
         image,
-        m,
+        sizes,
         column,
         goal,
         &mut star[..size],
@@ -99,6 +99,6 @@ pub fn label(image: &[u8], column: u32, goal: u32, labels: &mut [u32]) -> Labell
     let Checked::Network(sizes) = answer else {
         return Labelled::Refused(answer.refusal());
     };
-    write_labels(image, sizes.n, sizes.m, column, goal, labels);
+    write_labels(image, sizes, column, goal, labels);
     Labelled::Written
 }

@@ -14,7 +14,7 @@ ghost use Rattle.image.specs.Calls.{sizes};
 ghost use Rattle.image.specs.Answers.{checked};
 ghost use Rattle.column_calls.specs.Answers.{listed};
 ghost use Rattle.outcomes.specs.Calls.{path-rows, rank-rows, rank-fault, rank-of, rank-rows-of, rank-costs-of, rank-outcome, cleared};
-ghost use Rattle.loading.specs.Accepted.{InColumn, Ends};
+ghost use Rattle.loading.specs.Accepted.{Accepted, InColumn, Ends};
 ghost use Rattle.outcomes.specs.Demands.{Kept2};
 ghost use Rattle.column_calls.specs.Slices.{ListSlices};
 
@@ -66,8 +66,8 @@ fn write_ranked(
     costs: &mut [u32],
     work: &mut [u32],
 ) -> Listed
-    requires { ⌜ InColumn (now image) (sizes .m) column × Ends (netOf (now image) .nodes) start goal ⌝ }
-    requires { ⌜ (sizes .n ≡ netOf (now image) .nodes) × ListSlices (netOf (now image) .nodes) wanted (now rows) (now costs) (now work) ⌝ }
+    requires { ⌜ Accepted (now image) sizes × InColumn (now image) column × Ends (netOf (now image) .nodes) start goal ⌝ }
+    requires { ⌜ ListSlices (netOf (now image) .nodes) wanted (now rows) (now costs) (now work) ⌝ }
     ensures { λ r. ⌜ listed r ≡ outcome (path-rows (now (image .entry)) column start goal) (length (rank-of (now (image .entry)) column start goal wanted) ∷ []) ⌝ }
     ensures { λ _. ⌜ now (rows .exit) ≡ after (path-rows (now (image .entry)) column start goal) (rank-rows-of (now (image .entry)) column start goal wanted) (now (rows .entry)) ⌝ }
     ensures { λ _. ⌜ now (costs .exit) ≡ after (path-rows (now (image .entry)) column start goal) (rank-costs-of (now (image .entry)) column start goal wanted) (now (costs .entry)) ⌝ }

@@ -18,7 +18,7 @@ ghost use Rattle.image.specs.Calls.{sizes};
 ghost use Rattle.image.specs.Answers.{checked};
 ghost use Rattle.column_calls.specs.Answers.{routed};
 ghost use Rattle.outcomes.specs.Calls.{shortest-rows, path-rows, shortest-fault, shortest-of, shortest-values, shortest-outcome};
-ghost use Rattle.loading.specs.Accepted.{InColumn, Ends};
+ghost use Rattle.loading.specs.Accepted.{Accepted, InColumn, Ends};
 
 // Shortest's answer.
 pub enum Routed {
@@ -51,12 +51,12 @@ fn write_first(
     route: &mut [u16],
     path: &mut [u16],
 ) -> Routed
-    requires { ⌜ InColumn (now image) (sizes .m) column × Ends (netOf (now image) .nodes) start goal ⌝ }
-    requires { ⌜ (sizes .n ≡ netOf (now image) .nodes) × (length (now route) ≡ netOf (now image) .nodes) × (netOf (now image) .nodes ≤ length (now path)) ⌝ }
+    requires { ⌜ Accepted (now image) sizes × InColumn (now image) column × Ends (netOf (now image) .nodes) start goal ⌝ }
+    requires { ⌜ (length (now route) ≡ netOf (now image) .nodes) × (netOf (now image) .nodes ≤ length (now path)) ⌝ }
     ensures { λ r. ⌜ routed r ≡ outcome (path-rows (now (image .entry)) column start goal) (shortest-values (now (image .entry)) column start goal) ⌝ }
     ensures { λ _. ⌜ now (path .exit) ≡ after (path-rows (now (image .entry)) column start goal) (shortest-of (now (image .entry)) column start goal) (now (path .entry)) ⌝ }
 {
-    let found = find(image, sizes.m, column, start, goal, route);
+    let found = find(image, sizes, column, start, goal, route);
     let Found::Tail(len, cost) = found else {
         return Routed::Refused(Refusal::NoPath);
     };
@@ -77,8 +77,8 @@ fn write_shortest(
     goal: u32,
     path: &mut [u16],
 ) -> Routed
-    requires { ⌜ InColumn (now image) (sizes .m) column × Ends (netOf (now image) .nodes) start goal ⌝ }
-    requires { ⌜ (sizes .n ≡ netOf (now image) .nodes) × (netOf (now image) .nodes ≤ length (now path)) ⌝ }
+    requires { ⌜ Accepted (now image) sizes × InColumn (now image) column × Ends (netOf (now image) .nodes) start goal ⌝ }
+    requires { ⌜ (netOf (now image) .nodes ≤ length (now path)) ⌝ }
     ensures { λ r. ⌜ routed r ≡ outcome (path-rows (now (image .entry)) column start goal) (shortest-values (now (image .entry)) column start goal) ⌝ }
     ensures { λ _. ⌜ now (path .exit) ≡ after (path-rows (now (image .entry)) column start goal) (shortest-of (now (image .entry)) column start goal) (now (path .entry)) ⌝ }
 {

@@ -11,7 +11,7 @@ use mathlib.Core.Logic.{⊎-elim}
 use lib.ListN.{length, getD, take, drop, set, length-append, length-drop, take-append-drop}
 use lib.Seq.{drop-cons, take-suc, take-at, take-add, take-length, drop-at, drop-drop, length-take-le, sets, sets-eq}
 use Rattle.terms.specs.Lists.{_∈_}
-use Rattle.terms.proofs.ListLaws.{take-mem}
+use Rattle.terms.proofs.ListLaws.{take-mem, drop-mem}
 use Rattle.image.specs.Bytes.{number, bytes, field, decode, encode}
 
 field-suc : (w : ℕ) (b : List ℕ) (i : ℕ) → i < length b → field (suc w) b i ≡ getD b i 0 + 256 * field w b (i + 1)
@@ -130,11 +130,6 @@ bytes-number [] all = refl
 bytes-number (b ∷ l) all =
     let low : b < 256 = all b (List·Memᴰ·head refl) in
     rw (add-mul-mod-self-left b 256 (number l), mod-eq-of-lt low, add-mul-div-left b (number l) {y = 256} (omega arith), div-eq-of-lt low, zero-add) (ap (λ (t : List ℕ). b ∷ t) (bytes-number l (λ x m. all x (List·Memᴰ·tail m))))
-
-pub drop-mem : (i : ℕ) (l : List ℕ) {x : ℕ} → x ∈ drop i l → x ∈ l
-drop-mem zero l m = m
-drop-mem (suc i) [] m = m
-drop-mem (suc i) (y ∷ l) m = List·Memᴰ·tail (drop-mem i l m)
 
 pub drop-bytes : (i : ℕ) (l : List ℕ) → AllBytes l → AllBytes (drop i l)
 drop-bytes i l all x m = all x (drop-mem i l m)

@@ -4,23 +4,23 @@ use Prim.Native.Nat.{ℕ, zero, suc, _+_, _*_, _≤_}
 use native.Mathlib.Omega.{arith}
 use native.Mathlib.Nat.{suc-mul, mul-comm}
 use mathlib.Core.Path.{_≡_, sym, _∙_}
-use mathlib.Core.Bool.{true}
+use mathlib.Core.Bool.{true, _&&_}
 use mathlib.Core.List.{List, [], _∷_, List·Memᴰ·cases-cons}
 use mathlib.Core.Logic.{⊎-elim}
-use lib.Dec.{leb}
+use lib.Dec.{leb, eqb}
 use lib.ListN.{length, take, drop, length-drop}
 use lib.Seq.{length-take-le}
-use borrow.Author.Tests.{ltb-false, leb-true, eqb-false, not-false}
+use borrow.Author.Tests.{leb-true, eqb-true, eqb-false, not-false}
 use Rattle.terms.specs.Lists.{_∈_}
-use Rattle.terms.specs.Network.{cut, below, RisingFrom, no-more, next, ArcOf, Admitted}
-use Rattle.terms.proofs.ListLaws.{and-both, take-mem}
+use Rattle.terms.specs.Network.{mark, cut, below, RisingFrom, no-more, next, ArcOf, Cost, at-most, marked, Admitted}
+use Rattle.terms.proofs.ListLaws.{or-cases, and-both, take-mem, drop-mem}
 use Rattle.terms.proofs.ColumnLaws.{length-cut}
 use Rattle.image.specs.Outcome.{sound}
-use Rattle.image.specs.Rows.{is-node, pairs, arc-fault, arcs-fault, costs-fault, lists-fault}
-use Rattle.image.specs.Layout.{node-count, arc-count, column-count, node-list, cost-list, costs-in, costs-start, netOf}
-use Rattle.image.specs.Calls.{image-fault}
+use Rattle.image.specs.Rows.{is-node, pairs, arc-fault, arcs-fault, is-cost, costs-fault, lists-fault}
+use Rattle.image.specs.Layout.{edition, node-count, arc-count, column-count, node-list, cost-list, costs-in, costs-start, netOf}
+use Rattle.image.specs.Calls.{taken-fault, image-fault}
 use Rattle.image.proofs.OutcomeLaws.{then-sound, row-sound}
-use Rattle.image.proofs.ByteLaws.{length-decode, drop-mem}
+use Rattle.image.proofs.ByteLaws.{length-decode}
 use Rattle.image.proofs.RowLaws.{length-pairs}
 use Rattle.image.proofs.CheckLaws.{HeaderSound, accepted-header, header-sound}
 
@@ -49,12 +49,17 @@ sound-arcs n last i (b ∷ arcs) e =
     ((λ a m. ⊎-elim (λ (q : a ≡ b). rw q (s .0)) (r .0 a) (List·Memᴰ·cases-cons m)), next (s .1) (r .1))
 
 -- ---- costs
-pub sound-costs : (i : ℕ) (costs : List ℕ) → costs-fault i costs ≡ sound → (w : ℕ) → w ∈ costs → w ≤ 1000000
+pub allowed-cost : (e w : ℕ) → is-cost e w ≡ true → Cost e w
+unfolding is-cost
+allowed-cost e w h =
+    ⊎-elim (λ a. at-most (leb-true w 1000000 a)) (λ b. let f = and-both (eqb e 2) (eqb w mark) b in marked (eqb-true e 2 (f .0)) (eqb-true w mark (f .1))) (or-cases h)
+
+pub sound-costs : (e i : ℕ) (costs : List ℕ) → costs-fault e i costs ≡ sound → (w : ℕ) → w ∈ costs → Cost e w
 unfolding costs-fault
-sound-costs i [] e w m = elim m [ ]
-sound-costs i (c ∷ costs) e w m =
-    let e₁ = then-sound _ _ e in
-    ⊎-elim (λ (q : w ≡ c). rw q (ltb-false 1000000 c (row-sound _ _ _ (e₁ .0)))) (sound-costs (suc i) costs (e₁ .1) w) (List·Memᴰ·cases-cons m)
+sound-costs e i [] h w m = elim m [ ]
+sound-costs e i (c ∷ costs) h w m =
+    let h₁ = then-sound _ _ h in
+    ⊎-elim (λ (q : w ≡ c). rw q (allowed-cost e c (not-false _ (row-sound _ _ _ (h₁ .0))))) (sound-costs e (suc i) costs (h₁ .1) w) (List·Memᴰ·cases-cons m)
 
 -- ---- columns
 -- each column has m costs, all of them costs of the list
@@ -70,12 +75,12 @@ unfolding netOf
 length-columns b = length-cut (column-count b) (arc-count b) (cost-list b)
 
 -- ---- the promise
-pub accepted-costs : (b : List ℕ) → image-fault b ≡ sound → (w : ℕ) → w ∈ cost-list b → w ≤ 1000000
-unfolding image-fault lists-fault
-accepted-costs b e = sound-costs 0 (cost-list b) (then-sound _ _ (then-sound _ _ e .1) .1)
+pub accepted-costs : (b : List ℕ) → image-fault b ≡ sound → (w : ℕ) → w ∈ cost-list b → Cost (edition b) w
+unfolding image-fault taken-fault lists-fault
+accepted-costs b e = sound-costs (edition b) 0 (cost-list b) (then-sound _ _ (then-sound _ _ e .1) .1)
 
-pub accepted-network : (b : List ℕ) → image-fault b ≡ sound → Admitted (netOf b)
-unfolding image-fault lists-fault netOf cost-list costs-in
+pub accepted-network : (b : List ℕ) → image-fault b ≡ sound → Admitted (edition b) (netOf b)
+unfolding image-fault taken-fault lists-fault netOf cost-list costs-in
 accepted-network b e = record {
   nodes-from = h .ranges .nodes-from;
   nodes-to = h .ranges .nodes-to;
@@ -88,10 +93,10 @@ accepted-network b e = record {
   costs-to = λ c m w o. accepted-costs b e w (column c m .1 w o);
 }
   where
-    h : HeaderSound b
-    h = header-sound b (accepted-header b e)
+    h : HeaderSound 2 b
+    h = header-sound 2 b (accepted-header b e)
 
-    lists : (arcs-fault (node-count b) (0, 0) 0 (pairs (arc-count b) (node-list b)) ≡ sound) × (costs-fault 0 (cost-list b) ≡ sound)
+    lists : (arcs-fault (node-count b) (0, 0) 0 (pairs (arc-count b) (node-list b)) ≡ sound) × (costs-fault (edition b) 0 (cost-list b) ≡ sound)
     lists = then-sound _ _ (then-sound _ _ e .1)
 
     arcs : ((a : ℕ × ℕ) → a ∈ pairs (arc-count b) (node-list b) → ArcOf (node-count b) a) × RisingFrom (0, 0) (pairs (arc-count b) (node-list b))

@@ -4,13 +4,12 @@ use Prim.Native.Nat.{ℕ, zero, suc, _+_, _*_, _≤_, _<_}
 use native.Mathlib.Omega.{arith}
 use native.Mathlib.Numerals.{add-one}
 use mathlib.Core.Path.{_≡_, refl, _∙_, ap}
+use mathlib.Core.Bool.{true, false, not}
 use mathlib.Core.List.{List}
-use lib.Dec.{ltb}
-use borrow.Author.Tests.{lt-ltb, le-ltb}
 use lib.ListN.{length, getD, drop, drop-of-length-le}
 use lib.Seq.{drop-cons, getD-drop}
 use Rattle.image.specs.Outcome.{sound, fault, row, _then_}
-use Rattle.image.specs.Rows.{pairs, arc-fault, arcs-fault, costs-fault}
+use Rattle.image.specs.Rows.{pairs, arc-fault, arcs-fault, is-cost, costs-fault}
 use Rattle.image.proofs.OutcomeLaws.{then-fault, then-next}
 
 pub length-pairs : (m : ℕ) (l : List ℕ) → length (pairs m l) ≡ m
@@ -44,19 +43,19 @@ module _ (n : ℕ) (last : ℕ × ℕ) (arcs : List (ℕ × ℕ)) (i : ℕ) wher
   arcs-end h = rw (drop-of-length-le arcs h)
 
 -- ---- costs, in the same way
-module _ (costs : List ℕ) (i : ℕ) where
-  costs-step : i < length costs → costs-fault i (drop i costs) ≡ (row 9 i (ltb 1000000 (getD costs i 0)) then costs-fault (i + 1) (drop (i + 1) costs))
+module _ (e : ℕ) (costs : List ℕ) (i : ℕ) where
+  costs-step : i < length costs → costs-fault e i (drop i costs) ≡ (row 9 i (not (is-cost e (getD costs i 0))) then costs-fault e (i + 1) (drop (i + 1) costs))
   unfolding costs-fault
   costs-step h = rw (add-one, drop-cons costs i 0 h)
 
-  pub cost-found : i < length costs → 1000000 < getD costs i 0 → costs-fault i (drop i costs) ≡ fault 9 i
+  pub cost-found : i < length costs → is-cost e (getD costs i 0) ≡ false → costs-fault e i (drop i costs) ≡ fault 9 i
   unfolding row _then_
-  cost-found h large = costs-step h ∙ rw (lt-ltb 1000000 (getD costs i 0) large) refl
+  cost-found h forbidden = costs-step h ∙ rw forbidden refl
 
-  pub cost-passed : i < length costs → getD costs i 0 ≤ 1000000 → costs-fault i (drop i costs) ≡ costs-fault (i + 1) (drop (i + 1) costs)
+  pub cost-passed : i < length costs → is-cost e (getD costs i 0) ≡ true → costs-fault e i (drop i costs) ≡ costs-fault e (i + 1) (drop (i + 1) costs)
   unfolding row _then_
-  cost-passed h small = costs-step h ∙ rw (le-ltb 1000000 (getD costs i 0) small) refl
+  cost-passed h allowed = costs-step h ∙ rw allowed refl
 
-  pub costs-end : length costs ≤ i → costs-fault i (drop i costs) ≡ sound
+  pub costs-end : length costs ≤ i → costs-fault e i (drop i costs) ≡ sound
   unfolding costs-fault
   costs-end h = rw (drop-of-length-le costs h)

@@ -49,16 +49,16 @@ node-list b = nodes-in (arc-count b) b
 unfoldable pub cost-list : List ℕ → List ℕ
 cost-list b = costs-in (arc-count b) (column-count b) b
 
--- ---- the image of lists: n, k, 2m node numbers and mk costs
-unfoldable pub header : ℕ → ℕ → ℕ → List ℕ
-header n m k = encode 2 (1 ∷ n ∷ m ∷ k ∷ []) ++ encode 4 (24 ∷ costs-start m ∷ total m k ∷ 0 ∷ [])
+-- ---- the image of lists: edition, n, k, 2m node numbers and mk costs
+unfoldable pub header : ℕ → ℕ → ℕ → ℕ → List ℕ
+header e n m k = encode 2 (e ∷ n ∷ m ∷ k ∷ []) ++ encode 4 (24 ∷ costs-start m ∷ total m k ∷ 0 ∷ [])
 
 -- in Build m is half the list's length, rounded down
 unfoldable pub half : List ℕ → ℕ
 half nodes = length nodes / 2
 
-unfoldable pub image-of : ℕ → ℕ → List ℕ → List ℕ → List ℕ
-image-of n k nodes costs = header n (half nodes) k ++ (encode 2 nodes ++ encode 4 costs)
+unfoldable pub image-of : ℕ → ℕ → ℕ → List ℕ → List ℕ → List ℕ
+image-of e n k nodes costs = header e n (half nodes) k ++ (encode 2 nodes ++ encode 4 costs)
 
 -- ---- what an image means
 -- the network of an image

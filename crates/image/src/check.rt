@@ -8,23 +8,25 @@ use super::refusal::Refusal;
 use super::refusal::Verdict;
 use super::rows::check_arc;
 use super::rows::in_range;
+use super::rows::is_cost;
+use super::rows::is_taken;
 ghost use mathlib.Core.Path.{_≡_};
-ghost use mathlib.Core.List.{[], _∷_};
 ghost use Prim.Native.Nat.{_*_, _≤_};
 ghost use lib.ListN.{length};
 ghost use Rattle.image.specs.Bytes.{decode};
 ghost use Rattle.image.specs.Outcome.{outcome};
 ghost use Rattle.image.specs.Rows.{pairs, arcs-fault, costs-fault, lists-fault};
 ghost use Rattle.image.specs.Layout.{fields-right, total, nodes-in, costs-in};
-ghost use Rattle.image.specs.Calls.{header-fault, sizes, check-outcome};
+ghost use Rattle.image.specs.Calls.{header-fault, taken-fault, sizes, check-outcome};
 ghost use Rattle.image.specs.Refusals.{verdict};
-ghost use Rattle.image.specs.Answers.{checked};
+ghost use Rattle.image.specs.Answers.{checked, size-list};
 
-// The numbers of nodes, arcs and columns: n, m and k.
+// The numbers of nodes, arcs and columns: n, m and k; and the edition.
 pub struct Sizes {
     pub n: u32,
     pub m: u32,
     pub k: u32,
+    pub edition: u32,
 }
 
 // Check's answer.
@@ -62,14 +64,15 @@ fn fields_right(image: &[u8], m: u32, k: u32) -> bool
     read32(image, 20) == 0
 }
 
-// Rows 1 to 5, and the sizes if none of them applies.
-fn check_header(image: &[u8]) -> Checked
-    ensures { λ r. ⌜ checked r ≡ outcome (header-fault (now (image .entry))) (sizes (now (image .entry))) ⌝ }
+// Rows 1 to 5, for a call that takes the editions up to `latest`, and the sizes if none of them applies.
+fn check_header(image: &[u8], latest: u32) -> Checked
+    ensures { λ r. ⌜ checked r ≡ outcome (header-fault latest (now (image .entry))) (sizes (now (image .entry))) ⌝ }
 {
     if image.len() < 24 {
         return Checked::Refused(Refusal::ImageTooShort);
     }
-    if read16(image, 0) != 1 {
+    let edition = read16(image, 0);
+    if !is_taken(latest, edition) {
         return Checked::Refused(Refusal::WrongEdition);
     }
     let n = read16(image, 2);
@@ -84,7 +87,7 @@ fn check_header(image: &[u8]) -> Checked
     if image.len() != image_length(m, k) as usize {
         return Checked::Refused(Refusal::WrongLength);
     }
-    Checked::Network(Sizes { n, m, k })
+    Checked::Network(Sizes { n, m, k, edition })
 }
 
 // Rows 6 to 8, over the arc records of an image.
@@ -109,14 +112,14 @@ fn check_arcs(records: &[u8], n: u32, m: usize) -> Verdict
     Verdict::Sound
 }
 
-// Row 9, over the costs of an image.
-fn check_costs(costs: &[u8], count: usize) -> Verdict
+// Row 9, over the costs of an image of this edition.
+fn check_costs(costs: &[u8], count: usize, edition: u32) -> Verdict
     requires { ⌜ (4 * count ≤ length (now costs)) × (count ≤ 8000) ⌝ }
-    ensures { λ r. ⌜ verdict r ≡ costs-fault 0 (decode 4 count (now (costs .entry))) ⌝ }
+    ensures { λ r. ⌜ verdict r ≡ costs-fault edition 0 (decode 4 count (now (costs .entry))) ⌝ }
 {
     let mut i: usize = 0;
     while i < count {
-        if 1000000 < read32(costs, 4 * i) {
+        if !is_cost(edition, read32(costs, 4 * i)) {
             return Verdict::Refused(Refusal::CostTooLarge(i as u32));
         }
         i += 1;
@@ -125,29 +128,38 @@ fn check_costs(costs: &[u8], count: usize) -> Verdict
 }
 
 // Rows 6 to 9 for an image whose header is sound, and its sizes if none of them applies.
-fn check_body(image: &[u8], n: u32, m: u32, k: u32) -> Checked
-    requires { ⌜ (m ≤ 1000) × (k ≤ 8) × (length (now image) ≡ total m k) ⌝ }
-    ensures { λ r. ⌜ checked r ≡ outcome (lists-fault n (pairs m (nodes-in m (now (image .entry)))) (costs-in m k (now (image .entry)))) (n ∷ m ∷ k ∷ []) ⌝ }
+fn check_body(image: &[u8], sizes: Sizes) -> Checked
+    requires { ⌜ (sizes .m ≤ 1000) × (sizes .k ≤ 8) × (length (now image) ≡ total (sizes .m) (sizes .k)) ⌝ }
+    ensures { λ r. ⌜ checked r ≡ outcome (lists-fault (sizes .edition) (sizes .n) (pairs (sizes .m) (nodes-in (sizes .m) (now (image .entry)))) (costs-in (sizes .m) (sizes .k) (now (image .entry)))) (size-list sizes) ⌝ }
 {
-    let arcs = check_arcs(&image[24..], n, m as usize);
+    let m = sizes.m;
+    let k = sizes.k;
+    let arcs = check_arcs(&image[24..], sizes.n, m as usize);
     if let Verdict::Refused(refusal) = arcs {
         return Checked::Refused(refusal);
     }
     let start = costs_start(m) as usize;
-    let costs = check_costs(&image[start..], cost_count(m, k) as usize);
+    let costs = check_costs(&image[start..], cost_count(m, k) as usize, sizes.edition);
     if let Verdict::Refused(refusal) = costs {
         return Checked::Refused(refusal);
     }
-    Checked::Network(Sizes { n, m, k })
+    Checked::Network(sizes)
 }
 
-// REFERENCE, section 4.1.
-pub fn check(image: &[u8]) -> Checked
-    ensures { λ r. ⌜ checked r ≡ check-outcome (now (image .entry)) ⌝ }
+// The image's own rows, for a call that takes the editions up to `latest`.
+fn check_taken(image: &[u8], latest: u32) -> Checked
+    ensures { λ r. ⌜ checked r ≡ outcome (taken-fault latest (now (image .entry))) (sizes (now (image .entry))) ⌝ }
 {
-    let header = check_header(image);
+    let header = check_header(image, latest);
     let Checked::Network(sizes) = header else {
         return header;
     };
-    check_body(image, sizes.n, sizes.m, sizes.k)
+    check_body(image, sizes)
+}
+
+// REFERENCE, section 4.1. Every other call with an image checks it so, and takes the editions 1 and 2.
+pub fn check(image: &[u8]) -> Checked
+    ensures { λ r. ⌜ checked r ≡ check-outcome (now (image .entry)) ⌝ }
+{
+    check_taken(image, 2)
 }

@@ -9,6 +9,7 @@ mod refusal;
 mod rows;
 
 pub use bytes::read16;
+pub use bytes::read32;
 pub use bytes::write16;
 pub use bytes::write32;
 pub use check::Checked;
@@ -21,6 +22,9 @@ pub use refusal::Refusal;
 pub use refusal::Verdict;
 pub use refusal::number;
 pub use refusal::place;
+pub use rows::CLOSED;
 pub use rows::check_arc;
 pub use rows::in_range;
+pub use rows::is_cost;
 pub use rows::is_node;
+pub use rows::is_taken;

@@ -1,9 +1,21 @@
-// The rows of the refusal table that Check and Build share: sizes, and one arc.
+// The rows of the refusal table that Check and Build share: the edition, sizes, one arc and one cost.
 use super::refusal::Refusal;
 use super::refusal::Verdict;
 ghost use mathlib.Core.Path.{_≡_};
-ghost use Rattle.image.specs.Rows.{in-range, is-node, arc-fault};
+ghost use mathlib.Core.Bool.{_&&_};
+ghost use lib.Dec.{leb};
+ghost use Rattle.image.specs.Rows.{in-range, is-node, is-cost, arc-fault};
 ghost use Rattle.image.specs.Refusals.{verdict};
+
+// Whether a call that takes the editions from 1 to `latest` takes this one: row 2.
+pub fn is_taken(latest: u32, edition: u32) -> bool
+    ensures { λ r. ⌜ r ≡ (leb 1 edition && leb edition latest) ⌝ }
+{
+    if edition < 1 {
+        return false;
+    }
+    edition <= latest
+}
 
 // Whether n, m and k are in their ranges: row 3.
 pub fn in_range(n: u32, m: u32, k: u32) -> bool
@@ -64,4 +76,20 @@ pub fn check_arc(
         return Verdict::Refused(Refusal::ArcNotRising(index));
     }
     Verdict::Sound
+}
+
+// In the place of a cost: the arc is closed in that column.
+pub const CLOSED: u32 = 4294967295;
+
+// Whether a number may stand as a cost in an image of this edition: row 9.
+pub fn is_cost(edition: u32, cost: u32) -> bool
+    ensures { λ r. ⌜ r ≡ is-cost edition cost ⌝ }
+{
+    if cost <= 1000000 {
+        return true;
+    }
+    if edition != 2 {
+        return false;
+    }
+    cost == CLOSED
 }

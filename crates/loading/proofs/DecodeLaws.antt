@@ -1,31 +1,34 @@
--- The arcs and one column of an admitted network, in three arrays. Assumes nothing.
-use Prim.Native.Nat.{ℕ, zero, suc, _-_, _≤_, _<_}
+-- The arcs of an admitted network in two arrays. Assumes nothing.
+use Prim.Native.Nat.{ℕ, zero, suc, _+_, _*_, _-_, _≤_, _<_}
 use native.Mathlib.Omega.{arith}
 use native.Mathlib.Nat.{eq-or-lt-of-le}
-use mathlib.Core.Path.{_≡_, refl, sym, _∙_, ap}
+use mathlib.Core.Path.{_≡_, refl, sym, _∙_, ap, subst}
 use mathlib.Core.Bool.{true}
 use mathlib.Core.Logic.{⊎-elim}
 use mathlib.Core.List.{List, [], _∷_, _++_, map, append-nil}
 use lib.Dec.{ltb, eqb}
-use lib.ListN.{length, getD, drop, length-map, drop-of-length-le, List·getD-map}
+use lib.ListN.{length, getD, take, drop, length-map, drop-of-length-le, List·getD-map}
 use borrow.Author.Tests.{ltb-true, eqb-true}
-use Rattle.terms.specs.Lists.{_∈_}
-use Rattle.terms.specs.Network.{Net, weigh, column, below, RisingFrom, no-more, next, ArcOf, Admitted}
+use Rattle.terms.specs.Network.{Net, weigh, cost-column, restrict, below, RisingFrom, no-more, next, ArcOf, Admitted}
 use Rattle.terms.proofs.ListLaws.{or-cases, and-both, getD-mem, le-or-lt}
-use Rattle.image.specs.Layout.{arc-count, column-count, netOf}
+use Rattle.terms.proofs.NetworkLaws.{restrict-admitted}
+use borrow.Rule.Slice.PartMut.{mid-len}
+use Rattle.image.specs.Bytes.{field, decode}
+use Rattle.image.specs.Layout.{edition, costs-start, arc-count, column-count, netOf}
+use Rattle.image.specs.declared.check.Sizes.{Sizes}
 use Rattle.image.proofs.NetworkLaws.{accepted-network, length-columns}
 use Rattle.star.specs.Arcs.{graph, Arcs}
-use Rattle.loading.specs.Accepted.{InColumn}
-use Rattle.loading.proofs.PartLaws.{length-arcs}
+use Rattle.loading.specs.Accepted.{Accepted, InColumn}
+use Rattle.loading.specs.Selected.{Indices, selected}
+use Rattle.loading.proofs.PartLaws.{length-arcs, length-to, arc-at, column-inside, column-at}
+use Rattle.loading.proofs.SelectLaws.{index-below, selected-restrict}
+use Rattle.loading.proofs.RowLaws.{getD-map-in}
 
--- the arrays hold column u of the network
-pub record Decoded (net : Net) (u : ℕ) (ts hs ws : List ℕ) : Type 0 where
+-- the arrays hold the arcs of the network: with any light weights they are a graph's
+pub record Decoded (net : Net) (ts hs : List ℕ) : Type 0 where
   pub tails-are : ts ≡ map (λ a. a .0) (net .arcs)
   pub heads-are : hs ≡ map (λ a. a .1) (net .arcs)
-  pub weights-are : ws ≡ getD (net .columns) (u - 1) []
-  pub graph-is : graph ts hs ws ≡ column net u
-  pub arcs : Arcs (net .nodes) ts hs ws
-  pub light : (i : ℕ) → i < length ts → getD ws i 0 ≤ 1000000
+  pub arcs : (ws : List ℕ) → length ws ≡ length (net .arcs) → ((i : ℕ) → i < length ws → getD ws i 0 ≤ 1000000) → Arcs (net .nodes) ts hs ws
   -- strictly rising by tail, then head
   pub tails-rise : (i j : ℕ) → i < j → j < length ts → getD ts i 0 ≤ getD ts j 0
   pub heads-rise : (i j : ℕ) → i < j → j < length ts → getD ts i 0 ≡ getD ts j 0 → getD hs i 0 < getD hs j 0
@@ -41,7 +44,7 @@ tails l = map (λ a. a .0) l
 abbrev pub heads : List (ℕ × ℕ) → List ℕ
 heads l = map (λ a. a .1) l
 
-graph-weigh : (l : List (ℕ × ℕ)) (ws : List ℕ) → graph (tails l) (heads l) ws ≡ weigh l ws
+pub graph-weigh : (l : List (ℕ × ℕ)) (ws : List ℕ) → graph (tails l) (heads l) ws ≡ weigh l ws
 unfolding graph weigh
 graph-weigh [] ws = refl
 graph-weigh (a ∷ l) [] = refl
@@ -83,14 +86,8 @@ below-heads : {a b : ℕ × ℕ} → Below a b → a .0 ≡ b .0 → a .1 < b .1
 below-heads (lower-tail h) e = absurd (omega arith)
 below-heads (lower-head e′ h) e = h
 
--- ---- an admitted network's column
-abbrev pub costs-of : Net → ℕ → List ℕ
-costs-of net u = getD (net .columns) (u - 1) []
-
-module _ {net : Net} {u : ℕ} (ok : Admitted net) (from : 1 ≤ u) (upto : u ≤ length (net .columns)) where
-  costs-in : costs-of net u ∈ net .columns
-  costs-in = getD-mem (net .columns) [] (u - 1) (omega arith)
-
+-- ---- the arcs of an admitted network
+module _ {e : ℕ} {net : Net} (ok : Admitted e net) where
   tail-is : (i : ℕ) → getD (tails (net .arcs)) i 0 ≡ getD (net .arcs) i (0, 0) .0
   tail-is i = List·getD-map (λ (a : ℕ × ℕ). a .0) (net .arcs) i (0, 0)
 
@@ -103,67 +100,84 @@ module _ {net : Net} {u : ℕ} (ok : Admitted net) (from : 1 ≤ u) (upto : u �
   heads-rise : (i j : ℕ) → i < j → j < length (net .arcs) → getD (tails (net .arcs)) i 0 ≡ getD (tails (net .arcs)) j 0 → getD (heads (net .arcs)) i 0 < getD (heads (net .arcs)) j 0
   heads-rise i j h k e = rw (head-is i, head-is j) (below-heads (rising-at (ok .rising) i j h k) (sym (tail-is i) ∙ e ∙ tail-is j))
 
-  cost-light : (i : ℕ) → i < length (net .arcs) → getD (costs-of net u) i 0 ≤ 1000000
-  cost-light i h = ok .costs-to (costs-of net u) costs-in _ (getD-mem (costs-of net u) 0 i (omega (arith, ok .full (costs-of net u) costs-in)))
-
   simple : (i j : ℕ) → i < length (net .arcs) → j < length (net .arcs) → getD (tails (net .arcs)) i 0 ≡ getD (tails (net .arcs)) j 0 → getD (heads (net .arcs)) i 0 ≡ getD (heads (net .arcs)) j 0 → i ≡ j
   simple i j h k e f =
       ⊎-elim (λ l. ⊎-elim (λ q. q) (λ l′. absurd (omega (arith, heads-rise i j l′ k e))) (eq-or-lt-of-le l)) (λ l. absurd (omega (arith, heads-rise j i l h (sym e)))) (le-or-lt i j)
 
-  arcs-fit : Arcs (net .nodes) (tails (net .arcs)) (heads (net .arcs)) (costs-of net u)
-  arcs-fit = record {
+  arcs-fit : (ws : List ℕ) → length ws ≡ length (net .arcs) → ((i : ℕ) → i < length ws → getD ws i 0 ≤ 1000000) → Arcs (net .nodes) (tails (net .arcs)) (heads (net .arcs)) ws
+  arcs-fit ws long light = record {
     heads-long = simp length-map;
-    weights-long = simp length-map (ok .full (costs-of net u) costs-in);
+    weights-long = simp length-map long;
     few = simp length-map (ok .arcs-to);
     few-nodes = ok .nodes-to;
     tail-from = λ i h. rw (tail-is i) (arc-of i (rw length-map at h) .tail-from);
     tail-to = λ i h. rw (tail-is i) (arc-of i (rw length-map at h) .tail-to);
     head-from = λ i h. rw (head-is i) (arc-of i (rw length-map at h) .head-from);
     head-to = λ i h. rw (head-is i) (arc-of i (rw length-map at h) .head-to);
-    light = λ i h. omega (arith, cost-light i (rw length-map at h));
+    light = λ i h. let k = rw length-map at h in omega (arith, light i (omega arith));
     simple = λ i j h k. simple i j (rw length-map at h) (rw length-map at k);
   }
 
-  -- arrays that hold the arcs and the costs of column u
-  pub decoded : (ts hs ws : List ℕ) → ts ≡ tails (net .arcs) → hs ≡ heads (net .arcs) → ws ≡ getD (net .columns) (u - 1) [] → Decoded net u ts hs ws
-  unfolding column
-  decoded ts hs ws e f g = rw (e, f, g) (record {
+  -- arrays that hold the arcs
+  pub decoded : (ts hs : List ℕ) → ts ≡ tails (net .arcs) → hs ≡ heads (net .arcs) → Decoded net ts hs
+  decoded ts hs e f = rw (e, f) (record {
     tails-are = refl;
     heads-are = refl;
-    weights-are = refl;
-    graph-is = graph-weigh (net .arcs) (costs-of net u);
     arcs = arcs-fit;
-    light = λ i h. cost-light i (rw length-map at h);
     tails-rise = λ i j h k. rw (tail-is i, tail-is j) (below-tails (rising-at (ok .rising) i j h (rw length-map at k)));
     heads-rise = λ i j h k. heads-rise i j h (rw length-map at k);
   })
 
-  pub column-held : Decoded net u (tails (net .arcs)) (heads (net .arcs)) (costs-of net u)
-  column-held = decoded (tails (net .arcs)) (heads (net .arcs)) (costs-of net u) refl refl refl
+  pub arcs-decoded : Decoded net (tails (net .arcs)) (heads (net .arcs))
+  arcs-decoded = decoded (tails (net .arcs)) (heads (net .arcs)) refl refl
 
--- ---- a column of an accepted image
-module _ {b : List ℕ} {m u : ℕ} (c : InColumn b m u) where
-  pub arc-count-is : m ≡ arc-count b
-  arc-count-is = c .arcs-are ∙ length-arcs b (c .passes)
+-- ---- an accepted image
+module _ {b : List ℕ} {sizes : Sizes} (a : Accepted b sizes) where
+  pub admitted : Admitted (edition b) (netOf b)
+  admitted = accepted-network b (a .passes)
 
-  pub column-counted : u ≤ column-count b
-  column-counted = omega (arith, c .upto, length-columns b)
+  pub arc-count-is : sizes .m ≡ arc-count b
+  arc-count-is = a .arcs-are ∙ length-arcs b (a .passes)
 
-  pub few-arcs : m ≤ 1000
-  few-arcs = omega (arith, c .arcs-are, accepted-network b (c .passes) .arcs-to)
+  pub few-arcs : sizes .m ≤ 1000
+  few-arcs = omega (arith, a .arcs-are, admitted .arcs-to)
 
-  pub few-nodes : netOf b .nodes ≤ 200
-  few-nodes = accepted-network b (c .passes) .nodes-to
+  pub few-nodes : sizes .n ≤ 200
+  few-nodes = omega (arith, a .nodes-are, admitted .nodes-to)
 
-  -- there is a first column
-  pub first-column : InColumn b m 1
-  first-column = record { passes = c .passes; arcs-are = c .arcs-are; from = omega arith; upto = omega (arith, c .from, c .upto) }
+  pub few-columns : sizes .k ≤ 8
+  few-columns = omega (arith, a .columns-are, admitted .columns-to)
 
-  -- arrays that hold the arcs
-  pub arcs-held : {ts hs : List ℕ} → ts ≡ tails (netOf b .arcs) → hs ≡ heads (netOf b .arcs) → Decoded (netOf b) u ts hs (costs-of (netOf b) u)
-  arcs-held e f = decoded (accepted-network b (c .passes)) (c .from) (c .upto) _ _ _ e f refl
+  pub column-counted : {u : ℕ} → InColumn b u → u ≤ column-count b
+  column-counted c = omega (arith, c .upto, length-columns b)
 
-  -- what is read over arrays of m places
-  module _ {ts hs : List ℕ} (ts₀ hs₀ : List ℕ) (p : length ts₀ ≡ m) (q : length hs₀ ≡ m) (e : ts ≡ tails (netOf b .arcs) ++ drop m ts₀) (f : hs ≡ heads (netOf b .arcs) ++ drop m hs₀) where
-    pub decoded-arcs : Decoded (netOf b) u ts hs (costs-of (netOf b) u)
-    decoded-arcs = arcs-held (e ∙ whole _ ts₀ p) (f ∙ whole _ hs₀ q)
+  -- column u lies inside the image, which is not long, and holds the column's costs
+  module _ {u : ℕ} (c : InColumn b u) where
+    pub column-few : (sizes .m ≤ 1000) × (1 ≤ u) × (u ≤ 8)
+    column-few = (few-arcs, c .from, omega (arith, c .upto, admitted .columns-to))
+
+    module _ {i : ℕ} (start : i ≡ costs-start (sizes .m) + 4 * ((u - 1) * sizes .m)) where
+      pub column-lies : (i + 4 * sizes .m ≤ length b) × (length b ≤ 36024)
+      column-lies = (omega (arith, start, column-inside b (a .passes) (sizes .m) u arc-count-is (c .from) (column-counted c)), length-to b (a .passes))
+
+      pub column-bytes : length (take (i + 4 * sizes .m - i) (drop i b)) ≡ 4 * sizes .m
+      column-bytes = mid-len i (i + 4 * sizes .m) b (column-lies .0) ∙ omega arith
+
+      pub column-read : decode 4 (sizes .m) (take (i + 4 * sizes .m - i) (drop i b)) ≡ cost-column (netOf b) u
+      column-read =
+          let size : i + 4 * sizes .m - i ≡ 4 * sizes .m = omega arith in
+          ap (λ (x : ℕ). decode 4 (sizes .m) (take x (drop i b))) size ∙ ap (λ (x : ℕ). decode 4 (sizes .m) (take (4 * sizes .m) (drop x b))) start ∙ sym (column-at b (a .passes) (sizes .m) u arc-count-is (c .from) (column-counted c))
+
+  -- the arcs at given indices
+  module _ {ks : List ℕ} (I : Indices (sizes .m) ks) where
+    pub selected-is : selected ks (netOf b) ≡ restrict (I .test) (netOf b)
+    selected-is = selected-restrict admitted (I .test) (a .arcs-are) (I .are)
+
+    pub selected-admitted : Admitted (edition b) (selected ks (netOf b))
+    selected-admitted = subst (Admitted (edition b)) (sym selected-is) (restrict-admitted admitted (I .test))
+
+    -- arc i of them is read from the image
+    pub selected-arc : (i : ℕ) → i < length ks → getD (selected ks (netOf b) .arcs) i (0, 0) ≡ (field 2 b (24 + 4 * getD ks i 0), field 2 b (26 + 4 * getD ks i 0))
+    unfolding selected
+    selected-arc i h =
+        getD-map-in (λ j. getD (netOf b .arcs) j (0, 0)) ks i 0 (0, 0) h ∙ arc-at b (a .passes) (getD ks i 0) (omega (arith, index-below I i h, arc-count-is))

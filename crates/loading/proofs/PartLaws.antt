@@ -4,10 +4,11 @@ use Prim.Native.Nat.{ℕ, zero, suc, _+_, _*_, _-_, _≤_, _<_}
 use native.Mathlib.Omega.{arith}
 use native.Mathlib.Nat.{mul-le-mul, mul-le-mul-right, mul-comm, mul-suc, suc-mul, mul-zero, zero-add, suc-add, add-comm, le-add-right}
 use mathlib.Core.Path.{_≡_, refl, sym, _∙_, ap, ap₂}
-use mathlib.Core.List.{List, [], _∷_, _++_, map, append-assoc}
-use lib.ListN.{length, getD, take, drop, List·getD-map}
+use mathlib.Core.List.{List, [], _∷_, _++_, append-assoc}
+use lib.ListN.{length, getD, take, drop}
 use lib.Seq.{drop-drop, take-take, take-nil, take-at, drop-at, length-take-le}
 use borrow.Rule.Slice.PartMut.{putMid, post-is}
+use Rattle.terms.specs.Network.{cost-column}
 use Rattle.terms.proofs.ColumnLaws.{cut-at}
 use Rattle.image.specs.Bytes.{number, field, decode}
 use Rattle.image.specs.Outcome.{sound}
@@ -15,6 +16,9 @@ use Rattle.image.specs.Layout.{arc-count, column-count, costs-start, nodes-in, 
 use Rattle.image.specs.Calls.{image-fault}
 use Rattle.image.proofs.ByteLaws.{decode-at, length-decode}
 use Rattle.image.proofs.RowLaws.{pairs-at, length-pairs}
+use Rattle.loading.specs.Selected.{Indices, at-places}
+use Rattle.loading.proofs.SelectLaws.{index-below}
+use Rattle.loading.proofs.RowLaws.{getD-map-in}
 use Rattle.image.proofs.CheckLaws.{HeaderSound, header-sound, accepted-header, total-is, costs-start-is}
 
 field-drop : (w : ℕ) (b : List ℕ) (s i : ℕ) → field w (drop s b) i ≡ field w b (s + i)
@@ -46,8 +50,8 @@ decode-part w (suc c) b =
 
 -- ---- of an accepted image
 module _ (b : List ℕ) (accepted : image-fault b ≡ sound) where
-  h : HeaderSound b
-  h = header-sound b (accepted-header b accepted)
+  h : HeaderSound 2 b
+  h = header-sound 2 b (accepted-header b accepted)
 
   pub arcs-to : arc-count b ≤ 1000
   arcs-to = h .ranges .arcs-to
@@ -67,18 +71,12 @@ module _ (b : List ℕ) (accepted : image-fault b ≡ sound) where
   unfolding node-list nodes-in
   node-at i l = decode-at 2 (2 * arc-count b) (drop 24 b) i l ∙ field-drop 2 b 24 (2 * i)
 
-  arc-at : (i : ℕ) → i < arc-count b → getD (netOf b .arcs) i (0, 0) ≡ (field 2 b (24 + 4 * i), field 2 b (26 + 4 * i))
+  pub arc-at : (i : ℕ) → i < arc-count b → getD (netOf b .arcs) i (0, 0) ≡ (field 2 b (24 + 4 * i), field 2 b (26 + 4 * i))
   unfolding netOf
   arc-at i l =
       let e : 24 + 2 * (2 * i) ≡ 24 + 4 * i = omega arith in
       let f : 24 + 2 * (2 * i + 1) ≡ 26 + 4 * i = omega arith in
       pairs-at (arc-count b) (node-list b) i l ∙ ap₂ (λ (t d : ℕ). (t, d)) (node-at (2 * i) (omega arith) ∙ ap (field 2 b) e) (node-at (2 * i + 1) (omega arith) ∙ ap (field 2 b) f)
-
-  pub tail-at : (i : ℕ) → i < arc-count b → getD (map (λ (a : ℕ × ℕ). a .0) (netOf b .arcs)) i 0 ≡ field 2 b (24 + 4 * i)
-  tail-at i l = List·getD-map (λ (a : ℕ × ℕ). a .0) (netOf b .arcs) i (0, 0) ∙ ap (λ (a : ℕ × ℕ). a .0) (arc-at i l)
-
-  pub head-at : (i : ℕ) → i < arc-count b → getD (map (λ (a : ℕ × ℕ). a .1) (netOf b .arcs)) i 0 ≡ field 2 b (26 + 4 * i)
-  head-at i l = List·getD-map (λ (a : ℕ × ℕ). a .1) (netOf b .arcs) i (0, 0) ∙ ap (λ (a : ℕ × ℕ). a .1) (arc-at i l)
 
   -- its columns: column u stands inside the image, and holds m costs
   pub length-to : length b ≤ 36024
@@ -95,8 +93,8 @@ module _ (b : List ℕ) (accepted : image-fault b ≡ sound) where
     pub column-inside : costs-start m + 4 * ((u - 1) * m) + 4 * m ≤ length b
     column-inside = let e : arc-count b ≡ m = sym m-is in omega (arith, at-end, costs-start-is m, rw e at length-is)
 
-    pub column-at : getD (netOf b .columns) (u - 1) [] ≡ decode 4 m (take (4 * m) (drop (costs-start m + 4 * ((u - 1) * m)) b))
-    unfolding netOf cost-list costs-in
+    pub column-at : cost-column (netOf b) u ≡ decode 4 m (take (4 * m) (drop (costs-start m + 4 * ((u - 1) * m)) b))
+    unfolding cost-column netOf cost-list costs-in
     column-at =
         let i = u - 1 in
         let rest = m * column-count b - i * m in
@@ -106,22 +104,6 @@ module _ (b : List ℕ) (accepted : image-fault b ≡ sound) where
         ∙ rw (e, count, drop-decode 4 (i * m) rest (drop (costs-start m) b), take-decode 4 m rest (drop (4 * (i * m)) (drop (costs-start m) b)) (omega (arith, at-end)), drop-drop (4 * (i * m)) (costs-start m) b, decode-part 4 m (drop (costs-start m + 4 * (i * m)) b))
 
 -- ---- column after column
-module _ (b : List ℕ) where
-  pub few-costs : {m k : ℕ} → image-fault b ≡ sound → m ≡ arc-count b → k ≡ column-count b → m * k ≤ 8000
-  few-costs {m} {k} accepted m-is k-is =
-      let h : m ≤ 1000 = omega (arith, arcs-to b accepted) in
-      let h′ : k ≤ 8 = omega (arith, columns-to b accepted) in
-      mul-le-mul h h′
-
-  module _ (m : ℕ) where
-    pub length-costs : (k : ℕ) → m ≡ arc-count b → k ≡ column-count b → length (cost-list b) ≡ m * k
-    unfolding cost-list costs-in
-    length-costs k m-is k-is = length-decode 4 (arc-count b * column-count b) (drop (costs-start (arc-count b)) b) ∙ ap₂ (λ (x y : ℕ). x * y) (sym m-is) (sym k-is)
-
-    pub column-part : (u : ℕ) → m ≡ arc-count b → u < column-count b → getD (netOf b .columns) u [] ≡ take m (drop (u * m) (cost-list b))
-    unfolding netOf
-    column-part u m-is h = cut-at (column-count b) (arc-count b) (cost-list b) u h ∙ ap (λ (x : ℕ). take x (drop (u * x) (cost-list b))) (sym m-is)
-
 pub column-fits : (m k u : ℕ) → u < k → u * m + m ≤ m * k
 column-fits m k u h = omega (arith, suc-mul u m, mul-le-mul-right {m = suc u} {n = k} m h, mul-comm m k)
 
@@ -147,3 +129,7 @@ column-put m all old now new u h e z =
     ∙ sym (append-assoc (take a all) (take m (drop a all)) (drop (a + m) old))
     ∙ ap (λ (x : List ℕ). x ++ drop (a + m) old) (take-more a m all)
     ∙ ap (λ (i : ℕ). take i all ++ drop i old) step
+
+-- a cost that is picked by its index
+pub picked-cost : (m : ℕ) (l ks : List ℕ) → Indices m ks → (i : ℕ) → i < length ks → getD (at-places ks (decode 4 m l)) i 0 ≡ field 4 l (4 * getD ks i 0)
+picked-cost m l ks I i h = getD-map-in (λ j. getD (decode 4 m l) j 0) ks i 0 0 h ∙ decode-at 4 m l (getD ks i 0) (index-below I i h)

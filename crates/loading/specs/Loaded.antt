@@ -1,13 +1,14 @@
--- A network's arcs in a star, and one of its columns made ready for the search of paths. Assumes nothing.
-use Prim.Native.Nat.{ℕ, _+_, _-_, _*_}
+-- Some of a network's arcs in a star, and the costs of columns beside it, made ready for the search of paths. Assumes nothing.
+use Prim.Native.Nat.{ℕ, _+_, _*_}
 use mathlib.Core.Path.{_≡_}
 use mathlib.Core.List.{List, [], map}
-use lib.ListN.{length, getD}
-use Rattle.terms.specs.Network.{Net, column}
+use lib.ListN.{length}
+use Rattle.terms.specs.Network.{Net, column, common}
 use Rattle.star.specs.Chains.{Chains}
 use Rattle.star.specs.Star.{Star}
 use Rattle.star.specs.Layout.{tails-of, heads-of, nexts-of, outs-of, ins-of, graph-of, Network}
 use Rattle.labels.specs.Labels.{Least}
+use Rattle.loading.specs.Selected.{in-a-row}
 
 -- ---- room
 -- the length of a star of m arcs between n nodes
@@ -38,11 +39,15 @@ pub record Shape (net : Net) (s : List ℕ) : Type 0 where
   pub chains : Chains (heads-of (length (net .arcs)) s) (ins-of (net .nodes + 1) (length (net .arcs)) s) (nexts-of (length (net .arcs)) s)
   pub ins-long : length (ins-of (net .nodes + 1) (length (net .arcs)) s) ≡ net .nodes + 1
 
--- the slices hold the arcs, the costs of column u, and the labels to t of the whole network
+-- the slices hold the arcs that are open in column u, their costs there, and the labels to t
 pub record Loaded (net : Net) (u t : ℕ) (s ws ls : List ℕ) : Type 0 where
-  pub shape : Shape net s
-  pub weights-are : ws ≡ getD (net .columns) (u - 1) []
   pub network : (k : ℕ) → k ≡ net .nodes + 1 → Network k s ws
   pub graph-is : graph-of s ws ≡ column net u
   pub least : Least (graph-of s ws) [] t ls
   pub labels-long : length ls ≡ net .nodes + 1
+
+-- the slices hold the arcs that are open in every column, m of them, and the costs of all columns for these, one column after the other
+pub record Shared (net : Net) (m : ℕ) (s costs : List ℕ) : Type 0 where
+  pub arcs-are : m ≡ length (common net .arcs)
+  pub shape : Shape (common net) s
+  pub costs-are : costs ≡ in-a-row (common net .columns)

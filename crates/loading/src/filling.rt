@@ -1,5 +1,6 @@
-// The arcs of an accepted image in a star. Every column has the same arcs.
+// Arcs of an accepted image in a star.
 use super::reading::read_arcs;
+use image::Sizes;
 use star::assemble;
 use star::chain;
 use star::out_starts;
@@ -7,13 +8,15 @@ ghost use mathlib.Core.Path.{_≡_};
 ghost use Prim.Native.Nat.{_+_, _*_};
 ghost use lib.ListN.{length};
 ghost use Rattle.image.specs.Layout.{netOf};
-ghost use Rattle.loading.specs.Accepted.{InColumn};
+ghost use Rattle.loading.specs.Accepted.{Accepted};
 ghost use Rattle.loading.specs.Loaded.{PartRoom, Shape, star-size};
+ghost use Rattle.loading.specs.Selected.{Indices, selected};
 
 // Fills the star, with room for each of its parts.
 fn fill_star_in(
     image: &[u8],
-    m: u32,
+    sizes: Sizes,
+    kept: &[u16],
     tails: &mut [u16],
     heads: &mut [u16],
     next_in: &mut [u16],
@@ -21,31 +24,34 @@ fn fill_star_in(
     first_in: &mut [u16],
     star: &mut [u16],
 )
-    requires { ⌜ InColumn (now image) m 1 × (length (now star) ≡ star-size (netOf (now image) .nodes) m) ⌝ }
-    requires { ⌜ PartRoom (netOf (now image) .nodes) m (now tails) (now heads) (now «next_in») (now «first_out») (now «first_in») ⌝ }
-    ensures { λ _. ⌜ Shape (netOf (now (image .entry))) (now (star .exit)) ⌝ }
+    requires { ⌜ Accepted (now image) sizes × Indices (sizes .m) (now kept) ⌝ }
+    requires { ⌜ length (now star) ≡ star-size (sizes .n) (length (now kept)) ⌝ }
+    requires { ⌜ PartRoom (sizes .n) (length (now kept)) (now tails) (now heads) (now «next_in») (now «first_out») (now «first_in») ⌝ }
+    ensures { λ _. ⌜ Shape (selected (now (kept .entry)) (netOf (now (image .entry)))) (now (star .exit)) ⌝ }
 {
-    read_arcs(image, m as usize, tails, heads);
+    read_arcs(image, sizes, kept, tails, heads);
     out_starts(tails, first_out);
     chain(heads, first_in, next_in);
     assemble(tails, heads, next_in, first_out, first_in, star);
 }
 
-// Fills the star with the image's m arcs, and with the arcs out of and into each node.
-pub fn fill_star(image: &[u8], m: u32, star: &mut [u16])
-    requires { ⌜ InColumn (now image) m 1 × (length (now star) ≡ star-size (netOf (now image) .nodes) m) ⌝ }
-    ensures { λ _. ⌜ Shape (netOf (now (image .entry))) (now (star .exit)) ⌝ }
+// Fills the star with the arcs at these indices, and with the arcs out of and into each node.
+pub fn fill_star(image: &[u8], sizes: Sizes, kept: &[u16], star: &mut [u16])
+    requires { ⌜ Accepted (now image) sizes × Indices (sizes .m) (now kept) ⌝ }
+    requires { ⌜ length (now star) ≡ star-size (sizes .n) (length (now kept)) ⌝ }
+    ensures { λ _. ⌜ Shape (selected (now (kept .entry)) (netOf (now (image .entry)))) (now (star .exit)) ⌝ }
 {
     let mut tails = [0u16; 1000];
     let mut heads = [0u16; 1000];
     let mut next_in = [0u16; 1000];
     let mut first_out = [0u16; 202];
     let mut first_in = [0u16; 201];
-    let arcs = m as usize;
-    let places = (star.len() - 3 * arcs) / 2;
+    let arcs = kept.len();
+    let places = sizes.n as usize + 1;
     fill_star_in(
         image,
-        m,
+        sizes,
+        kept,
         &mut tails[..arcs],
         &mut heads[..arcs],
         &mut next_in[..arcs],

@@ -1,10 +1,10 @@
-// An accepted image read for the layers above: its arcs in a star, its columns, and one column made
-// ready for the search of paths.
+// An accepted image read for the layers above: which of its arcs are in, these in a star with their costs, and
+// one column made ready for the search of paths.
 mod filling;
 mod loading;
 mod reading;
+mod selecting;
 
-pub use filling::fill_star;
+pub use loading::label_nodes;
 pub use loading::load;
-pub use reading::read_column;
-pub use reading::read_columns;
+pub use loading::load_common;

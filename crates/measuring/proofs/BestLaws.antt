@@ -11,12 +11,14 @@ use lib.Seq.{ext-getD}
 use Rattle.terms.specs.Lists.{numbers}
 use Rattle.terms.specs.Network.{Graph, linked, column}
 use Rattle.terms.specs.Paths.{Route, Path, ByArcs, single, along}
-use Rattle.terms.specs.Regret.{best, bests}
-use Rattle.terms.proofs.ListLaws.{length-numbers, getD-map-numbers}
+use Rattle.terms.specs.Regret.{best, label, bests}
+use Rattle.terms.proofs.ListLaws.{length-numbers, getD-map-numbers, map-numbers}
+use Rattle.terms.proofs.PathLaws.{Within, path-listed}
+use Rattle.terms.proofs.RegretLaws.{label-reached}
 use Rattle.star.specs.Arcs.{graph, Arcs}
 use Rattle.star.specs.Layout.{tails-of, heads-of, graph-of, Network}
 use Rattle.labels.specs.Labels.{Least}
-use Rattle.star.proofs.ArcLaws.{linked-at, at-linked}
+use Rattle.star.proofs.ArcLaws.{linked-at, at-linked, graph-within}
 use Rattle.labels.proofs.LabelLaws.{reached-best}
 use Rattle.star.proofs.Stores.{set-each}
 use Rattle.measuring.specs.Columns.{Columns, network, column-costs}
@@ -39,8 +41,8 @@ module _ {n m k : ℕ} {s costs : List ℕ} (C : Columns n m k s costs) where
   -- a path in column u is one in column v
   pub path-any-column : (u v : ℕ) → 1 ≤ u → u ≤ k → 1 ≤ v → v ≤ k → {a t : ℕ} {p : Route} → Path (column (network n m k s costs) u) a t p → Path (column (network n m k s costs) v) a t p
   path-any-column u v from upto lo hi {a} {t} {p} r =
-      let here = subst (λ (g : Graph). Path g a t p) (held-column n m k s costs u from upto) r in
-      subst (λ (g : Graph). Path g a t p) (sym (held-column n m k s costs v lo hi)) (same-paths (columns-arcs C u from upto) (columns-arcs C v lo hi) here)
+      let here = subst (λ (g : Graph). Path g a t p) (held-column C u from upto) r in
+      subst (λ (g : Graph). Path g a t p) (sym (held-column C v lo hi)) (same-paths (columns-arcs C u from upto) (columns-arcs C v lo hi) here)
 
 -- an element of a part at the front
 pub front-at : (l r : List ℕ) (i : ℕ) → i < length l → getD (l ++ r) i 0 ≡ getD l i 0
@@ -82,10 +84,17 @@ module _ {n m k a t : ℕ} {s costs : List ℕ} (J : Joined n m k s costs a t) {
       → x ≡ best n (column (network n m k s costs) u) a t
   best-part {x} found = best-here (subst (λ l. (p : Route) → Path (graph-of s l) a t p → x ≡ best n (graph-of s l) a t) (column-part m costs u) found (J .route) joined-path)
 
--- the bests of the network that the slices hold
-pub held-bests : (n m k : ℕ) (s costs : List ℕ) (a t : ℕ) → bests (network n m k s costs) a t ≡ map (λ u. best n (column (network n m k s costs) u) a t) (numbers 1 k)
+-- the bests of the network that the slices hold: a path goes from the start in each column
+pub held-bests : {n m k : ℕ} {s costs : List ℕ} {a t : ℕ} → Joined n m k s costs a t → bests (network n m k s costs) a t ≡ map (λ u. best n (column (network n m k s costs) u) a t) (numbers 1 k)
 unfolding bests network
-held-bests n m k s costs a t = ap (λ x. map (λ u. best n (column (network n m k s costs) u) a t) (numbers 1 x)) (length-columns n m k s costs)
+held-bests {n} {m} {k} {s} {costs} {a} {t} J =
+    ap (λ x. map (λ u. label n (column (network n m k s costs) u) t a) (numbers 1 x)) (length-columns n m k s costs)
+    ∙ map-numbers (λ u. label n (column (network n m k s costs) u) t a) (λ u. best n (column (network n m k s costs) u) a t) 1 k (λ u lo hi. same u lo (omega arith))
+  where
+    same : (u : ℕ) → 1 ≤ u → u ≤ k → label n (column (network n m k s costs) u) t a ≡ best n (column (network n m k s costs) u) a t
+    same u lo hi =
+        let within = subst (Within n) (sym (held-column (J .columns) u lo hi)) (graph-within (columns-arcs (J .columns) u lo hi)) in
+        label-reached n (column (network n m k s costs) u) a t (path-listed n within (J .start-from) (J .start-to) (path-any-column (J .columns) (J .in-column) u (J .from) (J .upto) lo hi (J .path)))
 
 -- ---- a list filled place by place: before the place of column u it holds f of each column
 module _ (f : ℕ → ℕ) where

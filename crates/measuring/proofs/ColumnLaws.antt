@@ -2,11 +2,14 @@
 use Prim.Native.Nat.{ℕ, suc, _+_, _*_, _-_, _≤_}
 use native.Mathlib.Omega.{arith}
 use native.Mathlib.Nat.{suc-mul, mul-le-mul, mul-le-mul-right}
-use mathlib.Core.Path.{_≡_, refl, sym, _∙_, ap, subst}
+use mathlib.Core.Path.{_≡_, refl, sym, _∙_, ap, ap₂, subst}
 use mathlib.Core.List.{List, [], _∷_}
 use lib.ListN.{length, take, drop, length-drop}
-use lib.Seq.{length-take-le}
-use Rattle.terms.specs.Network.{weigh, column}
+use lib.Seq.{take-length, length-take-le}
+use Rattle.terms.specs.Lists.{_∈_}
+use Rattle.terms.specs.Network.{mark, weigh, cost-column, column}
+use Rattle.terms.proofs.ListLaws.{take-mem, mem-place, drop-mem}
+use Rattle.terms.proofs.NetworkLaws.{column-unmarked}
 use Rattle.terms.proofs.ColumnLaws.{length-cut, cut-at}
 use Rattle.star.specs.Arcs.{graph, Arcs}
 use Rattle.star.specs.Star.{Star}
@@ -26,9 +29,13 @@ module _ (n m k : ℕ) (s costs : List ℕ) where
   unfolding network
   length-columns = length-cut k m costs
 
-  pub held-column : (u : ℕ) → 1 ≤ u → u ≤ k → column (network n m k s costs) u ≡ graph (tails-of m s) (heads-of m s) (column-costs m costs u)
-  unfolding column network
-  held-column u lo hi = ap (weigh (arc-pairs (tails-of m s) (heads-of m s))) (cut-at k m costs (u - 1) (omega arith)) ∙ weigh-pairs (tails-of m s) (heads-of m s) (column-costs m costs u)
+  own-costs : (u : ℕ) → 1 ≤ u → u ≤ k → cost-column (network n m k s costs) u ≡ column-costs m costs u
+  unfolding cost-column network
+  own-costs u lo hi = cut-at k m costs (u - 1) (omega arith)
+
+  own-arcs : network n m k s costs .arcs ≡ arc-pairs (tails-of m s) (heads-of m s)
+  unfolding network
+  own-arcs = refl
 
 -- ---- the part of the costs that holds a column
 -- it starts at the column, and has its costs
@@ -49,6 +56,19 @@ column-inside {m} {u} costs columns-to few long from upto = (column-end m u cost
 -- ---- one column of those that the slices hold
 module _ {n m k : ℕ} {s costs : List ℕ} (C : Columns n m k s costs) where
   module _ (u : ℕ) (from : 1 ≤ u) (upto : u ≤ k) where
+    -- no cost is the mark, so the column has all arcs
+    unmarked : (w : ℕ) → w ∈ cost-column (network n m k s costs) u → w ≡ mark → ⊥
+    unmarked w h e =
+        let here = drop-mem ((u - 1) * m) costs (take-mem m (drop ((u - 1) * m) costs) (subst (λ l. w ∈ l) (own-costs n m k s costs u from upto) h)) in
+        let i = mem-place (length costs) costs 0 {x = w} (rw (take-length costs) here) in
+        omega (arith, C .costs-to (i .0) (i .1), i .3)
+
+    pub held-column : column (network n m k s costs) u ≡ graph (tails-of m s) (heads-of m s) (column-costs m costs u)
+    held-column =
+        column-unmarked (network n m k s costs) u unmarked
+        ∙ ap₂ weigh (own-arcs n m k s costs) (own-costs n m k s costs u from upto)
+        ∙ weigh-pairs (tails-of m s) (heads-of m s) (column-costs m costs u)
+
     full : length (column-costs m costs u) ≡ m
     full = column-full m u costs (C .costs-long) from upto
 
@@ -67,7 +87,7 @@ module _ {n m k : ℕ} {s costs : List ℕ} (C : Columns n m k s costs) where
 
     pub column-graph : column (network n m k s costs) u ≡ graph-of s (column-costs m costs u)
     unfolding graph-of
-    column-graph = held-column n m k s costs u from upto ∙ ap (λ x. graph (tails-of x s) (heads-of x s) (column-costs m costs u)) (sym full)
+    column-graph = held-column ∙ ap (λ x. graph (tails-of x s) (heads-of x s) (column-costs m costs u)) (sym full)
 
   pub columns-star : Star n (tails-of m s) (heads-of m s) (outs-of (n + 1) m s)
   columns-star = columns-star-of 1 (omega arith) (C .columns-from)

@@ -69,7 +69,7 @@ module _ (bests : List ℕ) {n m : ℕ} {s costs path : List ℕ} (C : Columns n
   arcs-first = columns-arcs C 1 (omega arith) (C .columns-from)
 
   by-arcs-first : ByArcs (graph (tails-of m s) (heads-of m s) (column-costs m costs 1)) path
-  by-arcs-first = subst (λ g. ByArcs g path) (held-column n m (length bests) s costs 1 (omega arith) (C .columns-from)) b
+  by-arcs-first = subst (λ g. ByArcs g path) (held-column C 1 (omega arith) (C .columns-from)) b
 
   pub starred-path : 2 ≤ length path → Starred (heads-of m s) (outs-of (n + 1) m s) path
   starred-path h = record {
@@ -83,7 +83,7 @@ module _ (bests : List ℕ) {n m : ℕ} {s costs path : List ℕ} (C : Columns n
     steps = found n (tails-of m s) (column-costs m costs 1) arcs-first (columns-star C) by-arcs-first
 
     cost-is : (u : ℕ) → 1 ≤ u → u ≤ length bests → cost (column (network n m (length bests) s costs) u) path ≡ sum-of (column-costs m costs u) (take (length path - 1) arcs)
-    cost-is u from upto = ap (λ g. cost g path) (held-column n m (length bests) s costs u from upto) ∙ steps-cost (columns-arcs C u from upto) path arcs room steps
+    cost-is u from upto = ap (λ g. cost g path) (held-column C u from upto) ∙ steps-cost (columns-arcs C u from upto) path arcs room steps
 
     arcs-many : length (tails-of m s) ≡ m
     arcs-many = omega (arith, arcs-first .weights-long, column-full m 1 costs (C .costs-long) (omega arith) (C .columns-from))

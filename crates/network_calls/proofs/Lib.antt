@@ -1,2 +1,3 @@
-pub mod ChoiceLaws
 pub mod NodeListLaws
+pub mod SharedLaws
+pub mod ChoiceLaws

@@ -2,8 +2,8 @@
 use mathlib.Core.List.{[], _∷_}
 use Rattle.image.specs.Outcome.{Outcome, gives}
 use Rattle.image.specs.Answers.{refused}
-use Rattle.network_calls.specs.declared.regret.Regretted.{Regretted}
-use Rattle.network_calls.specs.declared.regret.Regretted.the-variants as regret
+use Rattle.network_calls.specs.declared.measured.Regretted.{Regretted}
+use Rattle.network_calls.specs.declared.measured.Regretted.the-variants as regret
 use Rattle.network_calls.specs.declared.chosen.Decided.{Decided}
 use Rattle.network_calls.specs.declared.chosen.Decided.the-variants as robust
 

@@ -7,11 +7,12 @@ use image::Refusal;
 use image::Sizes;
 use labels::FAR;
 use listing::clear;
-use loading::load;
+use loading::label_nodes;
+use loading::load_common;
 ghost use mathlib.Core.Path.{_≡_};
 ghost use Prim.Native.Nat.{_+_, _≤_};
 ghost use lib.ListN.{length, getD, replicate};
-ghost use Rattle.terms.specs.Network.{column};
+ghost use Rattle.terms.specs.Network.{column, common};
 ghost use Rattle.terms.specs.Paths.{Route};
 ghost use Rattle.terms.specs.Ranking.{ranked};
 ghost use Rattle.terms.specs.Robust.{robust-over};
@@ -27,7 +28,8 @@ ghost use Rattle.image.specs.Layout.{netOf};
 ghost use Rattle.network_calls.specs.Answers.{decided};
 ghost use Rattle.outcomes.specs.Calls.{no-path-row, robust-of, chosen, robust-values, cleared};
 ghost use Rattle.loading.specs.Accepted.{Accepted, InColumn, Ends};
-ghost use Rattle.loading.specs.Loaded.{Room, Loaded};
+ghost use Rattle.loading.specs.Loaded.{Shared};
+ghost use Rattle.measuring.specs.Bests.{Labelled};
 ghost use Rattle.network_calls.specs.Held.{Asked, ChoiceRoom, ChoiceSlices};
 
 // A path with the least figure among those counted.
@@ -95,24 +97,23 @@ fn choose_priced(
     state(answer)
 }
 
-// The same with the column loaded, where there is a path. The column's labels give its best; those of the
-// others are searched for.
-fn choose_loaded(
+// The same where there is a path: the column's labels are at hand, and the bests are searched for. m is the
+// number of arcs that are open in every column.
+fn choose_reached(
     image: &[u8],
     sizes: Sizes,
     task: Task,
+    m: usize,
     star: &[u16],
-    weights: &[u32],
+    costs: &[u32],
     overall: &[u64],
-    costs: &mut [u32],
     bests: &mut [u64],
     work: &mut [u32],
     path: &mut [u16],
 ) -> Decided
-    requires { ⌜ Asked (now image) sizes task ⌝ }
-    requires { ⌜ Loaded (netOf (now image)) (task .column) (task .goal) (now star) (now weights) (now overall) × (getD (now overall) (task .start) 0 ≡ far → ⊥) ⌝ }
-    requires { ⌜ ChoiceRoom (sizes .m) (sizes .k) (now costs) (now bests) ⌝ }
-    requires { ⌜ ChoiceSlices (netOf (now image) .nodes) (task .wanted) (now path) (now work) ⌝ }
+    requires { ⌜ Asked (now image) sizes task × Shared (netOf (now image)) m (now star) (now costs) ⌝ }
+    requires { ⌜ Labelled (task .n) m (now star) (now costs) (task .goal) (task .column) (now overall) × (getD (now overall) (task .start) 0 ≡ far → ⊥) ⌝ }
+    requires { ⌜ (length (now bests) ≡ sizes .k) × ChoiceSlices (netOf (now image) .nodes) (task .wanted) (now path) (now work) ⌝ }
     ensures { λ d. ⌜ decided d ≡ gives (robust-values (robust-of (now (image .entry)) (task .column) (task .start) (task .goal) (task .wanted))) ⌝ }
     ensures { λ _. ⌜ now (path .exit) ≡ after sound (chosen (robust-of (now (image .entry)) (task .column) (task .start) (task .goal) (task .wanted))) (now (path .entry)) ⌝ }
     ensures { λ _. ⌜ now (work .exit) ≡ replicate (length (now (work .entry))) 0 ⌝ }
@@ -120,46 +121,93 @@ fn choose_loaded(
     let start = task.start as usize;
     let goal = task.goal;
     let r = task.column;
-    price(image, sizes, star, overall, start, goal, r, costs, bests);
-    choose_priced(task, star, weights, overall, costs, bests, work, path)
+    price(image, sizes, m, star, costs, overall, start, goal, r, bests);
+    let from = (r - 1) * m;
+    let to = from + m;
+    choose_priced(
+        task,
+        star,
+        &costs[from..to],
+        overall,
+        costs,
+        bests,
+        work,
+        path,
+    )
 }
 
-// The same from the image on, with room for all that the search needs. Nothing is touched if there is no path.
+// The same with the arcs that are open in every column at hand, and all columns for them. Nothing is touched
+// if there is no path.
+fn choose_shared(
+    image: &[u8],
+    sizes: Sizes,
+    task: Task,
+    m: usize,
+    star: &[u16],
+    costs: &[u32],
+    overall: &mut [u64],
+    bests: &mut [u64],
+    work: &mut [u32],
+    path: &mut [u16],
+) -> Decided
+    requires { ⌜ Asked (now image) sizes task × Shared (netOf (now image)) m (now star) (now costs) ⌝ }
+    requires { ⌜ (length (now overall) ≡ sizes .n + 1) × (length (now bests) ≡ sizes .k) × ChoiceSlices (netOf (now image) .nodes) (task .wanted) (now path) (now work) ⌝ }
+    ensures { λ d. ⌜ decided d ≡ outcome (no-path-row (netOf (now (image .entry)) .nodes) (column (common (netOf (now (image .entry)))) (task .column)) (task .start) (task .goal)) (robust-values (robust-of (now (image .entry)) (task .column) (task .start) (task .goal) (task .wanted))) ⌝ }
+    ensures { λ _. ⌜ now (path .exit) ≡ after (no-path-row (netOf (now (image .entry)) .nodes) (column (common (netOf (now (image .entry)))) (task .column)) (task .start) (task .goal)) (chosen (robust-of (now (image .entry)) (task .column) (task .start) (task .goal) (task .wanted))) (now (path .entry)) ⌝ }
+    ensures { λ _. ⌜ now (work .exit) ≡ cleared (no-path-row (netOf (now (image .entry)) .nodes) (column (common (netOf (now (image .entry)))) (task .column)) (task .start) (task .goal)) (now (work .entry)) ⌝ }
+{
+    let r = task.column;
+    let start = task.start as usize;
+    let from = (r - 1) * m;
+    let to = from + m;
+    label_nodes(star, &costs[from..to], task.goal, overall);
+    if overall[start] == FAR {
+        return Decided::Refused(Refusal::NoPath);
+    }
+    choose_reached(
+        image,
+        sizes,
+        task,
+        m,
+        star,
+        costs,
+        overall,
+        bests,
+        work,
+        path,
+    )
+}
+
+// The same from the image on, with room for all that the search needs.
 fn choose_in(
     image: &[u8],
     sizes: Sizes,
     task: Task,
     star: &mut [u16],
-    weights: &mut [u32],
-    overall: &mut [u64],
     costs: &mut [u32],
+    overall: &mut [u64],
     bests: &mut [u64],
     work: &mut [u32],
     path: &mut [u16],
 ) -> Decided
-    requires { ⌜ Asked (now image) sizes task ⌝ }
-    requires { ⌜ Room (netOf (now image) .nodes) (sizes .m) (now star) (now weights) (now overall) ⌝ }
-    requires { ⌜ ChoiceRoom (sizes .m) (sizes .k) (now costs) (now bests) ⌝ }
-    requires { ⌜ ChoiceSlices (netOf (now image) .nodes) (task .wanted) (now path) (now work) ⌝ }
-    ensures { λ d. ⌜ decided d ≡ outcome (no-path-row (netOf (now (image .entry)) .nodes) (column (netOf (now (image .entry))) (task .column)) (task .start) (task .goal)) (robust-values (robust-of (now (image .entry)) (task .column) (task .start) (task .goal) (task .wanted))) ⌝ }
-    ensures { λ _. ⌜ now (path .exit) ≡ after (no-path-row (netOf (now (image .entry)) .nodes) (column (netOf (now (image .entry))) (task .column)) (task .start) (task .goal)) (chosen (robust-of (now (image .entry)) (task .column) (task .start) (task .goal) (task .wanted))) (now (path .entry)) ⌝ }
-    ensures { λ _. ⌜ now (work .exit) ≡ cleared (no-path-row (netOf (now (image .entry)) .nodes) (column (netOf (now (image .entry))) (task .column)) (task .start) (task .goal)) (now (work .entry)) ⌝ }
+    requires { ⌜ Asked (now image) sizes task × ChoiceRoom (sizes .n) (sizes .m) (sizes .k) (now star) (now costs) (now bests) ⌝ }
+    requires { ⌜ (length (now overall) ≡ sizes .n + 1) × ChoiceSlices (netOf (now image) .nodes) (task .wanted) (now path) (now work) ⌝ }
+    ensures { λ d. ⌜ decided d ≡ outcome (no-path-row (netOf (now (image .entry)) .nodes) (column (common (netOf (now (image .entry)))) (task .column)) (task .start) (task .goal)) (robust-values (robust-of (now (image .entry)) (task .column) (task .start) (task .goal) (task .wanted))) ⌝ }
+    ensures { λ _. ⌜ now (path .exit) ≡ after (no-path-row (netOf (now (image .entry)) .nodes) (column (common (netOf (now (image .entry)))) (task .column)) (task .start) (task .goal)) (chosen (robust-of (now (image .entry)) (task .column) (task .start) (task .goal) (task .wanted))) (now (path .entry)) ⌝ }
+    ensures { λ _. ⌜ now (work .exit) ≡ cleared (no-path-row (netOf (now (image .entry)) .nodes) (column (common (netOf (now (image .entry)))) (task .column)) (task .start) (task .goal)) (now (work .entry)) ⌝ }
 {
-    let r = task.column as u32;
-    let goal = task.goal;
-    let start = task.start as usize;
-    load(image, sizes.m, r, goal, star, weights, overall);
-    if overall[start] == FAR {
-        return Decided::Refused(Refusal::NoPath);
-    }
-    choose_loaded(
+    let m = load_common(image, sizes, star, costs);
+    let places = overall.len();
+    let size = 3 * m + places + 1 + places;
+    let all = m * bests.len();
+    choose_shared(
         image,
         sizes,
         task,
-        star,
-        weights,
+        m,
+        &star[..size],
+        &costs[..all],
         overall,
-        costs,
         bests,
         work,
         path,
@@ -177,16 +225,15 @@ pub fn choose(
     path: &mut [u16],
     work: &mut [u32],
 ) -> Decided
-    requires { ⌜ Accepted (now image) (sizes .n) (sizes .m) (sizes .k) × InColumn (now image) (sizes .m) r × Ends (netOf (now image) .nodes) start goal ⌝ }
+    requires { ⌜ Accepted (now image) sizes × InColumn (now image) r × Ends (netOf (now image) .nodes) start goal ⌝ }
     requires { ⌜ ChoiceSlices (netOf (now image) .nodes) wanted (now path) (now work) ⌝ }
-    ensures { λ d. ⌜ decided d ≡ outcome (no-path-row (netOf (now (image .entry)) .nodes) (column (netOf (now (image .entry))) r) start goal) (robust-values (robust-of (now (image .entry)) r start goal wanted)) ⌝ }
-    ensures { λ _. ⌜ now (path .exit) ≡ after (no-path-row (netOf (now (image .entry)) .nodes) (column (netOf (now (image .entry))) r) start goal) (chosen (robust-of (now (image .entry)) r start goal wanted)) (now (path .entry)) ⌝ }
-    ensures { λ _. ⌜ now (work .exit) ≡ cleared (no-path-row (netOf (now (image .entry)) .nodes) (column (netOf (now (image .entry))) r) start goal) (now (work .entry)) ⌝ }
+    ensures { λ d. ⌜ decided d ≡ outcome (no-path-row (netOf (now (image .entry)) .nodes) (column (common (netOf (now (image .entry)))) r) start goal) (robust-values (robust-of (now (image .entry)) r start goal wanted)) ⌝ }
+    ensures { λ _. ⌜ now (path .exit) ≡ after (no-path-row (netOf (now (image .entry)) .nodes) (column (common (netOf (now (image .entry)))) r) start goal) (chosen (robust-of (now (image .entry)) r start goal wanted)) (now (path .entry)) ⌝ }
+    ensures { λ _. ⌜ now (work .exit) ≡ cleared (no-path-row (netOf (now (image .entry)) .nodes) (column (common (netOf (now (image .entry)))) r) start goal) (now (work .entry)) ⌝ }
 {
     let mut star = [0u16; 3403];
-    let mut weights = [0u32; 1000];
-    let mut overall = [0u64; 201];
     let mut costs = [0u32; 8000];
+    let mut overall = [0u64; 201];
     let mut bests = [0u64; 8];
     let m = sizes.m as usize;
     let k = sizes.k as usize;
@@ -206,9 +253,8 @@ pub fn choose(
         sizes,
         task,
         &mut star[..size],
-        &mut weights[..m],
-        &mut overall[..places],
         &mut costs[..all],
+        &mut overall[..places],
         &mut bests[..k],
         work,
         path,

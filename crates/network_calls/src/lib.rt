@@ -10,4 +10,4 @@ pub mod robust;
 pub use chosen::Decided;
 pub use chosen::Decision;
 pub use measured::Measure;
-pub use regret::Regretted;
+pub use measured::Regretted;

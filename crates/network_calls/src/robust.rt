@@ -52,7 +52,7 @@ fn decide(
     path: &mut [u16],
     work: &mut [u32],
 ) -> Decided
-    requires { ⌜ Accepted (now image) (sizes .n) (sizes .m) (sizes .k) × InColumn (now image) (sizes .m) column × Ends (netOf (now image) .nodes) start goal ⌝ }
+    requires { ⌜ Accepted (now image) sizes × InColumn (now image) column × Ends (netOf (now image) .nodes) start goal ⌝ }
     requires { ⌜ ChoiceSlices (netOf (now image) .nodes) wanted (now path) (now work) ⌝ }
     ensures { λ d. ⌜ decided d ≡ outcome (choice-rows (now (image .entry)) column start goal) (robust-values (robust-of (now (image .entry)) column start goal wanted)) ⌝ }
     ensures { λ _. ⌜ now (path .exit) ≡ after (choice-rows (now (image .entry)) column start goal) (chosen (robust-of (now (image .entry)) column start goal wanted)) (now (path .entry)) ⌝ }

@@ -13,7 +13,7 @@ use Rattle.terms.proofs.PathLaws.{listed-path}
 use Rattle.image.specs.Outcome.{sound, row}
 use Rattle.star.proofs.ArcLaws.{path-cost-le}
 use Rattle.outcomes.specs.Calls.{dearest, dearest-anywhere, cost-row}
-use Rattle.loading.proofs.DecodeLaws.{column-held}
+use Rattle.loading.proofs.LoadLaws.{column-held}
 
 pub cost-row-sound : (c : ℕ) → c ≤ 4000000000 → cost-row c ≡ sound
 unfolding cost-row row
@@ -23,7 +23,7 @@ cost-row-sound c h = rw (le-ltb 4000000000 c h)
 pub bound-row-sound : {n : ℕ} → n ≤ 200 → cost-row ((n - 1) * 1000000) ≡ sound
 bound-row-sound {n} h = cost-row-sound ((n - 1) * 1000000) (omega arith)
 
-module _ {net : Net} (ok : Admitted net) where
+module _ {e : ℕ} {net : Net} (ok : Admitted e net) where
   pub column-cost-le : {u s t : ℕ} {p : Route} → 1 ≤ u → u ≤ length (net .columns) → Path (column net u) s t p → cost (column net u) p ≤ 199000000
   column-cost-le from upto r =
       let held = column-held ok from upto in

@@ -1,6 +1,6 @@
 -- Demand 2 holds of every call of Rank that passes the checks. Assumes nothing.
 use Prim.Native.Nat.{ℕ}
-use mathlib.Core.Path.{_≡_, refl, _∙_}
+use mathlib.Core.Path.{_≡_, _∙_}
 use mathlib.Core.List.{List}
 use lib.ListN.{length, length-take}
 use Rattle.terms.specs.Network.{column}
@@ -25,12 +25,12 @@ module _ (b : List ℕ) (u s t K rows costs work : ℕ) where
     unfolding rank-rows
     checks = ranking-sound b u s t K work (then-sound _ _ e .0) .search
 
-    in-column : InColumn b (length (netOf b .arcs)) u
-    in-column = record { passes = checks .accepted; arcs-are = refl; from = checks .from; upto = checks .upto }
+    in-column : InColumn b u
+    in-column = record { from = checks .from; upto = checks .upto }
 
     given : (p : Route) → Path (column (netOf b) u) s t p → rank-fault b u s t K rows costs work ≡ sound
     unfolding rank-fault
-    given p h = then-next _ e ∙ some-path in-column (checks .ends) h
+    given p h = then-next _ e ∙ some-path (checks .accepted) in-column (checks .ends) h
 
     first-paths : Demand2 (column (netOf b) u) s t K (rank-of b u s t K) (rank-costs-of b u s t K)
     unfolding rank-of rank-costs-of

@@ -8,13 +8,13 @@ use lib.ListN.{length, getD, drop, length-map, length-drop, List·getD-map}
 use lib.Seq.{ext-getD, getD-drop}
 use borrow.Author.Tests.{eq-eqb, ne-eqb}
 use Rattle.terms.specs.Lists.{numbers}
-use Rattle.terms.specs.Network.{Graph, Net, column, Admitted}
-use Rattle.terms.specs.Regret.{mark, label, labels}
+use Rattle.terms.specs.Network.{Graph, Net, column, Admitted, mark}
+use Rattle.terms.specs.Regret.{label, labels}
 use Rattle.terms.proofs.ListLaws.{length-numbers, getD-map-numbers}
 use Rattle.star.specs.Arcs.{graph, Arcs}
 use Rattle.labels.specs.Labels.{far, Least}
 use Rattle.outcomes.specs.Labels.{narrowed, Narrow, is-far, is-small}
-use Rattle.loading.proofs.DecodeLaws.{column-held}
+use Rattle.loading.proofs.LoadLaws.{column-held}
 use Rattle.labels.proofs.LabelLaws as laws
 
 -- ---- in 32 bits
@@ -55,7 +55,7 @@ module _ {n t : ℕ} {ts hs ws ls : List ℕ} (arcs : Arcs n ts hs ws) (l : Leas
       by-case (no k) = let e : getD ls v 0 ≡ far = omega (arith, l .at-most v) in laws.unreached-label arcs l free v lo hi e ∙ sym (narrowed-far (getD ls v 0) e)
 
 -- ---- of a column
-module _ {net : Net} {u t : ℕ} {ls : List ℕ} (ok : Admitted net) (from : 1 ≤ u) (upto : u ≤ length (net .columns)) (long : length ls ≡ net .nodes + 1) (l : Least (column net u) [] t ls) where
+module _ {e : ℕ} {net : Net} {u t : ℕ} {ls : List ℕ} (ok : Admitted e net) (from : 1 ≤ u) (upto : u ≤ length (net .columns)) (long : length ls ≡ net .nodes + 1) (l : Least (column net u) [] t ls) where
   -- a label is the mark, or small
   pub narrow-at : (v : ℕ) → v < length ls → Narrow (getD ls v 0)
   narrow-at v h = by-case (decLt (getD ls v 0) far)

@@ -7,13 +7,14 @@ use lib.Seq.{length-take-le}
 use lib.ListN.{length, getD, take, drop}
 use borrow.Author.Tests.{eq-eqb, ne-eqb}
 use Rattle.terms.specs.Lists.{_∈_}
-use Rattle.terms.specs.Network.{Admitted, column}
+use Rattle.terms.specs.Network.{Graph, Admitted, column}
 use Rattle.terms.specs.Paths.{Route, Path, cost, paths}
 use Rattle.terms.specs.Ranking.{ranked}
 use Rattle.terms.proofs.ListLaws.{mem-length}
-use Rattle.terms.proofs.PathLaws.{column-within, path-listed, listed-path}
+use Rattle.terms.proofs.PathLaws.{Within, column-within, path-listed, listed-path}
 use Rattle.image.specs.Outcome.{sound, fault, row, after}
-use Rattle.image.specs.Layout.{netOf}
+use Rattle.image.specs.Layout.{edition, netOf}
+use Rattle.image.specs.Calls.{image-fault}
 use Rattle.image.proofs.OutcomeLaws.{then-fault, then-next, then-sound, after-sound}
 use Rattle.branching.specs.Branches.{everything, First, In}
 use Rattle.branching.proofs.AllLaws.{first-ranked, cost-start}
@@ -42,30 +43,31 @@ head-is : (l : List Route) (p : Route) → take 1 l ≡ p ∷ [] → getD l 0 []
 head-is [] p e = let z : _≡_ {A = ℕ} 0 1 = ap length e in absurd (omega arith)
 head-is (q ∷ l) p e = cc
 
-module _ {b : List ℕ} {m u s t : ℕ} (c : InColumn b m u) (ends : Ends (netOf b .nodes) s t) where
-  net : Admitted (netOf b)
-  net = accepted-network b (c .passes)
-
-  -- row 15
-  pub row-none : ((p : Route) → Path (column (netOf b) u) s t p → ⊥) → no-path-row (netOf b .nodes) (column (netOf b) u) s t ≡ fault 15 0
+-- row 15
+module _ (n : ℕ) {g : Graph} {s t : ℕ} where
+  pub row-none : ((p : Route) → Path g s t p → ⊥) → no-path-row n g s t ≡ fault 15 0
   unfolding no-path-row row
   row-none none =
-      let empty : length (paths (netOf b .nodes) (column (netOf b) u) s t) ≡ 0 = no-members _ (λ p o. none p (listed-path (netOf b .nodes) o)) in
+      let empty : length (paths n g s t) ≡ 0 = no-members _ (λ p o. none p (listed-path n o)) in
       rw (eq-eqb _ 0 empty)
 
-  pub row-some : {p : Route} → Path (column (netOf b) u) s t p → no-path-row (netOf b .nodes) (column (netOf b) u) s t ≡ sound
+  pub row-some : Within n g → 1 ≤ s → s ≤ n → {p : Route} → Path g s t p → no-path-row n g s t ≡ sound
   unfolding no-path-row row
-  row-some h =
-      let one = mem-length (path-listed (netOf b .nodes) (column-within net u) (ends .start-in .from) (ends .start-in .upto) h) in
-      rw (ne-eqb (length (paths (netOf b .nodes) (column (netOf b) u) s t)) 0 (λ (e : length (paths (netOf b .nodes) (column (netOf b) u) s t) ≡ 0). omega arith))
+  row-some within lo hi h =
+      let one = mem-length (path-listed n within lo hi h) in
+      rw (ne-eqb (length (paths n g s t)) 0 (λ (e : length (paths n g s t) ≡ 0). omega arith))
+
+module _ {b : List ℕ} {u s t : ℕ} (accepted : image-fault b ≡ sound) (c : InColumn b u) (ends : Ends (netOf b .nodes) s t) where
+  net : Admitted (edition b) (netOf b)
+  net = accepted-network b accepted
 
   pub path-none : ((p : Route) → In (column (netOf b) u) s t (everything s) p → ⊥) → path-rows b u s t ≡ fault 15 0
   unfolding path-rows
-  path-none none = then-fault _ (row-none (λ p h. none p (in-everything h)))
+  path-none none = then-fault _ (row-none (netOf b .nodes) (λ p h. none p (in-everything h)))
 
   pub some-path : {p : Route} → Path (column (netOf b) u) s t p → path-rows b u s t ≡ sound
   unfolding path-rows
-  some-path h = then-next _ (row-some h) ∙ dearest-row net u s t (c .from) (c .upto)
+  some-path h = then-next _ (row-some (netOf b .nodes) (column-within net u) (ends .start-in .from) (ends .start-in .upto) h) ∙ dearest-row net u s t (c .from) (c .upto)
 
   module _ {p : Route} (f : First (column (netOf b) u) s t (everything s) p) where
     pub path-some : path-rows b u s t ≡ sound

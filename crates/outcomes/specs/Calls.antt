@@ -6,7 +6,7 @@ use mathlib.Core.Option.{Option, none, some}
 use lib.Dec.{leb, ltb, eqb}
 use lib.ListN.{length, getD, take, replicate}
 use Rattle.terms.specs.Lists.{largest, numbers}
-use Rattle.terms.specs.Network.{Graph, Net, column}
+use Rattle.terms.specs.Network.{Graph, Net, column, common}
 use Rattle.terms.specs.Paths.{Route, cost, paths}
 use Rattle.terms.specs.Ranking.{ranked}
 use Rattle.terms.specs.Regret.{labels, figure, worst}
@@ -43,7 +43,7 @@ unfoldable pub list-row : Option ℕ → Fault
 list-row none = sound
 list-row (some place) = fault 14 place
 
--- row 15: there is no path
+-- row 15: there is no path of the call's own kind
 unfoldable pub no-path-row : ℕ → Graph → ℕ → ℕ → Fault
 no-path-row n g s t = row 15 0 (eqb (length (paths n g s t)) 0)
 
@@ -114,17 +114,17 @@ shortest-values b u s t = length (shortest-of b u s t) ∷ cost (column (netOf b
 unfoldable pub shortest-outcome : List ℕ → ℕ → ℕ → ℕ → ℕ → Outcome
 shortest-outcome b u s t room = outcome (shortest-fault b u s t room) (shortest-values b u s t)
 
--- ---- Regret: start s, goal t, a node list; gives its figure and worst column
+-- ---- Regret: start s, goal t, a node list that is a path open in every column; gives its figure and worst column
 -- the dearest path over all columns, which this call reads all
 unfoldable pub dearest-anywhere : Net → ℕ → ℕ → ℕ
 dearest-anywhere net s t = largest (map (λ u. dearest (net .nodes) (column net u) s t) (numbers 1 (length (net .columns))))
 
+-- rows 14 and 16
+unfoldable pub list-rows : List ℕ → ℕ → ℕ → List ℕ → Fault
+list-rows b s t nodes = list-row (regret.open-fault (netOf b) s t nodes) then cost-row (dearest-anywhere (netOf b) s t)
+
 unfoldable pub regret-fault : List ℕ → ℕ → ℕ → List ℕ → Fault
-regret-fault b s t nodes =
-    image-fault b
-    then ends-row (netOf b) s t
-    then list-row (regret.fault (column (netOf b) 1) s t nodes)
-    then cost-row (dearest-anywhere (netOf b) s t)
+regret-fault b s t nodes = (image-fault b then ends-row (netOf b) s t) then list-rows b s t nodes
 
 unfoldable pub regret-outcome : List ℕ → ℕ → ℕ → List ℕ → Outcome
 regret-outcome b s t nodes = outcome (regret-fault b s t nodes) (figure (netOf b) s t nodes ∷ worst (netOf b) s t nodes ∷ [])
@@ -160,10 +160,10 @@ rank-outcome b u s t K rows costs work = outcome (rank-fault b u s t K rows cost
 unfoldable pub robust-rows : List ℕ → ℕ → ℕ → ℕ → ℕ → ℕ → ℕ → Fault
 robust-rows b r s t K path work = ranking-rows b r s t K work then room-row path (netOf b .nodes)
 
--- row 15 applies if the ranked list is empty; row 16 is about all columns, which this call reads
+-- row 15 applies if the ranked list is empty: no path is open in every column; row 16 is about all columns, which this call reads
 unfoldable pub choice-rows : List ℕ → ℕ → ℕ → ℕ → Fault
 choice-rows b r s t =
-    no-path-row (netOf b .nodes) (column (netOf b) r) s t
+    no-path-row (netOf b .nodes) (column (common (netOf b)) r) s t
     then cost-row (dearest-anywhere (netOf b) s t)
 
 unfoldable pub robust-fault : List ℕ → ℕ → ℕ → ℕ → ℕ → ℕ → ℕ → Fault

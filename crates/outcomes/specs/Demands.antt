@@ -4,7 +4,7 @@ use mathlib.Core.Path.{_≡_}
 use mathlib.Core.List.{List}
 use lib.ListN.{length}
 use Rattle.terms.specs.Network.{column}
-use Rattle.terms.specs.Paths.{Route, Path}
+use Rattle.terms.specs.Paths.{Route, Path, OpenPath}
 use Rattle.terms.specs.Ranking.{ranked}
 use Rattle.terms.specs.Demand2.{Demand2}
 use Rattle.terms.specs.Demand3.{Demand3}
@@ -23,10 +23,10 @@ pub record Kept2 (b : List ℕ) (u s t K rows costs work : ℕ) : Type 0 where
 
 -- for every call of Robust that passes the checks, whatever the image, the numbers and the slices
 pub record Kept3 (b : List ℕ) (r s t K path work : ℕ) : Type 0 where
-  -- (a) "no path" comes exactly if there is no loopless path from start to goal
-  pub refused-none : robust-rows b r s t K path work ≡ sound → robust-fault b r s t K path work ≡ fault 15 0 → (p : Route) → Path (column (netOf b) r) s t p → ⊥
-  pub none-refused : robust-rows b r s t K path work ≡ sound → ((p : Route) → Path (column (netOf b) r) s t p → ⊥) → robust-fault b r s t K path work ≡ fault 15 0
+  -- (a) "no path" comes exactly if no loopless path from start to goal is open in every column
+  pub refused-none : robust-rows b r s t K path work ≡ sound → robust-fault b r s t K path work ≡ fault 15 0 → (p : Route) → OpenPath (netOf b) s t p → ⊥
+  pub none-refused : robust-rows b r s t K path work ≡ sound → ((p : Route) → OpenPath (netOf b) s t p → ⊥) → robust-fault b r s t K path work ≡ fault 15 0
   -- if there is one, the answer is given
-  pub some-given : robust-rows b r s t K path work ≡ sound → (p : Route) → Path (column (netOf b) r) s t p → robust-fault b r s t K path work ≡ sound
+  pub some-given : robust-rows b r s t K path work ≡ sound → (p : Route) → OpenPath (netOf b) s t p → robust-fault b r s t K path work ≡ sound
   -- and is as the demand says, part by part
   pub demand : robust-rows b r s t K path work ≡ sound → Demand3 (netOf b) r s t K (robust-of b r s t K)

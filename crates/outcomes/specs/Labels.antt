@@ -3,7 +3,7 @@ use Prim.Native.Nat.{ℕ, _≤_}
 use mathlib.Core.Path.{_≡_}
 use mathlib.Core.Bool.{cond}
 use lib.Dec.{eqb}
-use Rattle.terms.specs.Regret.{mark}
+use Rattle.terms.specs.Network.{mark}
 use Rattle.labels.specs.Labels.{far}
 
 -- a label with the mark of REFERENCE, section 4.2, in the place of far

@@ -15,7 +15,7 @@ use Rattle.image.proofs.OutcomeLaws.{then-next, after-sound}
 use Rattle.image.proofs.ByteLaws.{length-decode}
 use Rattle.image.proofs.CheckLaws.{Sized}
 
-module _ (b : List ℕ) (n m k nodes-room costs-room : ℕ) (accepted : image-fault b ≡ sound) (s : Sized b n m k) where
+module _ (b : List ℕ) (n m k e nodes-room costs-room : ℕ) (accepted : image-fault b ≡ sound) (s : Sized b n m k e) where
   m-is : m ≡ arc-count b
   m-is = s .m-is
 
@@ -38,9 +38,9 @@ module _ (b : List ℕ) (n m k nodes-room costs-room : ℕ) (accepted : image-fa
   pub nodes-after : (old : List ℕ) → unpack-fault b nodes-room costs-room ≡ sound
       → decode 2 (2 * m) (drop 24 b) ++ drop (2 * m) old ≡ after (unpack-fault b nodes-room costs-room) (node-list b) old
   unfolding node-list nodes-in
-  nodes-after old e = rw (after-sound (node-list b) old e, length-decode 2 (2 * arc-count b) (drop 24 b), ← m-is)
+  nodes-after old h = rw (after-sound (node-list b) old h, length-decode 2 (2 * arc-count b) (drop 24 b), ← m-is)
 
   pub costs-after : (old : List ℕ) → unpack-fault b nodes-room costs-room ≡ sound
       → decode 4 (m * k) (drop (costs-start m) b) ++ drop (m * k) old ≡ after (unpack-fault b nodes-room costs-room) (cost-list b) old
   unfolding cost-list costs-in
-  costs-after old e = rw (after-sound (cost-list b) old e, length-decode 4 (arc-count b * column-count b) (drop (costs-start (arc-count b)) b), ← m-is, ← k-is)
+  costs-after old h = rw (after-sound (cost-list b) old h, length-decode 4 (arc-count b * column-count b) (drop (costs-start (arc-count b)) b), ← m-is, ← k-is)

@@ -4,17 +4,17 @@ use mathlib.Core.Path.{_≡_}
 use mathlib.Core.List.{List, [], _∷_}
 use lib.ListN.{length}
 use Rattle.image.specs.Outcome.{gives}
-use Rattle.image.specs.Layout.{node-count, column-count, node-list, cost-list, half, image-of}
+use Rattle.image.specs.Layout.{edition, node-count, column-count, node-list, cost-list, half, image-of}
 use Rattle.image.specs.Calls.{check-outcome}
 use Rattle.packing.specs.Calls.{build-outcome}
 
--- the image of these lists is accepted with their sizes, and reads back as them
-pub record ReadsBack (n k : ℕ) (nodes costs : List ℕ) : Type 0 where
-  pub sizes-back : check-outcome (image-of n k nodes costs) ≡ gives (n ∷ half nodes ∷ k ∷ [])
-  pub nodes-back : node-list (image-of n k nodes costs) ≡ nodes
-  pub costs-back : cost-list (image-of n k nodes costs) ≡ costs
+-- the image of edition e of these lists is accepted with their sizes and this edition, and reads back as them
+pub record ReadsBack (e n k : ℕ) (nodes costs : List ℕ) : Type 0 where
+  pub sizes-back : check-outcome (image-of e n k nodes costs) ≡ gives (n ∷ half nodes ∷ k ∷ e ∷ [])
+  pub nodes-back : node-list (image-of e n k nodes costs) ≡ nodes
+  pub costs-back : cost-list (image-of e n k nodes costs) ≡ costs
 
--- the lists of this image build an image of its length, byte for byte this one
+-- the lists of this image build, in its edition, an image of its length, byte for byte this one
 pub record WritesAgain (b : List ℕ) : Type 0 where
-  pub built-again : (room : ℕ) → length b ≤ room → build-outcome (node-count b) (column-count b) (node-list b) (cost-list b) room ≡ gives (length b ∷ [])
-  pub same-image : image-of (node-count b) (column-count b) (node-list b) (cost-list b) ≡ b
+  pub built-again : (room : ℕ) → length b ≤ room → build-outcome (edition b) (node-count b) (column-count b) (node-list b) (cost-list b) room ≡ gives (length b ∷ [])
+  pub same-image : image-of (edition b) (node-count b) (column-count b) (node-list b) (cost-list b) ≡ b

@@ -1,4 +1,4 @@
-// Build: an image of edition 1 from lists.
+// Build: an image from lists.
 use image::Refusal;
 use image::Verdict;
 use image::check_arc;
@@ -6,6 +6,8 @@ use image::cost_count;
 use image::costs_start;
 use image::image_length;
 use image::in_range;
+use image::is_cost;
+use image::is_taken;
 use image::write16;
 use image::write32;
 ghost use mathlib.Core.Path.{_≡_};
@@ -49,14 +51,14 @@ fn check_arc_list(nodes: &[u16], n: u32, m: usize) -> Verdict
     Verdict::Sound
 }
 
-// Row 9, over a list of costs.
-fn check_cost_list(costs: &[u32]) -> Verdict
+// Row 9, over a list of costs for an image of this edition.
+fn check_cost_list(costs: &[u32], edition: u32) -> Verdict
     requires { ⌜ length (now costs) ≤ 8000 ⌝ }
-    ensures { λ r. ⌜ verdict r ≡ costs-fault 0 (now (costs .entry)) ⌝ }
+    ensures { λ r. ⌜ verdict r ≡ costs-fault edition 0 (now (costs .entry)) ⌝ }
 {
     let mut i: usize = 0;
     while i < costs.len() {
-        if 1000000 < costs[i] {
+        if !is_cost(edition, costs[i]) {
             return Verdict::Refused(Refusal::CostTooLarge(i as u32));
         }
         i += 1;
@@ -64,10 +66,13 @@ fn check_cost_list(costs: &[u32]) -> Verdict
     Verdict::Sound
 }
 
-// Rows 3, 4, 6 to 9 and 13 for an image slice of `room` bytes.
-fn check_lists(n: u32, k: u32, nodes: &[u16], costs: &[u32], room: usize) -> Verdict
-    ensures { λ r. ⌜ verdict r ≡ build-fault n k (now (nodes .entry)) (now (costs .entry)) room ⌝ }
+// Rows 2, 3, 4, 6 to 9 and 13 for an image slice of `room` bytes.
+fn check_lists(edition: u32, n: u32, k: u32, nodes: &[u16], costs: &[u32], room: usize) -> Verdict
+    ensures { λ r. ⌜ verdict r ≡ build-fault edition n k (now (nodes .entry)) (now (costs .entry)) room ⌝ }
 {
+    if !is_taken(2, edition) {
+        return Verdict::Refused(Refusal::WrongEdition);
+    }
     let m = nodes.len() / 2;
     if 1000 < m {
         return Verdict::Refused(Refusal::SizeOutOfRange);
@@ -85,7 +90,7 @@ fn check_lists(n: u32, k: u32, nodes: &[u16], costs: &[u32], room: usize) -> Ver
     let Verdict::Sound = arcs else {
         return arcs;
     };
-    let prices = check_cost_list(costs);
+    let prices = check_cost_list(costs, edition);
     let Verdict::Sound = prices else {
         return prices;
     };
@@ -96,11 +101,11 @@ fn check_lists(n: u32, k: u32, nodes: &[u16], costs: &[u32], room: usize) -> Ver
 }
 
 // The header of 24 bytes.
-fn write_header(image: &mut [u8], n: u32, m: u32, k: u32)
-    requires { ⌜ (24 ≤ length (now image)) × (n ≤ 200) × (m ≤ 1000) × (k ≤ 8) ⌝ }
-    ensures { λ _. ⌜ now (image .exit) ≡ header n m k ++ drop 24 (now (image .entry)) ⌝ }
+fn write_header(image: &mut [u8], edition: u32, n: u32, m: u32, k: u32)
+    requires { ⌜ (24 ≤ length (now image)) × (edition < 65536) × (n ≤ 200) × (m ≤ 1000) × (k ≤ 8) ⌝ }
+    ensures { λ _. ⌜ now (image .exit) ≡ header edition n m k ++ drop 24 (now (image .entry)) ⌝ }
 {
-    write16(image, 0, 1);
+    write16(image, 0, edition);
     write16(image, 2, n);
     write16(image, 4, m);
     write16(image, 6, k);
@@ -135,17 +140,17 @@ fn write_costs(image: &mut [u8], start: usize, costs: &[u32])
 }
 
 // REFERENCE, section 4.7.
-pub fn build(n: u32, k: u32, nodes: &[u16], costs: &[u32], image: &mut [u8]) -> Built
-    ensures { λ r. ⌜ built r ≡ build-outcome n k (now (nodes .entry)) (now (costs .entry)) (length (now (image .entry))) ⌝ }
-    ensures { λ _. ⌜ now (image .exit) ≡ after (build-fault n k (now (nodes .entry)) (now (costs .entry)) (length (now (image .entry)))) (image-of n k (now (nodes .entry)) (now (costs .entry))) (now (image .entry)) ⌝ }
-    ensures { λ _. ⌜ (build-fault n k (now (nodes .entry)) (now (costs .entry)) (length (now (image .entry))) ≡ sound → ReadsBack n k (now (nodes .entry)) (now (costs .entry))) ⌝ }
+pub fn build(edition: u32, n: u32, k: u32, nodes: &[u16], costs: &[u32], image: &mut [u8]) -> Built
+    ensures { λ r. ⌜ built r ≡ build-outcome edition n k (now (nodes .entry)) (now (costs .entry)) (length (now (image .entry))) ⌝ }
+    ensures { λ _. ⌜ now (image .exit) ≡ after (build-fault edition n k (now (nodes .entry)) (now (costs .entry)) (length (now (image .entry)))) (image-of edition n k (now (nodes .entry)) (now (costs .entry))) (now (image .entry)) ⌝ }
+    ensures { λ _. ⌜ (build-fault edition n k (now (nodes .entry)) (now (costs .entry)) (length (now (image .entry))) ≡ sound → ReadsBack edition n k (now (nodes .entry)) (now (costs .entry))) ⌝ }
 {
-    let lists = check_lists(n, k, nodes, costs, image.len());
+    let lists = check_lists(edition, n, k, nodes, costs, image.len());
     if let Verdict::Refused(refusal) = lists {
         return Built::Refused(refusal);
     }
     let m = (nodes.len() / 2) as u32;
-    write_header(image, n, m, k);
+    write_header(image, edition, n, m, k);
     write_nodes(image, 24, nodes);
     write_costs(image, costs_start(m) as usize, costs);
     Built::Image(image_length(m, k))

@@ -9,7 +9,7 @@ use lib.Seq.{take-at, getD-take}
 use borrow.Author.Tests.{lt-ltb, le-ltb}
 use Rattle.terms.specs.Lists.{_∈_}
 use Rattle.terms.specs.Network.{Net, Graph, Admitted, column}
-use Rattle.terms.specs.Paths.{Route, ByArcs, along, Path}
+use Rattle.terms.specs.Paths.{Route, ByArcs, along, Path, OpenPath}
 use Rattle.terms.specs.Robust.{Answer, settled, left-open, no-path}
 use Rattle.terms.specs.Demand3.{Demand3, none, closed, unsettled}
 use Rattle.terms.proofs.ListLaws.{getD-mem}
@@ -94,24 +94,28 @@ module _ {n : ℕ} {g : Graph} (w : Within n g) {s t : ℕ} (lo : 1 ≤ s) (hi :
   path-short : {p : Route} → Path g s t p → length p ≤ n
   path-short r = at-most-nodes w lo hi (of-path r)
 
-module _ (net : Net) (ok : Admitted net) (t : ℕ) where
+module _ {e : ℕ} (net : Net) (ok : Admitted e net) (t : ℕ) where
   abbrev within : Within (net .nodes) (column net 1)
   within = column-within ok 1
 
   some-node : 1 ≤ net .nodes
   some-node = omega (arith, ok .nodes-from)
 
+  -- a path that is open in every column is one in the first
+  first-path : {p : Route} → OpenPath net 1 t p → Path (column net 1) 1 t p
+  first-path q = q .in-column 1 (omega arith) (ok .columns-from)
+
   chosen-short : {a : Answer} → Demand3 net 1 1 t 48 a → length (chosen a) ≤ 200
   unfolding chosen
   chosen-short (none empty) = omega arith
-  chosen-short (closed s) = omega (arith, path-short within {t = t} (omega arith) some-node (s .is-path), ok .nodes-to)
-  chosen-short (unsettled s) = omega (arith, path-short within {t = t} (omega arith) some-node (s .is-path), ok .nodes-to)
+  chosen-short (closed s) = omega (arith, path-short within {t = t} (omega arith) some-node (first-path (s .is-path)), ok .nodes-to)
+  chosen-short (unsettled s) = omega (arith, path-short within {t = t} (omega arith) some-node (first-path (s .is-path)), ok .nodes-to)
 
   chosen-small : {a : Answer} → Demand3 net 1 1 t 48 a → (x : ℕ) → x ∈ chosen a → x < 1000
   unfolding chosen
   chosen-small (none empty) x m = elim m [ ]
-  chosen-small (closed s) x m = omega (arith, path-to within {t = t} (omega arith) some-node (s .is-path) m, ok .nodes-to)
-  chosen-small (unsettled s) x m = omega (arith, path-to within {t = t} (omega arith) some-node (s .is-path) m, ok .nodes-to)
+  chosen-small (closed s) x m = omega (arith, path-to within {t = t} (omega arith) some-node (first-path (s .is-path)) m, ok .nodes-to)
+  chosen-small (unsettled s) x m = omega (arith, path-to within {t = t} (omega arith) some-node (first-path (s .is-path)) m, ok .nodes-to)
 
 -- ---- the slice that the sheet is written to
 pub too-short : (room : ℕ) → room < 1024 → sheet-fault room ≡ fault 13 0

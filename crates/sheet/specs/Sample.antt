@@ -3,17 +3,17 @@ use Prim.Native.Nat.{ℕ}
 use mathlib.Core.Path.{_≡_, refl, _∙_, ap₂}
 use mathlib.Core.List.{List, [], _∷_, flatMap}
 use lib.ListN.{length}
-use Rattle.terms.specs.Lists.{elem, keep, least, largest, index, numbers, smallest}
-use Rattle.terms.specs.Network.{heads, linked, weight, weigh, column, cut, below}
+use Rattle.terms.specs.Lists.{elem, keep, pick, least, largest, index, numbers, smallest}
+use Rattle.terms.specs.Network.{heads, linked, weight, weigh, open-arcs, cost-column, column, restrict, open-everywhere, common, cut, below}
 use Rattle.terms.specs.Paths.{cost-from, cost, exits, walks, paths}
 use Rattle.terms.specs.Ranking.{by-first, lex, before, insert, sort, ranked}
 use Rattle.terms.specs.Regret.{best, deviation, deviations, figure, worst}
 use Rattle.terms.specs.Robust.{settled, least-figure, enough, needed, choice, answer, robust}
 use Rattle.image.specs.Bytes.{number, field, decode}
 use Rattle.image.specs.Outcome.{sound, row, _then_}
-use Rattle.image.specs.Rows.{in-range, is-node, pairs, arc-fault, arcs-fault, costs-fault, lists-fault}
+use Rattle.image.specs.Rows.{edition-row, in-range, is-node, pairs, arc-fault, arcs-fault, is-cost, costs-fault, lists-fault}
 use Rattle.image.specs.Layout.{edition, node-count, arc-count, column-count, costs-start, total, fields-right, nodes-in, costs-in, node-list, cost-list, netOf}
-use Rattle.image.specs.Calls.{header-fault, image-fault}
+use Rattle.image.specs.Calls.{header-fault, taken-fault, image-fault}
 use Rattle.outcomes.specs.Calls.{ends-row, column-row, count-row, room-row, no-path-row, dearest, cost-row, search-rows, ranking-rows, workspace, dearest-anywhere, robust-rows, choice-rows, robust-fault, robust-of}
 use Rattle.sheet.specs.Text.{digits, decimal}
 use Rattle.sheet.specs.Sheet.{node-text, nodes-text, two-numbers, route-line, regret-line, settled-line, choice-lines, answer-text, sheet-of, program-fault, program-answer, sheet}
@@ -36,11 +36,11 @@ sheet-of-S =
 
 -- ---- no row applies, and Robust's answer is 1 3 4, 3, worst column 2, count 2, settled
 passes : program-fault image-of-S ≡ sound
-unfolding elem keep flatMap largest numbers heads linked weight weigh column cut below cost-from cost exits walks paths number field decode row _then_ in-range is-node pairs arc-fault arcs-fault costs-fault lists-fault edition node-count arc-count column-count costs-start total fields-right nodes-in costs-in node-list cost-list netOf header-fault image-fault ends-row column-row count-row room-row no-path-row dearest cost-row search-rows ranking-rows workspace dearest-anywhere robust-rows choice-rows robust-fault program-fault
+unfolding elem keep pick flatMap largest numbers heads linked weight weigh open-arcs cost-column column restrict open-everywhere common cut below cost-from cost exits walks paths number field decode row _then_ edition-row in-range is-node pairs arc-fault arcs-fault is-cost costs-fault lists-fault edition node-count arc-count column-count costs-start total fields-right nodes-in costs-in node-list cost-list netOf header-fault taken-fault image-fault ends-row column-row count-row room-row no-path-row dearest cost-row search-rows ranking-rows workspace dearest-anywhere robust-rows choice-rows robust-fault program-fault
 passes = refl
 
 answers : program-answer image-of-S ≡ settled (1 ∷ 3 ∷ 4 ∷ []) 3 2 2
-unfolding elem keep flatMap least largest index numbers smallest heads linked weight weigh column cut cost-from cost exits walks paths by-first lex before insert sort ranked best deviation deviations figure worst least-figure enough needed choice answer robust number field decode pairs node-count arc-count column-count costs-start nodes-in costs-in node-list cost-list netOf robust-of program-answer
+unfolding elem keep pick flatMap least largest index numbers smallest heads linked weight weigh open-arcs cost-column column restrict open-everywhere common cut cost-from cost exits walks paths by-first lex before insert sort ranked best deviation deviations figure worst least-figure enough needed choice answer robust number field decode pairs node-count arc-count column-count costs-start nodes-in costs-in node-list cost-list netOf robust-of program-answer
 answers = refl
 
 prints : answer-text (settled (1 ∷ 3 ∷ 4 ∷ []) 3 2 2) ≡ sheet-of-S

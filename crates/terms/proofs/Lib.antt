@@ -2,11 +2,14 @@ pub mod ListLaws
 pub mod LargestLaws
 pub mod ColumnLaws
 pub mod PathLaws
+pub mod GraphLaws
 pub mod RankingLaws
+pub mod NetworkLaws
+pub mod CommonLaws
 pub mod PrefixLaws
 pub mod RegretLaws
-pub mod OverLaws
 pub mod RobustLaws
+pub mod OverLaws
 pub mod Demand2Laws
 pub mod DemandLaws
 pub mod Demand3Laws

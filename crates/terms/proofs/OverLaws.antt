@@ -1,44 +1,62 @@
--- Regret against bests that are given: where these are best(u), it is REFERENCE's (sections 1.7 and 5). Assumes nothing.
+-- Regret against bests that are given: Robust searches the network of the arcs that are open in every column, against the bests of the
+-- whole network (REFERENCE, sections 1.7 and 5). Assumes nothing.
 use Prim.Native.Nat.{ℕ, suc, _-_, _≤_}
 use native.Mathlib.Omega.{arith}
-use mathlib.Core.Path.{_≡_, _∙_, ap, ap₂, fun-ext}
+use mathlib.Core.Path.{_≡_, sym, _∙_, ap, ap₂}
+use mathlib.Core.List.{map}
 use lib.Dec.{eqb}
 use lib.ListN.{length, getD}
-use Rattle.terms.specs.Lists.{largest, index}
-use Rattle.terms.specs.Network.{Net, column}
-use Rattle.terms.specs.Paths.{Route, cost}
+use Rattle.terms.specs.Lists.{_∈_, largest, index, numbers}
+use Rattle.terms.specs.Network.{Net, Admitted, column, common, restrict}
+use Rattle.terms.specs.Paths.{Route, OpenPath, cost}
 use Rattle.terms.specs.Ranking.{ranked}
-use Rattle.terms.specs.Regret.{best, deviation, deviations, figure, worst, bests, over, figure-over, worst-over}
-use Rattle.terms.specs.Robust.{answer, robust, robust-over}
-use Rattle.terms.proofs.ListLaws.{getD-map-numbers, map-numbers}
+use Rattle.terms.specs.Regret.{best, label, deviation, deviations, figure, worst, bests, over, figure-over, worst-over}
+use Rattle.terms.specs.Robust.{robust, robust-over}
+use Rattle.terms.proofs.ListLaws.{map-numbers, getD-map-numbers}
+use Rattle.terms.proofs.PathLaws.{column-within, path-listed}
+use Rattle.terms.proofs.RankingLaws.{ranked-path}
+use Rattle.terms.proofs.CommonLaws.{common-columns, common-path, path-common, common-cost}
+use Rattle.terms.proofs.RegretLaws.{label-reached}
+use Rattle.terms.proofs.RobustLaws.{answer-same}
 
-module _ (net : Net) (s t : ℕ) where
-  pub bests-at : (u : ℕ) → 1 ≤ u → u ≤ length (net .columns) → getD (bests net s t) (u - 1) 0 ≡ best (net .nodes) (column net u) s t
-  unfolding bests
-  bests-at u lo hi =
-      getD-map-numbers (λ v. best (net .nodes) (column net v) s t) 1 (length (net .columns)) (u - 1) 0 (omega arith)
-      ∙ ap (λ v. best (net .nodes) (column net v) s t) (omega arith)
+-- the bests are the labels of the start
+pub bests-label : (net : Net) (s t u : ℕ) → 1 ≤ u → u ≤ length (net .columns) → getD (bests net s t) (u - 1) 0 ≡ label (net .nodes) (column net u) t s
+unfolding bests
+bests-label net s t u lo hi =
+    getD-map-numbers (λ (v : ℕ). label (net .nodes) (column net v) t s) 1 (length (net .columns)) (u - 1) 0 (omega arith)
+    ∙ ap (λ (v : ℕ). label (net .nodes) (column net v) t s) (omega arith)
 
-  -- what a path costs beyond the bests are its deviations, the most its figure, the column of it its worst
-  pub over-deviation : (u : ℕ) → 1 ≤ u → u ≤ length (net .columns) → (p : Route) → deviation net s t p u ≡ cost (column net u) p - getD (bests net s t) (u - 1) 0
+module _ {e : ℕ} {net : Net} (ok : Admitted e net) (s t : ℕ) (s-lo : 1 ≤ s) (s-hi : s ≤ net .nodes) where
+  -- where a path is open in every column, the bests are best(u)
+  pub bests-at : {p : Route} → OpenPath net s t p → (u : ℕ) → 1 ≤ u → u ≤ length (net .columns) → getD (bests net s t) (u - 1) 0 ≡ best (net .nodes) (column net u) s t
+  bests-at q u lo hi =
+      bests-label net s t u lo hi ∙ label-reached (net .nodes) (column net u) s t (path-listed (net .nodes) (column-within ok u) s-lo s-hi (q .in-column u lo hi))
+
+  -- and what it costs beyond them, over the arcs that are open in every column, are its deviations, the most its figure, the column of it its worst
+  pub over-deviation : {p : Route} → OpenPath net s t p → (u : ℕ) → 1 ≤ u → u ≤ length (net .columns)
+      → deviation net s t p u ≡ cost (column (common net) u) p - getD (bests net s t) (u - 1) 0
   unfolding deviation
-  over-deviation u lo hi p = rw (bests-at u lo hi)
+  over-deviation q u lo hi = ap₂ (λ x y. x - y) (sym (common-cost ok u (path-common ok u lo hi q))) (sym (bests-at q u lo hi))
 
-  over-deviations : (p : Route) → deviations net s t p ≡ over net (bests net s t) p
-  unfolding over deviations
-  over-deviations p = map-numbers (deviation net s t p) _ 1 (length (net .columns)) (λ u lo hi. over-deviation u lo (omega arith) p)
+  over-deviations : {p : Route} → OpenPath net s t p → deviations net s t p ≡ over (common net) (bests net s t) p
+  unfolding deviations over
+  over-deviations {p} q =
+      map-numbers (deviation net s t p) (λ u. cost (column (common net) u) p - getD (bests net s t) (u - 1) 0) 1 (length (net .columns)) (λ u lo hi. over-deviation q u lo (omega arith))
+      ∙ ap (λ k. map (λ u. cost (column (common net) u) p - getD (bests net s t) (u - 1) 0) (numbers 1 k)) (sym (common-columns net))
 
-  pub over-figure : (p : Route) → figure net s t p ≡ figure-over net (bests net s t) p
+  pub over-figure : {p : Route} → OpenPath net s t p → figure net s t p ≡ figure-over (common net) (bests net s t) p
   unfolding figure figure-over
-  over-figure p = ap largest (over-deviations p)
+  over-figure q = ap largest (over-deviations q)
 
-  pub over-worst : (p : Route) → worst net s t p ≡ worst-over net (bests net s t) p
+  pub over-worst : {p : Route} → OpenPath net s t p → worst net s t p ≡ worst-over (common net) (bests net s t) p
   unfolding worst worst-over
-  over-worst p = ap₂ (λ f l. suc (index (eqb f) l)) (over-figure p) (over-deviations p)
+  over-worst q = ap₂ (λ f l. suc (index (eqb f) l)) (over-figure q) (over-deviations q)
 
-  -- so Robust is a search against the bests
-  pub robust-over-bests : (r K : ℕ) → 1 ≤ r → r ≤ length (net .columns) → robust net r s t K ≡ robust-over net (bests net s t) r s t K
-  unfolding robust robust-over
-  robust-over-bests r K lo hi =
-      ap (λ dev. answer dev (figure net s t) (worst net s t) (ranked (net .nodes) (column net r) s t) K) (fun-ext (over-deviation r lo hi))
-      ∙ ap₂ (λ fig wst. answer (λ p. cost (column net r) p - getD (bests net s t) (r - 1) 0) fig wst (ranked (net .nodes) (column net r) s t) K) (fun-ext over-figure) (fun-ext over-worst)
+  -- so Robust is a search over the paths of that network, against the bests
+  pub robust-common : (r K : ℕ) → 1 ≤ r → r ≤ length (net .columns) → 1 ≤ K → robust net r s t K ≡ robust-over (common net) (bests net s t) r s t K
+  unfolding robust robust-over common restrict
+  robust-common r K lo hi K-lo =
+      answer-same (ranked (net .nodes) (column (common net) r) s t) (λ p m. over-deviation (opens m) r lo hi) (λ p m. over-figure (opens m)) (λ p m. over-worst (opens m)) K K-lo
+    where
+      opens : {p : Route} → p ∈ ranked (net .nodes) (column (common net) r) s t → OpenPath net s t p
+      opens m = common-path ok r (ranked-path (net .nodes) (column (common net) r) s t m)

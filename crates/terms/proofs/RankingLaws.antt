@@ -33,7 +33,7 @@ pub by-first-eq : (a b : ℕ) (r : Bool) → a ≡ b → by-first a b r ≡ r
 unfolding by-first
 by-first-eq a b r e = rw (le-ltb a b (omega arith), eq-eqb a b e)
 
-by-first-trans : (a b c : ℕ) (r r′ r″ : Bool) → (r ≡ true → r′ ≡ true → r″ ≡ true) → by-first a b r ≡ true → by-first b c r′ ≡ true → by-first a c r″ ≡ true
+pub by-first-trans : (a b c : ℕ) (r r′ r″ : Bool) → (r ≡ true → r′ ≡ true → r″ ≡ true) → by-first a b r ≡ true → by-first b c r′ ≡ true → by-first a c r″ ≡ true
 by-first-trans a b c r r′ r″ tr d e = go (by-first-true a b r d) (by-first-true b c r′ e)
   where
     go : (a < b) ⊎ ((a ≡ b) × (r ≡ true)) → (b < c) ⊎ ((b ≡ c) × (r′ ≡ true)) → by-first a c r″ ≡ true
@@ -247,6 +247,15 @@ module _ (g : Graph) where
       sort-out q (inl z) = inl (Memᴰ·append-left (p ∷ []) z)
       sort-out q (inr (inl e)) = inl (Memᴰ·append-right k (List·Memᴰ·head e))
       sort-out q (inr (inr b)) = inr (far q b)
+
+-- ---- the order goes by the costs and the nodes alone
+pub before-same : (g h : Graph) (p q : Route) → cost g p ≡ cost h p → cost g q ≡ cost h q → before g p q ≡ before h p q
+unfolding before
+before-same g h p q a b = ap₂ (λ x y. by-first x y (lex p q)) a b
+
+pub rising-same : {g h : Graph} {l : List Route} → ((p q : Route) → p ∈ l → q ∈ l → before g p q ≡ before h p q) → Rising g l → Rising h l
+rising-same c none-left = none-left
+rising-same c (first {p} a r) = first (λ q m. sym (c p q (List·Memᴰ·head refl) (List·Memᴰ·tail m)) ∙ a q m) (rising-same (λ x y m n. c x y (List·Memᴰ·tail m) (List·Memᴰ·tail n)) r)
 
 -- ---- `ranked` has the members of `paths`, strictly rising
 pub ranked-rising : (n : ℕ) (g : Graph) (s t : ℕ) → Rising g (ranked n g s t)

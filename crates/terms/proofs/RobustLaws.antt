@@ -2,7 +2,7 @@
 use Prim.Native.Nat.{ℕ, zero, suc, _-_, min, _≤_, _<_}
 use native.Mathlib.Omega.{arith}
 use native.Mathlib.Nat.{eq-or-lt-of-le}
-use mathlib.Core.Path.{_≡_, refl, sym, _∙_, ap}
+use mathlib.Core.Path.{_≡_, refl, sym, _∙_, ap, ap₂}
 use mathlib.Core.Bool.{Bool, true, false}
 use mathlib.Core.Logic.{_⊎_, inl, inr, ⊎-elim}
 use mathlib.Core.List.{List, [], _∷_, map, map-append, Memᴰ·map}
@@ -16,7 +16,7 @@ use Rattle.terms.specs.Paths.{Route}
 use Rattle.terms.specs.Ranking.{before}
 use Rattle.terms.specs.Robust.{settled, left-open, no-path, least-figure, enough, needed, choice, answer}
 pub use Rattle.terms.specs.Demand3.{Stops}
-use Rattle.terms.proofs.ListLaws.{le-or-lt, or-cases, or-right, or-false, place-mem, mem-place, least-le, least-attained, least-snoc, Smallest, smallest-is-smallest, smallest-unique, index-before, index-passes, index-le, index-is}
+use Rattle.terms.proofs.ListLaws.{le-or-lt, map-same, take-mem, getD-mem, or-cases, or-right, or-false, place-mem, mem-place, least-le, least-attained, least-snoc, Smallest, smallest-is-smallest, smallest-unique, index-before, index-passes, index-le, index-is}
 use Rattle.terms.proofs.RankingLaws.{Rising, NoLater, rising-earlier, rising-split}
 
 -- ---- Bj, the least figure among the first j: no figure of these is less, and one of them has it
@@ -179,3 +179,60 @@ module _ (dev fig wst : Route → ℕ) (K : ℕ) where
   unfolding answer
   answer-open [] more c = absurd (omega (arith, c .within))
   answer-open (x ∷ ps) more c = rw (lt-leb (needed dev fig (x ∷ ps)) K more, choice-is fig (x ∷ ps) K c)
+
+-- ---- the answer depends only on the deviations, figures and worst columns of the ranked paths
+module _ {dev dev′ fig fig′ wst wst′ : Route → ℕ} (ps : List Route)
+    (same-dev : (p : Route) → p ∈ ps → dev p ≡ dev′ p) (same-fig : (p : Route) → p ∈ ps → fig p ≡ fig′ p) (same-wst : (p : Route) → p ∈ ps → wst p ≡ wst′ p) where
+  same-least : (j : ℕ) → least-figure fig ps j ≡ least-figure fig′ ps j
+  unfolding least-figure
+  same-least j = ap least (map-same (take j ps) (λ p m. same-fig p (take-mem j ps m)))
+
+  same-stops : {j : ℕ} → Stops dev fig ps j → Stops dev′ fig′ ps j
+  same-stops {j} s =
+      record {
+        one-at-least = s .one-at-least;
+        all-at-most = s .all-at-most;
+        holds = ⊎-elim (λ e. inl e) (λ l. ⊎-elim (λ e. inl e) (λ h. inr (omega (arith, same-least j, same-dev (getD ps j []) (getD-mem ps [] j l)))) (s .holds)) (eq-or-lt-of-le (s .all-at-most));
+        not-before = λ i lo hi. omega (arith, s .not-before i lo hi, same-least i, same-dev (getD ps i []) (getD-mem ps [] i (omega (arith, s .all-at-most))));
+      }
+
+  same-chosen : {j : ℕ} {p : Route} → Chosen fig ps j p → Chosen fig′ ps j p
+  same-chosen {j} {p} c =
+      record {
+        place = c .place;
+        counted = c .counted;
+        within = c .within;
+        at-place = c .at-place;
+        has-least = sym (same-fig p (rw (c .at-place) (getD-mem ps [] (c .place) (c .within)))) ∙ c .has-least ∙ same-least j;
+        earlier-more = λ i h. omega (arith, c .earlier-more i h, same-least j, same-fig (getD ps i []) (getD-mem ps [] i (omega (arith, c .within))));
+      }
+
+  pub answer-same : (K : ℕ) → 1 ≤ K → answer dev fig wst ps K ≡ answer dev′ fig′ wst′ ps K
+  answer-same K lo = ⊎-elim some (λ h. answer-none dev fig wst K ps (omega arith) ∙ sym (answer-none dev′ fig′ wst′ K ps (omega arith))) (le-or-lt 1 (length ps))
+    where
+      chosen-mem : {j : ℕ} {p : Route} → Chosen fig ps j p → p ∈ ps
+      chosen-mem c = rw (c .at-place) (getD-mem ps [] (c .place) (c .within))
+
+      J : ℕ
+      J = needed dev fig ps
+
+      some : 1 ≤ length ps → answer dev fig wst ps K ≡ answer dev′ fig′ wst′ ps K
+      some h = ⊎-elim few many (le-or-lt J K)
+        where
+          stop : Stops dev fig ps J
+          stop = needed-stops dev fig ps h
+
+          few : J ≤ K → answer dev fig wst ps K ≡ answer dev′ fig′ wst′ ps K
+          few l =
+              let c = choice-chosen fig ps J (stop .one-at-least) h in
+              let p = choice fig ps J in
+              answer-settled dev fig wst K ps stop l c ∙ ap₂ (λ f w. settled p f w J) (same-fig p (chosen-mem c)) (same-wst p (chosen-mem c)) ∙ sym (answer-settled dev′ fig′ wst′ K ps (same-stops stop) l (same-chosen c))
+
+          many : K < J → answer dev fig wst ps K ≡ answer dev′ fig′ wst′ ps K
+          many l =
+              let c = choice-chosen fig ps K lo h in
+              let p = choice fig ps K in
+              let f = same-fig p (chosen-mem c) in
+              let w = same-wst p (chosen-mem c) in
+              let d = same-dev (getD ps K []) (getD-mem ps [] K (omega (arith, stop .all-at-most))) in
+              answer-open dev fig wst K ps l c ∙ (λ i. left-open p (f i) (w i) K (d i)) ∙ sym (answer-open dev′ fig′ wst′ K ps (rw (needed-is dev′ fig′ ps (same-stops stop)) l) (same-chosen c))

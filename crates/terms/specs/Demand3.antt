@@ -7,8 +7,8 @@ use mathlib.Core.Logic.{_⊎_}
 use mathlib.Core.List.{List, []}
 use lib.ListN.{length, getD, take}
 use Rattle.terms.specs.Lists.{_∈_}
-use Rattle.terms.specs.Network.{Graph, Net, column}
-use Rattle.terms.specs.Paths.{Route, Path}
+use Rattle.terms.specs.Network.{Graph, Net, column, common}
+use Rattle.terms.specs.Paths.{Route, OpenPath}
 use Rattle.terms.specs.Ranking.{before, ranked}
 use Rattle.terms.specs.Regret.{deviation, figure, worst}
 use Rattle.terms.specs.Robust.{Answer, settled, left-open, no-path, least-figure}
@@ -82,12 +82,13 @@ pub data Demand (c : Contest) (K : ℕ) : Answer → Type 0 where
   unsettled : {p : Route} {f w n b : ℕ} → Open c K p f w n b → Demand c K (left-open p f w n b)
 
 -- ---- of Robust
--- all loopless paths from s to t in the ranking order in r, with their deviations in r, their figures and their worst columns
+-- the loopless paths from s to t that are open in every column, in the ranking order in r, with their deviations in r, their figures and
+-- their worst columns
 abbrev pub contest : Net → ℕ → ℕ → ℕ → Contest
 contest net r s t = record {
-  admits = Path (column net r) s t;
+  admits = OpenPath net s t;
   graph = column net r;
-  ranking = ranked (net .nodes) (column net r) s t;
+  ranking = ranked (net .nodes) (column (common net) r) s t;
   dev = λ p. deviation net s t p r;
   fig = figure net s t;
   wst = worst net s t;

@@ -19,6 +19,11 @@ unfoldable pub keep {ℓ} : {A : Type ℓ} → (A → Bool) → List A → List 
 keep f [] = []
 keep f (x ∷ l) = cond (f x) (x ∷ keep f l) (keep f l)
 
+-- the elements whose place passes a test, in their order; the first has place i
+unfoldable pub pick {ℓ} : {A : Type ℓ} → (ℕ → Bool) → ℕ → List A → List A
+pick f i [] = []
+pick f i (x ∷ l) = cond (f i) (x ∷ pick f (suc i) l) (pick f (suc i) l)
+
 -- the least and the largest number of a list; 0 of the empty one
 unfoldable pub least : List ℕ → ℕ
 least [] = 0

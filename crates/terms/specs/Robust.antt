@@ -5,7 +5,7 @@ use mathlib.Core.List.{List, [], _∷_, map}
 use lib.Dec.{leb, eqb}
 use lib.ListN.{length, getD, take}
 use Rattle.terms.specs.Lists.{least, index, smallest}
-use Rattle.terms.specs.Network.{Net, column}
+use Rattle.terms.specs.Network.{Net, column, common}
 use Rattle.terms.specs.Paths.{Route, cost}
 use Rattle.terms.specs.Ranking.{ranked}
 use Rattle.terms.specs.Regret.{deviation, figure, worst, figure-over, worst-over}
@@ -47,12 +47,13 @@ answer dev fig wst (p ∷ ps) K =
     let unsettled = left-open at-K (fig at-K) (wst at-K) K (dev (getD (p ∷ ps) K [])) in
     cond (leb J K) closed unsettled
 
--- Robust in column r, from s to t, over at most K ranked paths
+-- Robust in column r, from s to t, over at most K ranked paths: the list has the paths that are open in every column, while best(u)
+-- is over all paths that are open in u
 unfoldable pub robust : Net → ℕ → ℕ → ℕ → ℕ → Answer
 robust net r s t K =
-    answer (λ p. deviation net s t p r) (figure net s t) (worst net s t) (ranked (net .nodes) (column net r) s t) K
+    answer (λ p. deviation net s t p r) (figure net s t) (worst net s t) (ranked (net .nodes) (column (common net) r) s t) K
 
--- the same against bests that are given: the deviation in r is what a path costs there beyond r's
+-- the same over all paths of a network, against bests that are given: the deviation in r is what a path costs there beyond r's
 unfoldable pub robust-over : Net → List ℕ → ℕ → ℕ → ℕ → ℕ → Answer
 robust-over net bs r s t K =
     answer (λ p. cost (column net r) p - getD bs (r - 1) 0) (figure-over net bs) (worst-over net bs) (ranked (net .nodes) (column net r) s t) K

@@ -10,7 +10,7 @@ const S_COLUMNS: [[u32; 5]; 2] = [[2, 5, 1, 6, 2], [4, 1, 2, 1, 7]];
 
 /// Network S (REFERENCE, section 8.1).
 fn network_s() -> Network {
-    Network::build(4, &S_ARCS, &S_COLUMNS).expect("network S")
+    Network::build(1, 4, &S_ARCS, &S_COLUMNS).expect("network S")
 }
 
 fn path(nodes: &[u32], cost: u32) -> Path {
@@ -46,8 +46,8 @@ fn network_s_is_the_image_of_84_bytes() {
     assert_eq!(s.image().len(), 84);
     assert_eq!(s.image(), example("S.image"));
     assert_eq!(Network::from_image(s.image()), Ok(s.clone()));
-    assert_eq!((s.nodes(), s.arcs()), (4, &S_ARCS[..]));
-    assert_eq!(s.columns(), S_COLUMNS);
+    assert_eq!((s.edition(), s.nodes(), s.arcs()), (1, 4, &S_ARCS[..]));
+    assert_eq!(s.columns(), S_COLUMNS.map(|column| column.map(Some)));
 }
 
 #[test]
@@ -135,10 +135,72 @@ fn refusals_of_s() {
     assert_eq!(s.regret(4, 1, &[4, 1]), Err(Refusal::NotAPath(1)));
 }
 
+/// S in edition 2, with the arc 3→4 closed in column 2.
+fn network_s_closed() -> Network {
+    let mut columns = S_COLUMNS.map(|column| column.map(Some));
+    columns[1][4] = None;
+    Network::build(2, 4, &S_ARCS, &columns).expect("an arc may be closed")
+}
+
+#[test]
+fn an_arc_is_closed_in_one_column() {
+    let s = network_s_closed();
+    assert_eq!((s.edition(), s.columns()[1][4]), (2, None));
+    assert_eq!(s.image()[80..], [255; 4]);
+    assert_eq!(Network::from_image(s.image()), Ok(s.clone()));
+    // In column 1 all is as it was.
+    assert_eq!(s.label(1, 4), network_s().label(1, 4));
+    assert_eq!(s.rank(1, 1, 4, 5), network_s().rank(1, 1, 4, 5));
+    assert_eq!(s.shortest(1, 3, 4), Ok(path(&[3, 4], 2)));
+    // In column 2 the arc is not there.
+    assert_eq!(s.label(2, 4), Ok(vec![Some(5), Some(1), None, Some(0)]));
+    assert_eq!(s.rank(2, 1, 4, 5), Ok(vec![path(&[1, 2, 4], 5)]));
+    assert_eq!(s.shortest(2, 3, 4), Err(Refusal::NoPath));
+    // A route must be open in both; the best of column 1 is still that of all paths there.
+    let regret = Regret {
+        figure: 3,
+        worst_column: 1,
+    };
+    assert_eq!(s.regret(1, 4, &[1, 2, 4]), Ok(regret));
+    assert_eq!(s.regret(1, 4, &[1, 3, 4]), Err(Refusal::NotAPath(2)));
+    assert_eq!(
+        s.robust(1, 1, 4, 5),
+        Ok(choice(&[1, 2, 4], 3, 1, 1, State::Settled))
+    );
+    assert_eq!(s.robust(1, 3, 4, 5), Err(Refusal::NoPath));
+}
+
+/// The mark as a number is no cost, not even in edition 2, and only edition 2 has closed arcs.
+#[test]
+fn only_edition_2_has_closed_arcs() {
+    let closed = [[Some(1)], [None]];
+    let one_arc = [(1, 2)];
+    assert_eq!(
+        Network::build(1, 2, &one_arc, &closed),
+        Err(Refusal::CostTooLarge(1))
+    );
+    for cost in [1_000_001, u32::MAX - 1, u32::MAX] {
+        for edition in [1, 2] {
+            assert_eq!(
+                Network::build(edition, 2, &one_arc, &[[0], [cost]]),
+                Err(Refusal::CostTooLarge(1))
+            );
+        }
+    }
+    for edition in [0, 3, 65_537, u32::MAX] {
+        assert_eq!(
+            Network::build(edition, 1, &one_arc, &closed),
+            Err(Refusal::WrongEdition)
+        );
+    }
+    let open = Network::build(2, 2, &one_arc, &[[1], [1_000_000]]).expect("no arc need be closed");
+    assert_eq!(open.edition(), 2);
+}
+
 #[test]
 fn a_ring_of_cost_0_is_not_gone_round() {
     let arcs = [(1, 3), (2, 3), (2, 4), (3, 2), (3, 4)];
-    let network = Network::build(4, &arcs, &[[0; 5]]).expect("a network");
+    let network = Network::build(1, 4, &arcs, &[[0; 5]]).expect("a network");
     assert_eq!(
         network.rank(1, 1, 4, 5),
         Ok(vec![path(&[1, 3, 2, 4], 0), path(&[1, 3, 4], 0)])
@@ -147,7 +209,7 @@ fn a_ring_of_cost_0_is_not_gone_round() {
 
 #[test]
 fn two_nodes_without_an_arc() {
-    let network = Network::build(2, &[], &[[]]).expect("a network");
+    let network = Network::build(1, 2, &[], &[[0; 0]]).expect("a network");
     assert_eq!(network.image().len(), 24);
     assert_eq!(network.columns(), [[]]);
     assert_eq!(network.robust(1, 1, 2, 1), Err(Refusal::NoPath));
@@ -157,7 +219,7 @@ fn two_nodes_without_an_arc() {
 #[test]
 fn two_hundred_nodes_in_a_line() {
     let arcs: Vec<(u32, u32)> = (1..200).map(|tail| (tail, tail + 1)).collect();
-    let network = Network::build(200, &arcs, &[vec![1_000_000; 199]]).expect("a network");
+    let network = Network::build(1, 200, &arcs, &[vec![1_000_000; 199]]).expect("a network");
     let line: Vec<u32> = (1..=200).collect();
     assert_eq!(network.shortest(1, 1, 200), Ok(path(&line, 199_000_000)));
     assert_eq!(
@@ -182,7 +244,7 @@ fn the_longest_image_is_accepted() {
     let mut arcs: Vec<(u32, u32)> = heads.collect();
     arcs.sort_unstable();
     let columns = vec![vec![1_000_000; 1_000]; 8];
-    let network = Network::build(200, &arcs, &columns).expect("a network");
+    let network = Network::build(1, 200, &arcs, &columns).expect("a network");
     assert_eq!(network.image().len(), 36_024);
     assert_eq!(
         network.rank(8, 1, 200, 256).map(|paths| paths.len()),
@@ -220,17 +282,17 @@ fn the_examples_of_the_refusal_table() {
     assert_eq!(refused(changed(2, 1)), (3, 0));
     assert_eq!(refused(changed(20, 1)), (4, 0));
     assert_eq!(refused(Network::from_image(one_more)), (5, 0));
-    assert_eq!(refused(Network::build(4, &[(0, 2)], &[[1]])), (6, 0));
+    assert_eq!(refused(Network::build(1, 4, &[(0, 2)], &[[1]])), (6, 0));
     assert_eq!(
-        refused(Network::build(4, &[(1, 2), (2, 2)], &[[1, 1]])),
+        refused(Network::build(1, 4, &[(1, 2), (2, 2)], &[[1, 1]])),
         (7, 1)
     );
     assert_eq!(
-        refused(Network::build(4, &[(1, 2), (1, 2)], &[[1, 1]])),
+        refused(Network::build(1, 4, &[(1, 2), (1, 2)], &[[1, 1]])),
         (8, 1)
     );
     assert_eq!(
-        refused(Network::build(4, &[(1, 2)], &[[1], [1_000_001]])),
+        refused(Network::build(1, 4, &[(1, 2)], &[[1], [1_000_001]])),
         (9, 1)
     );
     assert_eq!(s.shortest(1, 1, 1), Err(Refusal::WrongEnds));
@@ -250,14 +312,14 @@ fn the_lowest_number_that_applies_is_given() {
     assert_eq!(s.rank(1, 4, 1, 0), Err(Refusal::WrongPathCount));
     let short = calls::rank(s.image(), 1, 4, 1, 1, &mut [], &mut [], &mut []);
     assert_eq!(short.values(), Err(Refusal::SliceTooShort));
-    let falling = Network::build(4, &[(1, 2), (1, 2), (0, 2)], &[[1_000_001; 3]]);
+    let falling = Network::build(1, 4, &[(1, 2), (1, 2), (0, 2)], &[[1_000_001; 3]]);
     assert_eq!(falling, Err(Refusal::ArcNotRising(1)));
     let mut image = [0; 100];
-    let odd = calls::build(4, 1, &[1, 2, 3], &[1], &mut image);
+    let odd = calls::build(1, 4, 1, &[1, 2, 3], &[1], &mut image);
     assert_eq!(odd.values(), Err(Refusal::WrongField));
-    let odd_of_one_node = calls::build(1, 1, &[1, 2, 3], &[1], &mut image);
+    let odd_of_one_node = calls::build(1, 1, 1, &[1, 2, 3], &[1], &mut image);
     assert_eq!(odd_of_one_node.values(), Err(Refusal::SizeOutOfRange));
-    let short = calls::build(4, 1, &[1, 2], &[1_000_001], &mut []);
+    let short = calls::build(1, 4, 1, &[1, 2], &[1_000_001], &mut []);
     assert_eq!(short.values(), Err(Refusal::CostTooLarge(0)));
 }
 
@@ -269,40 +331,40 @@ fn what_does_not_fit_is_refused() {
     let many_arcs = vec![(1, 2); 65_536 + 1];
     let many_costs = vec![1; many_arcs.len()];
     assert_eq!(
-        Network::build(65_536 + 4, &S_ARCS, &S_COLUMNS),
+        Network::build(1, 65_536 + 4, &S_ARCS, &S_COLUMNS),
         Err(Refusal::SizeOutOfRange)
     );
     assert_eq!(
-        Network::build(u32::MAX, &S_ARCS, &S_COLUMNS),
+        Network::build(1, u32::MAX, &S_ARCS, &S_COLUMNS),
         Err(Refusal::SizeOutOfRange)
     );
     assert_eq!(
-        Network::build(4, &S_ARCS, &no_columns),
+        Network::build(1, 4, &S_ARCS, &no_columns),
         Err(Refusal::SizeOutOfRange)
     );
     assert_eq!(
-        Network::build(4, &S_ARCS, &[[1; 5]; 9]),
+        Network::build(1, 4, &S_ARCS, &[[1; 5]; 9]),
         Err(Refusal::SizeOutOfRange)
     );
     assert_eq!(
-        Network::build(4, &many_arcs, &[many_costs]),
+        Network::build(1, 4, &many_arcs, &[many_costs]),
         Err(Refusal::SizeOutOfRange)
     );
     let arcs = [(1, 2), (2, 65_536 + 3)];
     assert_eq!(
-        Network::build(4, &arcs, &[[1, 1]]),
+        Network::build(1, 4, &arcs, &[[1, 1]]),
         Err(Refusal::ArcOutOfRange(1))
     );
     let arcs = [(1, 2), (2, 3)];
     assert_eq!(
-        Network::build(4, &arcs, &[vec![1], vec![1, 1, 1]]),
+        Network::build(1, 4, &arcs, &[vec![1], vec![1, 1, 1]]),
         Err(Refusal::WrongField)
     );
     assert_eq!(
-        Network::build(4, &arcs, &[vec![1, 1], vec![1]]),
+        Network::build(1, 4, &arcs, &[vec![1, 1], vec![1]]),
         Err(Refusal::WrongField)
     );
-    assert_eq!(Network::build(4, &[], &[[1]]), Err(Refusal::WrongField));
+    assert_eq!(Network::build(1, 4, &[], &[[1]]), Err(Refusal::WrongField));
     assert_eq!(
         s.regret(1, 4, &[65_536 + 1, 3, 4]),
         Err(Refusal::NotAPath(0))
@@ -351,7 +413,10 @@ fn each_row_has_its_number_its_place_and_its_words() {
         refusal(14, 0).to_string(),
         "the node list is no path (at 0)"
     );
-    assert_eq!(refusal(9, 7).words(), "cost above 1,000,000");
+    assert_eq!(
+        refusal(9, 7).words(),
+        "cost above 1,000,000, or an arc closed in edition 1"
+    );
 }
 
 #[test]

@@ -43,7 +43,8 @@ impl Draw {
 }
 
 /// A network of 2 to 8 nodes and 1 to 8 columns. Some have few arcs, some nearly all; costs are
-/// often 0 or equal, so that rings of cost 0 and ties come up.
+/// often 0 or equal, so that rings of cost 0 and ties come up. In half of those of edition 2 some arcs
+/// are closed.
 pub fn network(draw: &mut Draw) -> Net {
     let n = draw.between(2, 8);
     let chance = if draw.once_in(10) {
@@ -61,10 +62,26 @@ pub fn network(draw: &mut Draw) -> Net {
     }
     let largest = draw.pick(&[0, 1, 1, 3, 10, 1_000, 1_000_000]);
     let k = draw.between(1, 8);
+    let edition = draw.between(1, 2);
+    let closed = if edition == 2 {
+        draw.pick(&[0, 0, 5, 30])
+    } else {
+        0
+    };
     let columns = (0..k)
-        .map(|_| arcs.iter().map(|_| cost(draw, largest)).collect())
+        .map(|_| arcs.iter().map(|_| price(draw, closed, largest)).collect())
         .collect();
-    Net { n, arcs, columns }
+    Net {
+        edition,
+        n,
+        arcs,
+        columns,
+    }
+}
+
+/// A cost, or in so many of 100 draws an arc that is closed.
+fn price(draw: &mut Draw, closed: u32, largest: u32) -> Option<u32> {
+    (draw.between(1, 100) > closed).then(|| cost(draw, largest))
 }
 
 /// A cost up to `largest`, often an end of that range.

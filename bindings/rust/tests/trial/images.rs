@@ -45,17 +45,18 @@ fn lists_that_are_no_network_are_refused_as_the_plain_check_says() {
         for _ in 0..draw.between(1, 2) {
             spoil(&mut net, n, &mut draw);
         }
-        let got = Network::build(net.n, &net.arcs, &net.columns);
+        let got = Network::build(net.edition, net.n, &net.arcs, &net.columns);
         let expected = plain::check_lists(&net).map(|()| net.clone());
         tally.hold("build", read_back(&got), expected, &net);
         if let Ok(network) = got {
             assert_eq!(network.image(), net.image());
-            let again = Network::build(network.nodes(), network.arcs(), network.columns());
+            let (edition, n) = (network.edition(), network.nodes());
+            let again = Network::build(edition, n, network.arcs(), network.columns());
             assert_eq!(again, Ok(network.clone()));
             hold_calls(&net, &network, &mut draw, &mut tally);
         }
     }
-    tally.report("lists", IMAGES, &kinds([3, 4, 6, 7, 8, 9]));
+    tally.report("lists", IMAGES, &kinds([2, 3, 4, 6, 7, 8, 9]));
 }
 
 /// The kinds of answers that a test must meet.
@@ -70,8 +71,12 @@ fn kinds(rows: impl IntoIterator<Item = u32>) -> Vec<String> {
 fn read_back(accepted: &Result<Network, Refusal>) -> Result<Net, Refusal> {
     let network = accepted.as_ref().map_err(|&refusal| refusal)?;
     let (arcs, columns) = (network.arcs().to_vec(), network.columns().to_vec());
-    let n = network.nodes();
-    Ok(Net { n, arcs, columns })
+    Ok(Net {
+        edition: network.edition(),
+        n: network.nodes(),
+        arcs,
+        columns,
+    })
 }
 
 /// Every call on a refused image gives its refusal and changes no slice, whatever else is given.
@@ -119,7 +124,8 @@ fn damage(net: &Net, image: &mut Vec<u8>, draw: &mut Draw) {
             let costs: Vec<usize> = (0..m * net.columns.len())
                 .map(|i| 24 + 4 * m + 4 * i)
                 .collect();
-            put(image, draw, &costs, 4, &[0, 1_000_000, 1_000_001, u32::MAX]);
+            let values = [0, 1_000_000, 1_000_001, u32::MAX - 1, u32::MAX];
+            put(image, draw, &costs, 4, &values);
         }
         _ if !image.is_empty() => {
             let at = draw.position(image.len());
@@ -150,9 +156,10 @@ fn put(image: &mut [u8], draw: &mut Draw, places: &[usize], width: usize, values
 /// Changes lists, which had n nodes at first, in one place.
 fn spoil(net: &mut Net, n: u32, draw: &mut Draw) {
     let (m, k) = (net.arcs.len(), net.columns.len());
-    match draw.between(1, 10) {
+    match draw.between(0, 10) {
+        0 => net.edition = draw.pick(&[0, 1, 2, 3, 65_537, u32::MAX]),
         1 => net.n = draw.pick(&[0, 1, 200, 201, 65_536 + n, u32::MAX]),
-        2 => net.columns.resize(draw.position(12), vec![0; m]),
+        2 => net.columns.resize(draw.position(12), vec![Some(0); m]),
         3 if m > 0 => net.arcs[draw.position(m)].0 = draw::node(n, draw),
         4 if m > 0 => net.arcs[draw.position(m)].1 = draw::node(n, draw),
         5 if m > 1 => net.arcs.swap(draw.position(m), draw.position(m)),
@@ -162,7 +169,7 @@ fn spoil(net: &mut Net, n: u32, draw: &mut Draw) {
         7 if k > 0 => move_cost(net, draw),
         8 => lengthen(net, draw.pick(&[1_000, 1_001, 65_536 + m])),
         9 if k > 0 => raise_cost(&mut net.columns[draw.position(k)], draw),
-        _ => net.columns.push(vec![0; m]),
+        _ => net.columns.push(vec![Some(0); m]),
     }
 }
 
@@ -174,10 +181,12 @@ fn move_cost(net: &mut Net, draw: &mut Draw) {
     }
 }
 
-/// Gives one arc of a column, if it has any, the largest cost or one above it.
-fn raise_cost(column: &mut [u32], draw: &mut Draw) {
+/// Gives one arc of a column, if it has any, the largest cost or one above it, or closes it.
+fn raise_cost(column: &mut [Option<u32>], draw: &mut Draw) {
     if !column.is_empty() {
-        column[draw.position(column.len())] = draw.pick(&[1_000_000, 1_000_001, u32::MAX]);
+        let costs = [1_000_000, 1_000_001, u32::MAX - 1, u32::MAX].map(Some);
+        let at = draw.position(column.len());
+        column[at] = draw.pick(&[costs[0], costs[1], costs[2], costs[3], None]);
     }
 }
 
@@ -190,6 +199,6 @@ fn lengthen(net: &mut Net, m: usize) {
         .take(m)
         .collect();
     for column in &mut net.columns {
-        column.resize(m, 0);
+        column.resize(m, Some(0));
     }
 }

@@ -126,12 +126,13 @@ impl Trial<'_> {
         (n, k, (k + 1) * (n + 16) + 16 * n + 64)
     }
 
-    /// The values that Check and Unpack give: n, m, k.
+    /// The values that Check and Unpack give: n, m, k, edition.
     fn check(&mut self) -> Vec<u32> {
         let values = vec![
             self.net.n,
             self.net.arcs.len() as u32,
             self.net.columns.len() as u32,
+            self.net.edition,
         ];
         assert_eq!(calls::check(&self.image), reply_of(Ok(values.clone())));
         self.calls += 1;
@@ -283,9 +284,16 @@ impl Trial<'_> {
     }
 
     fn build(&mut self, length: usize) {
-        let (n, k) = (self.net.n, self.net.columns.len() as u32);
+        let Net {
+            edition,
+            n,
+            columns,
+            ..
+        } = self.net;
+        let k = columns.len() as u32;
+        let (ends, costs) = (self.net.ends(), self.net.costs());
         let mut image = Lent::new(length);
-        let reply = calls::build(n, k, &self.net.ends(), &self.net.costs(), image.slice());
+        let reply = calls::build(*edition, *n, k, &ends, &costs, image.slice());
         let answer = unless_short(Ok(self.image.clone()), length < self.image.len());
         assert_eq!(
             reply,

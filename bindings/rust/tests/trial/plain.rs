@@ -1,15 +1,16 @@
 //! docs/REFERENCE.md in the plainest way, apart from the library: all loopless paths are found by
-//! depth-first search, and every answer is read off from all of them.
+//! depth-first search, and every answer is read off from those of them that are open.
 
 /// A refusal: its number and its place.
 pub type Refused = (u32, u32);
 
-/// Lists that may be a network.
+/// Lists that may be a network of an edition. A cost that is `None` closes its arc.
 #[derive(Clone, Debug, PartialEq)]
 pub struct Net {
+    pub edition: u32,
     pub n: u32,
     pub arcs: Vec<(u32, u32)>,
-    pub columns: Vec<Vec<u32>>,
+    pub columns: Vec<Vec<Option<u32>>>,
 }
 
 /// A path, with the indices of its arcs.
@@ -34,7 +35,7 @@ impl Net {
     pub fn image(&self) -> Vec<u8> {
         let (m, k) = (self.arcs.len() as u32, self.columns.len() as u32);
         let mut image = Vec::new();
-        for number in [1, self.n, m, k] {
+        for number in [self.edition, self.n, m, k] {
             image.extend((number as u16).to_le_bytes());
         }
         for number in [24, 24 + 4 * m, 24 + 4 * m + 4 * m * k, 0] {
@@ -57,14 +58,35 @@ impl Net {
             .collect()
     }
 
-    /// All columns in one list.
+    /// All columns in one list, with 4,294,967,295 for an arc that is closed.
     pub fn costs(&self) -> Vec<u32> {
-        self.columns.concat()
+        let costs = self.columns.iter().flatten();
+        costs.map(|cost| cost.unwrap_or(u32::MAX)).collect()
     }
 
-    fn cost(&self, column: u32, route: &Route) -> u32 {
+    /// The cost of a path in a column, `None` if an arc of it is closed there.
+    fn cost(&self, column: u32, route: &Route) -> Option<u32> {
         let costs = &self.columns[column as usize - 1];
         route.arcs.iter().map(|&arc| costs[arc]).sum()
+    }
+
+    /// The least cost in a column of those paths that are open in it.
+    fn least(&self, column: u32, routes: &[Route]) -> Option<u32> {
+        routes
+            .iter()
+            .filter_map(|route| self.cost(column, route))
+            .min()
+    }
+
+    /// Whether an arc is open in every column.
+    fn open(&self, arc: usize) -> bool {
+        self.columns.iter().all(|costs| costs[arc].is_some())
+    }
+
+    /// Whether there is an arc from one node to another that is open in every column.
+    fn joins(&self, tail: u32, head: u32) -> bool {
+        let arc = self.arcs.iter().position(|&arc| arc == (tail, head));
+        arc.is_some_and(|arc| self.open(arc))
     }
 
     /// All loopless paths between two nodes. From a node to itself that is the path of one node.
@@ -116,17 +138,12 @@ impl Net {
             return Err((10, 0));
         }
         self.check_column(column)?;
-        let least = |node| {
-            self.routes(node, goal)
-                .iter()
-                .map(|route| self.cost(column, route))
-                .min()
-        };
+        let least = |node| self.least(column, &self.routes(node, goal));
         Ok((1..=self.n).map(least).collect())
     }
 }
 
-/// A network, start and goal, with all paths between them.
+/// A network, start and goal, with all paths between them, open or not.
 pub struct Query<'a> {
     net: &'a Net,
     start: u32,
@@ -167,17 +184,22 @@ impl Query<'_> {
         }
     }
 
-    /// Rows 10, 11, 12 and 15, and then all paths in the ranking order.
-    fn ranked(&self, column: u32, k: u32) -> Result<Vec<&Route>, Refused> {
+    /// Rows 10, 11, 12 and 15, and then the paths that are open, in the ranking order.
+    fn ranked(
+        &self,
+        column: u32,
+        k: u32,
+        open: impl Fn(&Route) -> bool,
+    ) -> Result<Vec<&Route>, Refused> {
         self.check_ends()?;
         self.net.check_column(column)?;
         if !(1..=256).contains(&k) {
             return Err((12, 0));
         }
-        if self.routes.is_empty() {
+        let mut ranked: Vec<&Route> = self.routes.iter().filter(|route| open(route)).collect();
+        if ranked.is_empty() {
             return Err((15, 0));
         }
-        let mut ranked: Vec<&Route> = self.routes.iter().collect();
         ranked.sort_by_key(|route| (self.net.cost(column, route), &route.nodes));
         Ok(ranked)
     }
@@ -187,35 +209,30 @@ impl Query<'_> {
         Ok(self.rank(column, 1)?.remove(0))
     }
 
-    /// Rank: the first k paths with their costs.
+    /// Rank: the first k paths that are open in the column, with their costs.
     pub fn rank(&self, column: u32, k: u32) -> Result<Vec<(Vec<u32>, u32)>, Refused> {
-        let first = self.ranked(column, k)?.into_iter().take(k as usize);
+        let cost = |route: &Route| self.net.cost(column, route);
+        let ranked = self.ranked(column, k, |route| cost(route).is_some())?;
+        let first = ranked.into_iter().take(k as usize);
         Ok(first
-            .map(|route| (route.nodes.clone(), self.net.cost(column, route)))
+            .filter_map(|route| Some((route.nodes.clone(), cost(route)?)))
             .collect())
     }
 
-    /// For each column the least cost of all paths.
-    fn bests(&self) -> Vec<u32> {
+    /// For each column the least cost of all paths that are open in it.
+    fn bests(&self) -> Vec<Option<u32>> {
         let columns = 1..=self.net.columns.len() as u32;
-        let best = |column| {
-            self.routes
-                .iter()
-                .map(|route| self.net.cost(column, route))
-                .min()
-        };
         columns
-            .map(|column| best(column).expect("a path"))
+            .map(|column| self.net.least(column, &self.routes))
             .collect()
     }
 
-    /// A path's deviation in each column.
-    fn deviations(&self, bests: &[u32], route: &Route) -> Vec<u32> {
+    /// The deviation in each column of a path that is open in every one.
+    fn deviations(&self, bests: &[Option<u32>], route: &Route) -> Vec<u32> {
         let columns = 1..=self.net.columns.len() as u32;
-        columns
-            .zip(bests)
-            .map(|(column, best)| self.net.cost(column, route) - best)
-            .collect()
+        let deviation = |(column, &best)| Some(self.net.cost(column, route)? - best?);
+        let all: Option<Vec<u32>> = columns.zip(bests).map(deviation).collect();
+        all.expect("an open path")
     }
 
     /// Row 14: the place at which a node list is no path.
@@ -225,7 +242,7 @@ impl Query<'_> {
         }
         for position in 1..list.len() {
             let (before, node) = (list[position - 1], list[position]);
-            if list[..position].contains(&node) || !self.net.arcs.contains(&(before, node)) {
+            if list[..position].contains(&node) || !self.net.joins(before, node) {
                 return Some(position);
             }
         }
@@ -246,10 +263,12 @@ impl Query<'_> {
         Ok(greatest(&self.deviations(&self.bests(), route)))
     }
 
-    /// Robust: the stopping rule J over all paths, and the earliest of those counted that has the
-    /// least figure.
+    /// Robust: the stopping rule J over all paths that are open in every column, and the earliest of
+    /// those counted that has the least figure.
     pub fn robust(&self, column: u32, k: u32) -> Result<Chosen, Refused> {
-        let ranked = self.ranked(column, k)?;
+        let ranked = self.ranked(column, k, |route| {
+            route.arcs.iter().all(|&arc| self.net.open(arc))
+        })?;
         let bests = self.bests();
         let deviations: Vec<_> = ranked
             .iter()
@@ -295,9 +314,8 @@ pub fn check(image: &[u8]) -> Result<Net, Refused> {
     }
     let two = |at: usize| u32::from(u16::from_le_bytes([image[at], image[at + 1]]));
     let four = |at: usize| two(at) + (two(at + 2) << 16);
-    if two(0) != 1 {
-        return Err((2, 0));
-    }
+    let edition = two(0);
+    check_edition(edition)?;
     let (n, m, k) = (two(2), two(4), two(6));
     check_sizes(n, m as usize, k as usize)?;
     let total = 24 + 4 * m + 4 * m * k;
@@ -311,11 +329,19 @@ pub fn check(image: &[u8]) -> Result<Net, Refused> {
     let arcs: Vec<_> = (0..m)
         .map(|arc| (two(24 + 4 * arc), two(26 + 4 * arc)))
         .collect();
-    let cost = |column: usize, arc: usize| four(24 + 4 * m + 4 * m * column + 4 * arc);
+    let cost = |column: usize, arc: usize| {
+        let number = four(24 + 4 * m + 4 * m * column + 4 * arc);
+        (number != u32::MAX).then_some(number)
+    };
     let columns = (0..k)
         .map(|column| (0..m).map(|arc| cost(column, arc)).collect())
         .collect();
-    let net = Net { n, arcs, columns };
+    let net = Net {
+        edition,
+        n,
+        arcs,
+        columns,
+    };
     check_content(&net)?;
     Ok(net)
 }
@@ -323,11 +349,21 @@ pub fn check(image: &[u8]) -> Result<Net, Refused> {
 /// The rows of Build on lists.
 pub fn check_lists(net: &Net) -> Result<(), Refused> {
     let m = net.arcs.len();
+    check_edition(net.edition)?;
     check_sizes(net.n, m, net.columns.len())?;
     if net.columns.iter().any(|column| column.len() != m) {
         return Err((4, 0));
     }
     check_content(net)
+}
+
+/// Row 2.
+fn check_edition(edition: u32) -> Result<(), Refused> {
+    if edition == 1 || edition == 2 {
+        Ok(())
+    } else {
+        Err((2, 0))
+    }
 }
 
 /// Row 3.
@@ -355,7 +391,8 @@ fn check_content(net: &Net) -> Result<(), Refused> {
         }
         before = (tail, head);
     }
-    match net.costs().iter().position(|&cost| cost > 1_000_000) {
+    let forbidden = |cost: &Option<u32>| cost.map_or(net.edition == 1, |cost| cost > 1_000_000);
+    match net.columns.iter().flatten().position(forbidden) {
         Some(index) => Err((9, index as u32)),
         None => Ok(()),
     }

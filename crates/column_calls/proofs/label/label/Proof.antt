@@ -1,6 +1,5 @@
 -- `label::label` writes the labels where no row applies, and else nothing. Assumes nothing.
 use Prim.Native.Nat.{ℕ}
-use native.Mathlib.Omega.{arith}
 use mathlib.Core.Path.{_≡_, sym, _∙_, ap}
 use mathlib.Core.List.{_++_}
 use lib.ListN.{length, drop}
@@ -28,20 +27,20 @@ returns c = let t = c .before in
 abbrev start : tie.After-answer → tie.Start
 start c = c .before .before .before .before .before
 
-passes : (c : tie.After-answer) → (label-fault (start c .args .image .now) (start c .args .column) (start c .args .goal) (length (start c .args .labels .now)) ≡ sound) × Accepted (start c .args .image .now) (c .answer .given .0 .0 .n) (c .answer .given .0 .0 .m) (c .answer .given .0 .0 .k)
+passes : (c : tie.After-answer) → (label-fault (start c .args .image .now) (start c .args .column) (start c .args .goal) (length (start c .args .labels .now)) ≡ sound) × Accepted (start c .args .image .now) (c .answer .given .0 .0)
 passes c = given-sizes _ (λ e. label-sound _ _ _ _ e .accepted) (sym (ap checked (c .answer .given .1)) ∙ c .before .before .check-label .ensures)
 
 given : (c : tie.After-answer) → LabelSound (start c .args .image .now) (start c .args .column) (start c .args .goal) (length (start c .args .labels .now))
 given c = label-sound _ _ _ _ (passes c .0)
 
-known : (c : tie.After-answer) → Accepted (start c .args .image .now) (c .answer .given .0 .0 .n) (c .answer .given .0 .0 .m) (c .answer .given .0 .0 .k)
+known : (c : tie.After-answer) → Accepted (start c .args .image .now) (c .answer .given .0 .0)
 known c = passes c .1
 
 write-labels-requires : tie.Need-write-labels-requires
 write-labels-requires c κs = let a = c .before .before in
     let g = given a in
     let k = known a in
-    (record { passes = k .passes; arcs-are = k .arcs-are; from = g .from; upto = g .upto }, ((k .nodes-are, omega (arith, k .nodes-are, g .room-for)), g .goal))
+    ((k, record { from = g .from; upto = g .upto }, g .goal), g .room-for)
 
 returns-2 : tie.Need-returns-2
 unfolding label-outcome labels-of
@@ -49,7 +48,7 @@ returns-2 c = let w = c .before .before in
     let a = w .before .before .before in
     let e = passes a .0 in
     let s = a .before .before .before .before .before .args in
-    (sym (outcome-sound _ e), w .write-labels .ensures ∙ ap (λ (n : ℕ). labels-of (s .image .now) (s .column) (s .goal) ++ drop n (s .labels .now)) (known a .nodes-are ∙ sym (length-labels _ _ _)) ∙ sym (after-sound _ _ e))
+    (sym (outcome-sound _ e), w .write-labels .ensures ∙ ap (λ (n : ℕ). labels-of (s .image .now) (s .column) (s .goal) ++ drop n (s .labels .now)) (sym (length-labels _ _ _)) ∙ sym (after-sound _ _ e))
 
 pub label-spec : {M : Type 1} → statement M
 label-spec =

@@ -6,7 +6,7 @@ use mathlib.Core.List.{List, _++_}
 use lib.ListN.{length, drop}
 use borrow.Author.Needs.{needs}
 use Rattle.image.specs.Layout.{netOf}
-use Rattle.image.proofs.NetworkLaws.{accepted-network}
+use Rattle.loading.proofs.DecodeLaws.{admitted}
 use Rattle.loading.proofs.LoadLaws.{loaded-least}
 use Rattle.outcomes.specs.Calls.{labels-of}
 use Rattle.outcomes.proofs.LabelLaws.{narrow-at, labels-are}
@@ -24,9 +24,9 @@ write-narrow-requires : tie.Need-write-narrow-requires
 write-narrow-requires c κs =
     let l = loaded c in
     let p = start l .pre in
-    let i = p .0 .0 in
-    let L = l .load .ensures in
-    (omega (arith, L .labels-long, p .1 .1), narrow-at (accepted-network _ (i .passes)) (i .from) (i .upto) (L .labels-long) (loaded-least L))
+    let i = p .0 .1 in
+    let L = l .load .ensures .1 in
+    (omega (arith, L .labels-long, p .1 .1), narrow-at (admitted (p .0 .0)) (i .from) (i .upto) (L .labels-long) (loaded-least L))
 
 returns : tie.Need-returns
 unfolding labels-of
@@ -34,10 +34,11 @@ returns c =
     let w = c .before .before in
     let l = loaded (w .before) in
     let a = start l .args in
-    let i = start l .pre .0 .0 in
-    let L = l .load .ensures in
+    let p = start l .pre in
+    let i = p .0 .1 in
+    let L = l .load .ensures .1 in
     let count : length (l .load .last .1 .1 .1 .1 .1 .1 .0) - 1 ≡ netOf (a .image .now) .nodes = omega (arith, L .labels-long) in
-    w .write-narrow .ensures ∙ ap₂ (λ (new : List ℕ) (n : ℕ). new ++ drop n (a .labels .now)) (labels-are (accepted-network _ (i .passes)) (i .from) (i .upto) (L .labels-long) (loaded-least L)) count
+    w .write-narrow .ensures ∙ ap₂ (λ (new : List ℕ) (n : ℕ). new ++ drop n (a .labels .now)) (labels-are (admitted (p .0 .0)) (i .from) (i .upto) (L .labels-long) (loaded-least L)) count
 
 pub write-labels-in-spec : {M : Type 1} → statement M
 write-labels-in-spec =

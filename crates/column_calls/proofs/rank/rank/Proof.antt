@@ -29,7 +29,7 @@ returns c = let t = c .before in
 abbrev start : tie.After-answer → tie.Start
 start c = c .before .before .before .before .before .before .before
 
-passes : (c : tie.After-answer) → (rank-rows (start c .args .image .now) (start c .args .column) (start c .args .start) (start c .args .goal) (start c .args .wanted) (length (start c .args .rows .now)) (length (start c .args .costs .now)) (length (start c .args .work .now)) ≡ sound) × Accepted (start c .args .image .now) (c .answer .given .0 .0 .n) (c .answer .given .0 .0 .m) (c .answer .given .0 .0 .k)
+passes : (c : tie.After-answer) → (rank-rows (start c .args .image .now) (start c .args .column) (start c .args .start) (start c .args .goal) (start c .args .wanted) (length (start c .args .rows .now)) (length (start c .args .costs .now)) (length (start c .args .work .now)) ≡ sound) × Accepted (start c .args .image .now) (c .answer .given .0 .0)
 passes c = let s = start c .args in
     given-sizes _ (λ e. rank-sound (s .image .now) (s .column) (s .start) (s .goal) (s .wanted) (s .rows .now) (s .costs .now) (s .work .now) e .accepted) (sym (ap checked (c .answer .given .1)) ∙ c .before .before .check-rank .ensures)
 
@@ -38,7 +38,7 @@ write-ranked-requires c κs = let a = c .before .before .before .before in
     let s = start a .args in
     let p = passes a in
     let g = rank-sound (s .image .now) (s .column) (s .start) (s .goal) (s .wanted) (s .rows .now) (s .costs .now) (s .work .now) (p .0) in
-    ((record { passes = p .1 .passes; arcs-are = p .1 .arcs-are; from = g .from; upto = g .upto }, g .ends), (p .1 .nodes-are, rank-slices (s .image .now) (s .column) (s .start) (s .goal) (s .wanted) (s .rows .now) (s .costs .now) (s .work .now) (p .0)))
+    ((p .1, record { from = g .from; upto = g .upto }, g .ends), rank-slices (s .image .now) (s .column) (s .start) (s .goal) (s .wanted) (s .rows .now) (s .costs .now) (s .work .now) (p .0))
 
 returns-2 : tie.Need-returns-2
 unfolding rank-outcome rank-fault

@@ -11,21 +11,17 @@ use Rattle.outcomes.proofs.CostLaws.{bound-row-sound}
 use Rattle.loading.proofs.DecodeLaws.{few-nodes}
 use Rattle.column_calls.proofs.RankLaws.{none-listed, some-listed, few-listed, no-rows, no-costs, work-unused, work-emptied}
 use Rattle.outcomes.proofs.WorkLaws.{cleared-is, cleared-not}
-use Rattle.outcomes.proofs.RowLaws.{never}
+use Rattle.outcomes.proofs.RowLaws.{never, node-bounds}
 use borrow.Author.Needs.{needs}
 use Rattle.column_calls.proofs.rank.write_ranked.Statement.{statement}
 use Rattle.column_calls.proofs.rank.write_ranked.Tie as tie
 
--- the image has few nodes
-bounded : (s : tie.Start) → (1 ≤ s .args .sizes .n) × (s .args .sizes .n ≤ 200)
-bounded s = (omega (arith, s .pre .0 .1 .start-in, s .pre .1 .0), omega (arith, few-nodes (s .pre .0 .0), s .pre .1 .0))
-
 check-costs-requires : tie.Need-check-costs-requires
-check-costs-requires c κs = bounded (c .before .before .before .before)
+check-costs-requires c κs = node-bounds (c .before .before .before .before .pre .0 .0)
 
 returns : tie.Need-returns
 returns c = let k = c .before .before .before in
-    never (sym (ap checked (c .before .enum-told2 .given .1)) ∙ k .check-costs .ensures ∙ outcome-sound _ (bound-row-sound (bounded (k .before .before .before .before .before) .1)))
+    never (sym (ap checked (c .before .enum-told2 .given .1)) ∙ k .check-costs .ensures ∙ outcome-sound _ (bound-row-sound (few-nodes (k .before .before .before .before .before .pre .0 .0))))
 
 abbrev start : tie.After-list → tie.Start
 start c = c .before .before .before .before .before .before .before .before .before .before .before
@@ -34,7 +30,7 @@ returns-2 : tie.Need-returns-2
 returns-2 c = let l = c .before .before .before .before .before .before .before in
     let s = start l .args in
     let p = start l .pre in
-    let z = none-listed (s .image .now) (s .column) (s .start) (s .goal) (s .wanted) (p .0 .0) (p .0 .1) (p .1 .1 .wanted-from) (sym (l .list .ensures .0) ∙ c .if1 .taken) in (
+    let z = none-listed (s .image .now) (s .column) (s .start) (s .goal) (s .wanted) (p .0 .0 .passes) (p .0 .1) (p .0 .2) (p .1 .wanted-from) (sym (l .list .ensures .0) ∙ c .if1 .taken) in (
       sym (outcome-fault _ (z .0)),
       (
         l .list .ensures .1 .0 ∙ no-rows (s .image .now) (s .column) (s .start) (s .goal) (s .wanted) (z .1) _ ∙ sym (after-fault _ _ (z .0)),
@@ -48,14 +44,14 @@ returns-2 c = let l = c .before .before .before .before .before .before .before 
 cast-t21 : tie.Need-cast-t21
 cast-t21 c = let l = c .before .before .before .before .before .before .before in
     let s = start l .args in
-    omega (arith, l .list .ensures .0, few-listed (s .image .now) (s .column) (s .start) (s .goal) (s .wanted), start l .pre .1 .1 .wanted-to)
+    omega (arith, l .list .ensures .0, few-listed (s .image .now) (s .column) (s .start) (s .goal) (s .wanted), start l .pre .1 .wanted-to)
 
 returns-3 : tie.Need-returns-3
 returns-3 c = let l = c .before .before .before .before .before .before .before in
     let s = start l .args in
     let p = start l .pre in
     let one : 1 ≤ l .list .result = omega (arith, c .if1 .left) in
-    let e = some-listed (s .image .now) (s .column) (s .start) (s .goal) (s .wanted) (p .0 .0) (p .0 .1) (omega (arith, l .list .ensures .0)) in (
+    let e = some-listed (s .image .now) (s .column) (s .start) (s .goal) (s .wanted) (p .0 .0 .passes) (p .0 .1) (p .0 .2) (omega (arith, l .list .ensures .0)) in (
       ap (λ (x : ℕ). gives (x ∷ [])) (l .list .ensures .0) ∙ sym (outcome-sound _ e),
       (
         l .list .ensures .1 .0 ∙ ap (λ f. after f (rank-rows-of (s .image .now) (s .column) (s .start) (s .goal) (s .wanted)) (s .rows .now)) (sym e),

@@ -25,7 +25,7 @@ returns c = let t = c .before in
 abbrev start : tie.After-answer → tie.Start
 start c = c .before .before .before .before .before
 
-passes : (c : tie.After-answer) → (shortest-rows (start c .args .image .now) (start c .args .column) (start c .args .start) (start c .args .goal) (length (start c .args .path .now)) ≡ sound) × Accepted (start c .args .image .now) (c .answer .given .0 .0 .n) (c .answer .given .0 .0 .m) (c .answer .given .0 .0 .k)
+passes : (c : tie.After-answer) → (shortest-rows (start c .args .image .now) (start c .args .column) (start c .args .start) (start c .args .goal) (length (start c .args .path .now)) ≡ sound) × Accepted (start c .args .image .now) (c .answer .given .0 .0)
 passes c =
     given-sizes _ (λ e. shortest-sound _ _ _ _ _ e .search .accepted) (sym (ap checked (c .answer .given .1)) ∙ c .before .before .check-shortest .ensures)
 
@@ -36,7 +36,7 @@ write-shortest-requires : tie.Need-write-shortest-requires
 write-shortest-requires c κs = let a = c .before .before in
     let g = given a in
     let k = passes a .1 in
-    ((record { passes = k .passes; arcs-are = k .arcs-are; from = g .search .from; upto = g .search .upto }, g .search .ends), (k .nodes-are, g .room-for))
+    ((k, record { from = g .search .from; upto = g .search .upto }, g .search .ends), g .room-for)
 
 returns-2 : tie.Need-returns-2
 unfolding shortest-outcome shortest-fault

@@ -1,6 +1,5 @@
 -- `shortest::write_shortest` meets its contract. Assumes nothing.
 use Prim.Native.Nat.{_≤_}
-use native.Mathlib.Omega.{arith}
 use mathlib.Core.Path.{sym, _∙_}
 use Rattle.loading.proofs.DecodeLaws.{few-nodes}
 use Rattle.terms.proofs.RoomLaws.{part-long}
@@ -9,7 +8,7 @@ use Rattle.column_calls.proofs.shortest.write_shortest.Statement.{state
 use Rattle.column_calls.proofs.shortest.write_shortest.Tie as tie
 
 fits : (c : tie.After-struct-known) → c .before .before .before .args .sizes .n ≤ 200
-fits c = let p = c .before .before .before .pre in omega (arith, p .1 .0, few-nodes (p .0 .0))
+fits c = few-nodes (c .before .before .before .pre .0 .0)
 
 array-borrow-prefix-route : tie.Need-array-borrow-prefix-route
 array-borrow-prefix-route c = fits c
@@ -20,7 +19,7 @@ slice-aggregate-write-first c = sym (part-long 200 _ (fits (c .before)))
 write-first-requires : tie.Need-write-first-requires
 write-first-requires c κs = let s = c .before .before in
     let p = s .before .before .before .pre in
-    (p .0, (p .1 .0, part-long 200 _ (fits s) ∙ p .1 .0, p .1 .1))
+    (p .0, (part-long 200 _ (fits s) ∙ p .0 .0 .nodes-are, p .1))
 
 pub write-shortest-spec : {M : Type 1} → statement M
 write-shortest-spec =

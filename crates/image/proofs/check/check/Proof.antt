@@ -1,43 +1,12 @@
--- `image::checking::check` meets its contract. Assumes nothing.
-use Rattle.image.proofs.CheckLaws.{Sized, sized, bounds, body-decides}
-use mathlib.Core.Path.{_≡_, sym, _∙_, ap}
-use Rattle.image.specs.Answers.{checked}
-use Rattle.image.specs.Outcome.{sound}
-use Rattle.image.specs.Calls.{header-fault, sizes, image-fault, check-outcome}
-use Rattle.image.proofs.OutcomeLaws.{then-fault, outcome-fault, gives-sound, refuses-fault}
+-- `image::check::check` meets its contract. Assumes nothing.
 use borrow.Author.Needs.{needs}
+use Rattle.image.specs.Calls.{image-fault, check-outcome}
 use Rattle.image.proofs.check.check.Statement.{statement}
 use Rattle.image.proofs.check.check.Tie as tie
 
 returns : tie.Need-returns
 unfolding check-outcome image-fault
-returns c = let h = c .before .before in
-    let b = h .before .before .args .image .now in
-    let told = ap checked (c .enum-told .given .1) in
-    told ∙ sym (outcome-fault _ (then-fault _ (refuses-fault (header-fault b) (sizes b) (sym told ∙ h .check-header .ensures))))
-
--- where the header gives sizes, it is sound and they are the image's
-known : (c : tie.After-header) → (header-fault (c .before .before .before .before .args .image .now) ≡ sound) × Sized (c .before .before .before .before .args .image .now) (c .header .given .0 .0 .n) (c .header .given .0 .0 .m) (c .header .given .0 .0 .k)
-known c =
-    let h = c .before .before in
-    let b = h .before .before .args .image .now in
-    let g = gives-sound (header-fault b) (sizes b) (sym (ap checked (c .header .given .1)) ∙ h .check-header .ensures) in
-    (g .0, sized b (g .1))
-
-check-body-requires : tie.Need-check-body-requires
-check-body-requires c κs = let k = known (c .before) in bounds _ _ _ _ (k .0) (k .1)
-
-returns-2 : tie.Need-returns-2
-returns-2 c = let k = known (c .before .before) in
-    c .check-body .ensures ∙ body-decides _ _ _ _ (k .0) (k .1)
+returns c = c .check-taken .ensures
 
 pub check-spec : {M : Type 1} → statement M
-check-spec =
-    tie.close
-    (tie.spec
-    (λ c κs. search needs)
-    (λ c. search needs)
-    (λ c. search needs)
-    returns
-    check-body-requires
-    returns-2)
+check-spec = tie.close (tie.spec (λ c κs. search needs) returns)

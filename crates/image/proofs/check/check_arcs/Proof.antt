@@ -1,4 +1,4 @@
--- `image::checking::check_arcs` meets its contract. Assumes nothing.
+-- `image::check::check_arcs` meets its contract. Assumes nothing.
 use borrow.Author.Needs.{needs}
 use mathlib.Core.Path.{ap₂, _≡_, refl, sym, _∙_, ap}
 use Rattle.image.specs.Refusals.{verdict}

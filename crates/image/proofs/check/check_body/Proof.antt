@@ -1,4 +1,4 @@
--- `image::checking::check_body` meets its contract. Assumes nothing.
+-- `image::check::check_body` meets its contract. Assumes nothing.
 use Rattle.image.specs.Outcome.{sound}
 use Prim.Native.Nat.{ℕ, _*_}
 use native.Mathlib.Omega.{arith}
@@ -17,34 +17,34 @@ use Rattle.image.proofs.check.check_body.Statement.{statement}
 use Rattle.image.proofs.check.check_body.Tie as tie
 
 sub-check-arcs : tie.Need-sub-check-arcs
-sub-check-arcs c = omega (arith, total-is (c .before .args .m) (c .before .args .k), costs-start-is (c .before .args .m))
+sub-check-arcs c = omega (arith, total-is (c .before .args .sizes .m) (c .before .args .sizes .k), costs-start-is (c .before .args .sizes .m))
 
 part-check-arcs-start : tie.Need-part-check-arcs-start
-part-check-arcs-start c = omega (arith, total-is (c .before .args .m) (c .before .args .k), costs-start-is (c .before .args .m))
+part-check-arcs-start c = omega (arith, total-is (c .before .args .sizes .m) (c .before .args .sizes .k), costs-start-is (c .before .args .sizes .m))
 
 check-arcs-requires : tie.Need-check-arcs-requires
 check-arcs-requires c κs = let a = c .before .before .args in
-    (rw to-end (omega (arith, length-drop 24 (a .image .now), total-is (a .m) (a .k), costs-start-is (a .m))), c .before .before .pre .0)
+    (rw to-end (omega (arith, length-drop 24 (a .image .now), total-is (a .sizes .m) (a .sizes .k), costs-start-is (a .sizes .m))), c .before .before .pre .0)
 
 -- what the two checks say, of the image's own lists
-arcs-is : (c : tie.After-check-arcs) → verdict (c .check-arcs .result) ≡ arcs-fault (c .before .before .before .args .n) (0, 0) 0 (pairs (c .before .before .before .args .m) (nodes-in (c .before .before .before .args .m) (c .before .before .before .args .image .now)))
+arcs-is : (c : tie.After-check-arcs) → verdict (c .check-arcs .result) ≡ arcs-fault (c .before .before .before .args .sizes .n) (0, 0) 0 (pairs (c .before .before .before .args .sizes .m) (nodes-in (c .before .before .before .args .sizes .m) (c .before .before .before .args .image .now)))
 unfolding nodes-in
 arcs-is c =
     let a = c .before .before .before .args in
-    c .check-arcs .ensures ∙ ap (λ (l : List ℕ). arcs-fault (a .n) (0, 0) 0 (pairs (a .m) (decode 2 (2 * a .m) l))) (to-end (a .image .now) 24)
+    c .check-arcs .ensures ∙ ap (λ (l : List ℕ). arcs-fault (a .sizes .n) (0, 0) 0 (pairs (a .sizes .m) (decode 2 (2 * a .sizes .m) l))) (to-end (a .image .now) 24)
 
-arcs-sound : (c : tie.After-enum-told) → arcs-fault (c .before .before .before .before .before .args .n) (0, 0) 0 (pairs (c .before .before .before .before .before .args .m) (nodes-in (c .before .before .before .before .before .args .m) (c .before .before .before .before .before .args .image .now))) ≡ sound
+arcs-sound : (c : tie.After-enum-told) → arcs-fault (c .before .before .before .before .before .args .sizes .n) (0, 0) 0 (pairs (c .before .before .before .before .before .args .sizes .m) (nodes-in (c .before .before .before .before .before .args .sizes .m) (c .before .before .before .before .before .args .image .now))) ≡ sound
 arcs-sound c = sym (arcs-is (c .before .before)) ∙ ap verdict (c .enum-told .given .1)
 
 abbrev start : tie.After-check-costs → tie.Start
 start c = c .before .before .before .before .before .before .before .before .before
 
-costs-are : (c : tie.After-check-costs) → verdict (c .check-costs .result) ≡ costs-fault 0 (costs-in (start c .args .m) (start c .args .k) (start c .args .image .now))
+costs-are : (c : tie.After-check-costs) → verdict (c .check-costs .result) ≡ costs-fault (start c .args .sizes .edition) 0 (costs-in (start c .args .sizes .m) (start c .args .sizes .k) (start c .args .image .now))
 unfolding costs-in
 costs-are c =
     let a = start c .args in
     let s = c .before .before .before in
-    c .check-costs .ensures ∙ ap (λ (l : List ℕ). costs-fault 0 (decode 4 (c .before .cost-count .result) l)) (to-end (a .image .now) (s .costs-start .result)) ∙ ap₂ (λ (n i : ℕ). costs-fault 0 (decode 4 n (drop i (a .image .now)))) (c .before .cost-count .ensures .0) (s .costs-start .ensures)
+    c .check-costs .ensures ∙ ap (λ (l : List ℕ). costs-fault (a .sizes .edition) 0 (decode 4 (c .before .cost-count .result) l)) (to-end (a .image .now) (s .costs-start .result)) ∙ ap₂ (λ (n i : ℕ). costs-fault (a .sizes .edition) 0 (decode 4 n (drop i (a .image .now)))) (c .before .cost-count .ensures .0) (s .costs-start .ensures)
 
 returns : tie.Need-returns
 unfolding lists-fault
@@ -52,16 +52,16 @@ returns c = sym (outcome-fault _ (then-fault _ (sym (arcs-is (c .before .before 
 
 sub-check-costs : tie.Need-sub-check-costs
 sub-check-costs c = let a = c .before .before .before .before .before .before .args in
-    omega (arith, total-is (a .m) (a .k), c .costs-start .ensures)
+    omega (arith, total-is (a .sizes .m) (a .sizes .k), c .costs-start .ensures)
 
 part-check-costs-start : tie.Need-part-check-costs-start
 part-check-costs-start c = let a = c .before .before .before .before .before .before .args in
-    omega (arith, total-is (a .m) (a .k), c .costs-start .ensures)
+    omega (arith, total-is (a .sizes .m) (a .sizes .k), c .costs-start .ensures)
 
 check-costs-requires : tie.Need-check-costs-requires
 check-costs-requires c κs = let s = c .before .before in
     let a = s .before .before .before .before .before .before .args in
-    (rw to-end (omega (arith, length-drop (s .costs-start .result) (a .image .now), total-is (a .m) (a .k), s .costs-start .ensures, c .cost-count .ensures .0)), c .cost-count .ensures .1)
+    (rw to-end (omega (arith, length-drop (s .costs-start .result) (a .image .now), total-is (a .sizes .m) (a .sizes .k), s .costs-start .ensures, c .cost-count .ensures .0)), c .cost-count .ensures .1)
 
 returns-2 : tie.Need-returns-2
 unfolding lists-fault
@@ -79,6 +79,7 @@ check-body-spec =
     (tie.spec
     sub-check-arcs
     part-check-arcs-start
+    (λ c. search needs)
     (λ c. search needs)
     check-arcs-requires
     (λ c. search needs)

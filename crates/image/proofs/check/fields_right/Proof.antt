@@ -1,4 +1,4 @@
--- `image::checking::fields_right` meets its contract. Assumes nothing.
+-- `image::check::fields_right` meets its contract. Assumes nothing.
 use lib.Dec.{eqb}
 use Rattle.image.specs.Bytes.{field}
 use Prim.Native.Nat.{ℕ}

@@ -1,32 +1,25 @@
 -- `filling::fill_star` lends parts of local arrays: as many places as there are arcs, or nodes and one or two more. Assumes nothing.
-use Prim.Native.Nat.{ℕ, _+_, _-_, _*_, _/_, _≤_}
+use Prim.Native.Nat.{ℕ, _+_, _≤_}
 use native.Mathlib.Omega.{arith}
 use mathlib.Core.Path.{_≡_, sym, _∙_}
 use lib.ListN.{length}
-use borrow.Author.Needs.{needs}
 use Rattle.terms.proofs.RoomLaws.{part-long}
-use Rattle.image.specs.Layout.{netOf}
+use Rattle.loading.proofs.SelectLaws.{indices-few}
 use Rattle.loading.proofs.DecodeLaws.{few-arcs, few-nodes}
+use borrow.Author.Needs.{needs}
 use Rattle.loading.proofs.filling.fill_star.Statement.{statement}
 use Rattle.loading.proofs.filling.fill_star.Tie as tie
 
-abbrev entry : tie.After-slice-known → tie.Start
-entry c = c .before .before
+abbrev entry : tie.After-struct-known → tie.Start
+entry c = c .before .before .before .before
 
-arcs-fit : (c : tie.After-slice-known) → entry c .args .m ≤ 1000
-arcs-fit c = few-arcs (entry c .pre .0)
+arcs-fit : (c : tie.After-struct-known) → length (entry c .args .kept .now) ≤ 1000
+arcs-fit c = let p = entry c .pre .0 in omega (arith, indices-few (p .1), few-arcs (p .0))
 
--- half of what is left beside the arcs
-abbrev places : tie.After-slice-known → ℕ
-places c = (length (entry c .args .star .now) - 3 * entry c .args .m) / 2
+places-fit : (c : tie.After-struct-known) → entry c .args .sizes .n + 1 ≤ 201
+places-fit c = omega (arith, few-nodes (entry c .pre .0 .0))
 
-places-are : (c : tie.After-slice-known) → places c ≡ netOf (entry c .args .image .now) .nodes + 1
-places-are c = omega (arith, entry c .pre .1)
-
-places-fit : (c : tie.After-slice-known) → places c ≤ 201
-places-fit c = omega (arith, places-are c, few-nodes (entry c .pre .0))
-
-starts-fit : (c : tie.After-slice-known) → places c + 1 ≤ 202
+starts-fit : (c : tie.After-struct-known) → entry c .args .sizes .n + 1 + 1 ≤ 202
 starts-fit c = omega (arith, places-fit c)
 
 array-borrow-prefix-tails : tie.Need-array-borrow-prefix-tails
@@ -60,11 +53,9 @@ slice-aggregate-fill-star-in-5 : tie.Need-slice-aggregate-fill-star-in-5
 slice-aggregate-fill-star-in-5 c = sym (part-long 201 _ (places-fit (c .before .before .before .before .before)))
 
 fill-star-in-requires : tie.Need-fill-star-in-requires
-fill-star-in-requires c κs =
-    let e = c .before .before .before .before .before .before in
+fill-star-in-requires c κs = let e = c .before .before .before .before .before .before in
     let m = part-long 1000 _ (arcs-fit e) in
-    let k = places-are e in
-    (entry e .pre, record { tails-long = m; heads-long = m; nexts-long = m; outs-long = part-long 202 _ (starts-fit e) ∙ omega (arith, k); ins-long = part-long 201 _ (places-fit e) ∙ k })
+    (entry e .pre .0, (entry e .pre .1, record { tails-long = m; heads-long = m; nexts-long = m; outs-long = part-long 202 _ (starts-fit e) ∙ omega arith; ins-long = part-long 201 _ (places-fit e) }))
 
 pub fill-star-spec : {M : Type 1} → statement M
 fill-star-spec =

@@ -64,7 +64,7 @@ returns c = let l = c .before in
     let a = begin l .args in
     let i = l .loop .inv in
     let done : length (a .bests .now) + 1 ≤ l .loop .u = omega (arith, c .loop-test .left) in
-    filled-all (best-of l) (i .2) (λ j b. i .3 j (omega (arith, done))) ∙ sym (held-bests (a .n) (a .m) (length (a .bests .now)) (a .star .now) (a .costs .now) (a .start) (a .goal))
+    filled-all (best-of l) (i .2) (λ j b. i .3 j (omega (arith, done))) ∙ sym (held-bests (begin l .pre .0))
 
 pub column-bests-spec : {M : Type 1} → statement M
 column-bests-spec =

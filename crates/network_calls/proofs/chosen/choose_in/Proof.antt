@@ -1,78 +1,78 @@
--- `chosen::choose_in`: a start whose label is the mark has no path; else the column that is loaded is searched. Assumes nothing.
-use mathlib.Core.Path.{_≡_, sym, _∙_, ap}
-use borrow.Author.Needs.{needs}
-use Rattle.terms.specs.Network.{column}
-use Rattle.image.specs.Outcome.{sound}
+-- `chosen::choose_in`: the arcs that are open in every column take the beginning of the slices. Assumes nothing.
+use Prim.Native.Nat.{ℕ, _+_, _*_, _≤_}
+use native.Mathlib.Omega.{arith}
+use native.Mathlib.Nat.{mul-le-mul, mul-le-mul-right}
+use mathlib.Core.Path.{_≡_, sym, _∙_, ap, subst₂}
+use lib.ListN.{length, take}
+use lib.Seq.{length-take-le}
 use Rattle.image.specs.Layout.{netOf}
-use Rattle.image.proofs.OutcomeLaws.{outcome-fault, after-fault}
-use Rattle.outcomes.specs.Calls.{no-path-row, cleared}
-use Rattle.outcomes.proofs.WorkLaws.{cleared-is, cleared-not}
-use Rattle.network_calls.proofs.ChoiceLaws.{reached-row, unreached-row, values-in, path-in}
+use Rattle.loading.specs.Loaded.{star-size, Shared}
+use Rattle.loading.proofs.DecodeLaws.{few-arcs, few-columns}
+use borrow.Author.Needs.{needs}
 use Rattle.network_calls.proofs.chosen.choose_in.Statement.{statement}
 use Rattle.network_calls.proofs.chosen.choose_in.Tie as tie
 
-abbrev start : tie.After-load → tie.Start
-start c = c .before .before .before .before .before .before .before .before .before .before .before .before .before .before
+-- these arcs are no more than there are places
+abbrev start : tie.After-load-common → tie.Start
+start l = l .before .before .before .before .before .before .before .before .before .before
 
-abbrev missing : tie.Then1 → tie.After-load
-missing c = c .before .before .before .before .before .before .before .before
+star-fits : (l : tie.After-load-common) → 3 * l .load-common .result + length (start l .args .overall .now) + 1 + length (start l .args .overall .now) ≤ length (l .load-common .last .1 .1 .0)
+star-fits l = let p = start l .pre in omega (arith, l .load-common .ensures .0, l .load-common .kept .1 .1 .0, p .0 .1 .star-long, p .1 .0)
 
-abbrev loaded : tie.Else1 → tie.After-load
-loaded c = c .before .before .before .before .before .before .before .before
+costs-fit : (l : tie.After-load-common) → l .load-common .result * length (start l .args .bests .now) ≤ length (l .load-common .last .1 .1 .1 .0)
+costs-fit l = let s = start l in
+    let p = s .pre .0 in
+    omega (arith, l .load-common .kept .1 .1 .1 .0, p .1 .costs-long, mul-le-mul-right {m = l .load-common .result} {n = s .args .sizes .m} (s .args .sizes .k) (l .load-common .ensures .0), ap (λ (x : ℕ). l .load-common .result * x) (p .1 .bests-long))
 
-abbrev there : tie.After-choose-loaded-arg7 → tie.Else1
-there c = c .before .before .before .before .before .before .before
+all-few : (l : tie.After-load-common) → l .load-common .result * length (start l .args .bests .now) ≤ 8000
+all-few l = let s = start l in
+    let a = s .pre .0 .0 .accepted in
+    let m : l .load-common .result ≤ 1000 = omega (arith, l .load-common .ensures .0, few-arcs a) in
+    let k : length (s .args .bests .now) ≤ 8 = omega (arith, s .pre .0 .1 .bests-long, few-columns a) in
+    mul-le-mul m k
 
--- row 15 does not apply
-some : (e : tie.Else1) → let a = start (loaded e) .args in no-path-row (netOf (a .image .now) .nodes) (column (netOf (a .image .now)) (a .task .column)) (a .task .start) (a .task .goal) ≡ sound
-some e = let p = start (loaded e) .pre .0 in reached-row (p .in-column) (p .ends) (loaded e .load .ensures) (e .if1 .left)
+mul-all : tie.Need-mul-all
+mul-all c = omega (arith, all-few (c .before .before .before .before))
 
-returns : tie.Need-returns
-returns c =
-    let l = missing c in
-    let p = start l .pre .0 in
-    let e = unreached-row (p .in-column) (p .ends) (l .load .ensures) (c .if1 .taken) in
-    (sym (outcome-fault _ e), (sym (after-fault _ _ e), sym (cleared-not _ e)))
+slice-aggregate-choose-shared : tie.Need-slice-aggregate-choose-shared
+slice-aggregate-choose-shared c = let l = c .before .before .before .before .before in sym (length-take-le _ _ (star-fits l))
 
-choose-loaded-requires : tie.Need-choose-loaded-requires
-choose-loaded-requires c κs =
-    let e = there c in
-    let p = start (loaded e) .pre in
-    (p .0, ((loaded e .load .ensures, e .if1 .left), (p .1 .1 .0, p .1 .1 .1)))
+slice-reshare-prefix-choose-shared-2 : tie.Need-slice-reshare-prefix-choose-shared-2
+slice-reshare-prefix-choose-shared-2 c = costs-fit (c .before .before .before .before .before)
 
-returns-2 : tie.Need-returns-2
-returns-2 c =
-    let d = c .before .before .before .before .before .before .before .before in
-    let e = there (d .before) in
-    let a = start (loaded e) .args in
-    let t = a .task in
-    let E = d .choose-loaded .ensures in (
-      values-in (a .image .now) (t .column) (t .start) (t .goal) (t .wanted) (some e) (E .0),
-      (
-        path-in (a .image .now) (t .column) (t .start) (t .goal) (t .wanted) (some e) (a .path .now) (E .1 .0),
-        E .1 .1 ∙ cleared-is (a .work .now) ∙ ap (λ f. cleared f (a .work .now)) (sym (some e)),
-      ),
-    )
+slice-aggregate-choose-shared-2 : tie.Need-slice-aggregate-choose-shared-2
+slice-aggregate-choose-shared-2 c = let l = c .before .before .before .before .before .before in sym (length-take-le _ _ (costs-fit l))
+
+choose-shared-requires : tie.Need-choose-shared-requires
+choose-shared-requires c κs = let l = c .before .before .before .before .before .before .before .before .before .before in
+    let s = start l in
+    let p = s .pre in
+    let m = l .load-common .result in
+    let room = p .0 .1 in
+    let places = p .1 .0 in
+    let stars : star-size (s .args .sizes .n) m ≡ 3 * m + length (s .args .overall .now) + 1 + length (s .args .overall .now) = ap (λ (x : ℕ). 3 * m + x + 1 + x) (sym places) in
+    let all = ap (λ (x : ℕ). m * x) (sym (room .bests-long)) in
+    ((p .0 .0, subst₂ (λ (x y : ℕ). Shared (netOf (s .args .image .now)) m (take x (l .load-common .last .1 .1 .0)) (take y (l .load-common .last .1 .1 .1 .0))) stars all (l .load-common .ensures .1)), (places, room .bests-long, p .1 .1))
 
 pub choose-in-spec : {M : Type 1} → statement M
 choose-in-spec =
     tie.close
     (tie.spec
-    (λ c. search needs)
-    (λ c. search needs)
     (λ c κs. search needs)
     (λ c. search needs)
     (λ c. search needs)
     (λ c. search needs)
     (λ c. search needs)
+    mul-all
     (λ c. search needs)
-    returns
-    choose-loaded-requires
-    (λ c. search needs)
-    (λ c. search needs)
-    (λ c. search needs)
-    (λ c. search needs)
-    (λ c. search needs)
+    slice-aggregate-choose-shared
+    slice-reshare-prefix-choose-shared-2
+    slice-aggregate-choose-shared-2
+    choose-shared-requires
     (λ c. search needs)
     (λ c. search needs)
-    returns-2)
+    (λ c. search needs)
+    (λ c. search needs)
+    (λ c. search needs)
+    (λ c. search needs)
+    (λ c. search needs))

@@ -1,45 +1,42 @@
--- `regret::regret` gives the figure and the worst column where no row applies. Assumes nothing.
-use Prim.Native.Nat.{ℕ}
-use mathlib.Core.Path.{_≡_, sym, _∙_, ap, ap₂}
+-- `regret::regret`: the rows of the image and of the ends stand before those of the list. Assumes nothing.
+use mathlib.Core.Path.{_≡_, sym, _∙_, ap}
 use mathlib.Core.List.{[], _∷_}
-use borrow.Author.Needs.{needs}
-use Rattle.image.specs.Outcome.{sound, gives}
-use Rattle.image.specs.Calls.{sizes}
+use Rattle.terms.specs.Regret.{figure, worst}
+use Rattle.image.specs.Outcome.{sound, _then_, outcome}
+use Rattle.image.specs.Layout.{netOf}
+use Rattle.image.specs.Calls.{image-fault, sizes}
 use Rattle.image.specs.Answers.{checked, refused}
-use Rattle.image.proofs.OutcomeLaws.{refuses-fault, outcome-fault, outcome-sound}
-use Rattle.outcomes.specs.Calls.{regret-fault, regret-outcome}
+use Rattle.image.proofs.OutcomeLaws.{then-fault, then-next, then-sound, refuses-fault, outcome-fault}
 use Rattle.loading.specs.Accepted.{Accepted}
-use Rattle.outcomes.proofs.RowLaws.{given-sizes, RegretSound, regret-sound}
+use Rattle.outcomes.specs.Calls.{ends-row, regret-fault, regret-outcome}
+use Rattle.outcomes.proofs.RowLaws.{given-sizes, ends-sound}
+use borrow.Author.Needs.{needs}
 use Rattle.network_calls.proofs.regret.regret.Statement.{statement}
 use Rattle.network_calls.proofs.regret.regret.Tie as tie
 
 returns : tie.Need-returns
-unfolding regret-outcome
+unfolding regret-outcome regret-fault
 returns c = let t = c .before in
     let k = t .before .before in
     let a = k .before .before .before .args in
-    let e = refuses-fault (regret-fault (a .image .now) (a .start) (a .goal) (a .nodes .now)) (sizes (a .image .now)) (sym (ap checked (t .enum-told .given .1)) ∙ k .check-regret .ensures) in
-    ap refused (c .refusal .ensures _ (t .enum-told .given .1)) ∙ sym (outcome-fault _ e)
+    let told = sym (ap checked (t .enum-told .given .1)) ∙ k .check-ends .ensures in
+    ap refused (c .refusal .ensures _ (t .enum-told .given .1)) ∙ sym (outcome-fault _ (then-fault _ (refuses-fault (image-fault (a .image .now) then ends-row (netOf (a .image .now)) (a .start) (a .goal)) (sizes (a .image .now)) told)))
 
--- where its rows give sizes, none of them applies and they are the image's
-abbrev start : tie.After-answer → tie.Start
-start c = c .before .before .before .before .before
+-- where the first rows give sizes, none of them applies and they are the image's
+abbrev start : tie.After-known-told → tie.Start
+start c = c .before .before .before .before .before .before
 
-passes : (c : tie.After-answer) → (regret-fault (start c .args .image .now) (start c .args .start) (start c .args .goal) (start c .args .nodes .now) ≡ sound) × Accepted (start c .args .image .now) (c .answer .given .0 .0 .n) (c .answer .given .0 .0 .m) (c .answer .given .0 .0 .k)
-passes c = given-sizes _ (λ e. regret-sound _ _ _ _ e .accepted) (sym (ap checked (c .answer .given .1)) ∙ c .before .before .check-regret .ensures)
-
-given : (c : tie.After-answer) → RegretSound (start c .args .image .now) (start c .args .start) (start c .args .goal) (start c .args .nodes .now)
-given c = regret-sound _ _ _ _ (passes c .0)
+passes : (c : tie.After-known-told) → let a = start c .args in ((image-fault (a .image .now) then ends-row (netOf (a .image .now)) (a .start) (a .goal)) ≡ sound) × Accepted (a .image .now) (c .before .answer .given .0 .0)
+passes c = given-sizes _ (λ e. then-sound _ _ e .0) (sym (ap checked (c .before .answer .given .1)) ∙ c .before .before .before .check-ends .ensures)
 
 measure-list-requires : tie.Need-measure-list-requires
-measure-list-requires c κs = let a = c .before in
-    let g = given a in
-    (passes a .1, g .ends, g .path)
+measure-list-requires c κs = let p = passes c in (p .1, ends-sound _ _ _ (then-sound _ _ (p .0) .1))
 
 returns-2 : tie.Need-returns-2
-unfolding regret-outcome
-returns-2 c = let e = c .measure-list .ensures in
-    ap₂ (λ (f w : ℕ). gives (f ∷ w ∷ [])) (e .0) (e .1) ∙ sym (outcome-sound _ (passes (c .before .before) .0))
+unfolding regret-outcome regret-fault
+returns-2 c = let k = c .before in
+    let a = start k .args in
+    c .measure-list .ensures ∙ ap (λ f. outcome f (figure (netOf (a .image .now)) (a .start) (a .goal) (a .nodes .now) ∷ worst (netOf (a .image .now)) (a .start) (a .goal) (a .nodes .now) ∷ [])) (sym (then-next _ (passes k .0)))
 
 pub regret-spec : {M : Type 1} → statement M
 regret-spec =

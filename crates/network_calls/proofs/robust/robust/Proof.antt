@@ -27,7 +27,7 @@ returns c = let t = c .before in
 abbrev start : tie.After-answer → tie.Start
 start c = c .before .before .before .before .before .before
 
-passes : (c : tie.After-answer) → (robust-rows (start c .args .image .now) (start c .args .column) (start c .args .start) (start c .args .goal) (start c .args .wanted) (length (start c .args .path .now)) (length (start c .args .work .now)) ≡ sound) × Accepted (start c .args .image .now) (c .answer .given .0 .0 .n) (c .answer .given .0 .0 .m) (c .answer .given .0 .0 .k)
+passes : (c : tie.After-answer) → (robust-rows (start c .args .image .now) (start c .args .column) (start c .args .start) (start c .args .goal) (start c .args .wanted) (length (start c .args .path .now)) (length (start c .args .work .now)) ≡ sound) × Accepted (start c .args .image .now) (c .answer .given .0 .0)
 passes c = let s = start c .args in
     given-sizes _ (λ e. robust-sound (s .image .now) (s .column) (s .start) (s .goal) (s .wanted) (s .path .now) (s .work .now) e .accepted) (sym (ap checked (c .answer .given .1)) ∙ c .before .before .check-robust .ensures)
 
@@ -36,7 +36,7 @@ decide-requires c κs = let a = c .before .before .before in
     let s = start a .args in
     let p = passes a in
     let g = robust-sound (s .image .now) (s .column) (s .start) (s .goal) (s .wanted) (s .path .now) (s .work .now) (p .0) in
-    ((p .1, record { passes = p .1 .passes; arcs-are = p .1 .arcs-are; from = g .from; upto = g .upto }, g .ends), choice-slices (s .image .now) (s .column) (s .start) (s .goal) (s .wanted) (s .path .now) (s .work .now) (p .0))
+    ((p .1, record { from = g .from; upto = g .upto }, g .ends), choice-slices (s .image .now) (s .column) (s .start) (s .goal) (s .wanted) (s .path .now) (s .work .now) (p .0))
 
 returns-2 : tie.Need-returns-2
 unfolding robust-outcome robust-fault

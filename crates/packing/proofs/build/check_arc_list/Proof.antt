@@ -1,4 +1,4 @@
--- `packing::building::check_arc_list` meets its contract. Assumes nothing.
+-- `packing::build::check_arc_list` meets its contract. Assumes nothing.
 use borrow.Author.Needs.{needs}
 use Rattle.image.specs.Refusals.{verdict}
 use Rattle.image.proofs.RowLaws.{length-pairs, pairs-at, arc-found, arc-passed, arcs-end}

@@ -1,4 +1,4 @@
--- `packing::building::write_header` meets its contract. Assumes nothing.
+-- `packing::build::write_header` meets its contract. Assumes nothing.
 use Prim.Native.Nat.{ℕ}
 use mathlib.Core.Path.{subst}
 use Rattle.packing.proofs.BuildLaws.{Wrote, header-written}
@@ -17,7 +17,7 @@ returns c = let c₈ = c .before .before in
     let c₂ = c₃ .before .before .before .before in
     let c₁ = c₂ .before .before .before .before in
     let a = c₁ .before .before .before .args in
-    header-written (a .n) (a .m) (a .k) (a .image .now) _ _ _ _ _ _ _ _ (c₁ .write16 .ensures) (c₂ .write162 .ensures) (c₃ .write163 .ensures) (c₄ .write164 .ensures) (c₅ .write32 .ensures)
+    header-written (a .edition) (a .n) (a .m) (a .k) (a .image .now) _ _ _ _ _ _ _ _ (c₁ .write16 .ensures) (c₂ .write162 .ensures) (c₃ .write163 .ensures) (c₄ .write164 .ensures) (c₅ .write32 .ensures)
     (subst (λ (x : ℕ). Wrote 4 12 x (c₅ .write32 .last .0) (c₆ .write322 .last .0)) (c₆ .before .costs-start .ensures) (c₆ .write322 .ensures))
     (subst (λ (x : ℕ). Wrote 4 16 x (c₆ .write322 .last .0) (c₇ .write323 .last .0)) (c₇ .before .image-length .ensures) (c₇ .write323 .ensures))
     (c₈ .write324 .ensures)

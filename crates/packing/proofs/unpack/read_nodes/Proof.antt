@@ -1,4 +1,4 @@
--- `packing::unpacking::read_nodes` meets its contract. Assumes nothing.
+-- `packing::unpack::read_nodes` meets its contract. Assumes nothing.
 use Rattle.image.proofs.ByteLaws.{length-decode, decode-at}
 use Rattle.image.proofs.SliceLaws.{copy-more}
 use lib.Seq.{take-all}

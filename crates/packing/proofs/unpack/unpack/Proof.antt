@@ -1,4 +1,4 @@
--- `packing::unpacking::unpack` meets its contract. Assumes nothing.
+-- `packing::unpack::unpack` meets its contract. Assumes nothing.
 use Rattle.packing.specs.RoundTrip.{WritesAgain}
 use Rattle.image.proofs.ByteLaws.{all-bytes}
 use Rattle.packing.proofs.RoundTripLaws.{writes-again}
@@ -41,11 +41,11 @@ entered c = c .before .before .before .before
 abbrev image : tie.After-answer → List ℕ
 image c = c .before .before .before .before .before .before .args .image .now
 
-known : (c : tie.After-answer) → (image-fault (image c) ≡ sound) × Sized (image c) (c .answer .given .0 .0 .n) (c .answer .given .0 .0 .m) (c .answer .given .0 .0 .k)
+known : (c : tie.After-answer) → (image-fault (image c) ≡ sound) × Sized (image c) (c .answer .given .0 .0 .n) (c .answer .given .0 .0 .m) (c .answer .given .0 .0 .k) (c .answer .given .0 .0 .edition)
 known c = accepted (image c) (sym (ap checked (c .answer .given .1)) ∙ c .before .before .check .ensures)
 
 sizes-bound : (c : tie.After-answer) → (c .answer .given .0 .0 .m ≤ 1000) × (c .answer .given .0 .0 .k ≤ 8) × (length (image c) ≡ total (c .answer .given .0 .0 .m) (c .answer .given .0 .0 .k))
-sizes-bound c = bounds (image c) _ _ _ (accepted-header (image c) (known c .0)) (known c .1)
+sizes-bound c = bounds 2 (image c) _ _ _ _ (accepted-header (image c) (known c .0)) (known c .1)
 
 length-is : (c : tie.After-answer) → length (image c) ≡ 24 + 4 * c .answer .given .0 .0 .m + 4 * (c .answer .given .0 .0 .m * c .answer .given .0 .0 .k)
 length-is c = let s = c .answer .given .0 .0 in omega (arith, sizes-bound c .2, total-is (s .m) (s .k), costs-start-is (s .m))
@@ -59,7 +59,7 @@ cost-count-requires c κs = let e = sizes-bound (c .before) in (e .0, e .1)
 returns-2 : tie.Need-returns-2
 unfolding unpack-outcome
 returns-2 c = let a = c .before .before .before in
-    let e = short-nodes _ _ _ _ _ _ (known a .0) (known a .1) (c .if1 .taken) in
+    let e = short-nodes _ _ _ _ _ _ _ (known a .0) (known a .1) (c .if1 .taken) in
     (sym (outcome-fault _ e), (sym (after-fault _ _ e), (sym (after-fault _ _ e), again (entered a) _ _)))
 
 returns-3 : tie.Need-returns-3
@@ -67,7 +67,7 @@ unfolding unpack-outcome
 returns-3 c =
     let n = c .before .before in
     let a = n .before .before in
-    let e = short-costs _ _ _ _ _ _ (known a .0) (known a .1) (rw (n .cost-count .ensures .0) at (c .if2 .taken)) in
+    let e = short-costs _ _ _ _ _ _ _ (known a .0) (known a .1) (rw (n .cost-count .ensures .0) at (c .if2 .taken)) in
     (sym (outcome-fault _ e), (sym (after-fault _ _ e), (sym (after-fault _ _ e), again (entered a) _ _)))
 
 sub-read-nodes : tie.Need-sub-read-nodes
@@ -106,11 +106,11 @@ returns-4 c = let r = c .before .before in
     let m = a .answer .given .0 .0 .m in
     let k = known a in
     let args = a .before .before .before .before .before .before .args in
-    let e = room _ _ _ _ _ _ (k .0) (k .1) (t .before .if1 .left) (rw (n .cost-count .ensures .0) at (t .if2 .left)) in
+    let e = room _ _ _ _ _ _ _ (k .0) (k .1) (t .before .if1 .left) (rw (n .cost-count .ensures .0) at (t .if2 .left)) in
     let nodes-part = ap (λ (l : List ℕ). decode 2 (2 * m) l ++ drop (2 * m) (args .nodes .now)) (to-end (image a) 24) in
     let costs-part = ap (λ (l : List ℕ). decode 4 (n .cost-count .result) l ++ drop (n .cost-count .result) (args .costs .now)) (to-end (image a) (s .costs-start .result)) in
     let counted = ap₂ (λ (x i : ℕ). decode 4 x (drop i (image a)) ++ drop x (args .costs .now)) (n .cost-count .ensures .0) (s .costs-start .ensures) in
-    (ap gives (same-sizes (image a) (k .1)) ∙ sym (outcome-sound _ e), (q .read-nodes .ensures ∙ nodes-part ∙ nodes-after _ _ _ _ _ _ (k .0) (k .1) (args .nodes .now) e, (r .read-costs .ensures ∙ costs-part ∙ counted ∙ costs-after _ _ _ _ _ _ (k .0) (k .1) (args .costs .now) e, again (entered a) _ _)))
+    (ap gives (same-sizes (image a) (k .1)) ∙ sym (outcome-sound _ e), (q .read-nodes .ensures ∙ nodes-part ∙ nodes-after _ _ _ _ _ _ _ (k .0) (k .1) (args .nodes .now) e, (r .read-costs .ensures ∙ costs-part ∙ counted ∙ costs-after _ _ _ _ _ _ _ (k .0) (k .1) (args .costs .now) e, again (entered a) _ _)))
 
 pub unpack-spec : {M : Type 1} → statement M
 unpack-spec =

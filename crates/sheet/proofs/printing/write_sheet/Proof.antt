@@ -27,7 +27,7 @@ returns c = let w = c .before .before in
     (wrote-as (ap (λ x. refused-line (numberOf x) (placeOf x)) (r .refusal .ensures _ (t .enum-told .given .1)) ∙ sheet-refused b e) (w .write-refused .ensures .0), w .write-refused .ensures .1)
 
 -- the image is accepted, and Robust has answered
-accepted : (c : tie.After-answer) → Accepted (start (c .before .before) .args .image .now) (c .answer .given .0 .0 .n) (c .answer .given .0 .0 .m) (c .answer .given .0 .0 .k)
+accepted : (c : tie.After-answer) → Accepted (start (c .before .before) .args .image .now) (c .answer .given .0 .0)
 accepted c = given-network (sym (ap checked (c .answer .given .1)) ∙ c .before .before .check .ensures)
 
 abbrev answer : tie.After-robust → tie.After-answer

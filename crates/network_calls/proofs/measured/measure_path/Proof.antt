@@ -1,0 +1,49 @@
+-- `measured::measure_path`: the slices hold the image's network and each column's best, so what is measured is the path's figure and worst column. Assumes nothing.
+use native.Mathlib.Omega.{arith}
+use Rattle.choosing.proofs.PricedLaws.{measurable}
+use Rattle.network_calls.proofs.SharedLaws.{priced-for, path-for, measured-for, figure-small}
+use borrow.Author.Needs.{needs}
+use Rattle.network_calls.proofs.measured.measure_path.Statement.{statement}
+use Rattle.network_calls.proofs.measured.measure_path.Tie as tie
+
+price-requires : tie.Need-price-requires
+price-requires c κs = let s = c .before .before .before .before .before .before .before in
+    let p = s .pre in
+    ((p .0 .0, p .0 .1), ((record { ends = p .1 .0; route = s .args .nodes .now; path = p .1 .1 }, p .0 .2), λ h. absurd (omega arith)))
+
+abbrev start : tie.After-price → tie.Start
+start q = q .before .before .before .before .before .before .before .before
+
+abbrev priced : tie.After-measure-arg → tie.After-price
+priced c = c .before .before .before .before
+
+measure-requires : tie.Need-measure-requires
+measure-requires c κs = let q = priced c in
+    let p = start q .pre in
+    let n = p .0 .0 .nodes-are in
+    let H = q .price .ensures in
+    measurable (priced-for (p .0 .0) (p .0 .1) n (p .1 .0) H) (p .1 .0 .start-in .from) (omega (arith, n, p .1 .0 .start-in .upto)) (p .1 .0 .apart) (path-for (p .0 .0) (p .0 .1) n (p .1 .0) H (p .1 .1))
+
+cast-t20 : tie.Need-cast-t20
+cast-t20 c = let x = c .before in
+    let q = priced (x .before) in
+    let p = start q .pre in
+    omega (arith, figure-small (p .0 .0) (p .0 .1) (p .0 .0 .nodes-are) (p .1 .0) (q .price .ensures) (p .1 .1) (x .measure .ensures .0))
+
+returns : tie.Need-returns
+returns c = let x = c .before in
+    let q = priced (x .before) in
+    let p = start q .pre in
+    measured-for (p .0 .0) (p .0 .1) (p .0 .0 .nodes-are) (p .1 .0) (q .price .ensures) (p .1 .1) (x .measure .ensures .0) (x .measure .ensures .1)
+
+pub measure-path-spec : {M : Type 1} → statement M
+measure-path-spec =
+    tie.close
+    (tie.spec
+    (λ c. search needs)
+    price-requires
+    (λ c. search needs)
+    measure-requires
+    cast-t20
+    (λ c. search needs)
+    returns)
