@@ -121,8 +121,8 @@ def sheet(n, arcs, columns, most=48):
     return f"route {route}\nregret {figures[at]} column {worst}\nranked {count} {state}\n"
 
 
-def grid(side, spread, seed):
-    """A grid, with costs of 1,000 to 1,999 in column 1, and up to `spread` more in each other."""
+def drawer(seed):
+    """A function that draws numbers below a limit."""
     state = seed
 
     def draw(below):
@@ -130,6 +130,12 @@ def grid(side, spread, seed):
         state = (state * 1103515245 + 12345) % 2**31
         return (state >> 8) % below
 
+    return draw
+
+
+def grid(side, spread, seed):
+    """A grid, with costs of 1,000 to 1,999 in column 1, and up to `spread` more in each other."""
+    draw = drawer(seed)
     arcs = []
     for v in range(side * side):
         x, y = v % side, v // side
@@ -139,6 +145,13 @@ def grid(side, spread, seed):
     base = [1000 + draw(1000) for _ in arcs]
     columns = [base] + [[cost + draw(spread) for cost in base] for _ in range(3)]
     return side * side, arcs, columns
+
+
+def with_ferries(network, share, seed):
+    """The network with so many of 100 costs replaced by None: the arc is closed in that column."""
+    n, arcs, columns = network
+    draw = drawer(seed)
+    return n, arcs, [[None if draw(100) < share else cost for cost in column] for column in columns]
 
 
 def line(n):
@@ -165,6 +178,16 @@ S = (
 )
 S_BACKWARD = (4, [(2, 1), (3, 1), (3, 2), (4, 2), (4, 3)], S[2])
 NO_ARCS = (2, [], [[]])
+# 1 4 is cheapest in column 1, and closed in column 2: deviations in column 1 are held against its cost.
+FERRY = (
+    4,
+    [(1, 2), (1, 3), (1, 4), (2, 4), (3, 4)],
+    [[2, 3, 1, 3, 3], [4, 1, None, 8, 1]],
+)
+# Each column has a path, and none is open in both.
+PARTED = (4, [(1, 2), (1, 3), (2, 4), (3, 4)], [[1, None, 2, 5], [None, 3, 4, 1]])
+# All arcs into the goal are closed in the last column.
+GOAL_CLOSED = (3, [(1, 2), (1, 3), (2, 3)], [[1, 4, 1], [1, 4, 1], [1, None, None]])
 
 
 def solved(network):
@@ -184,6 +207,11 @@ def s_with_head(arc, head):
 
 def s_with_cost(index, cost):
     return s_with(24 + 4 * len(S[1]) + 4 * index, 4, cost)
+
+
+def in_edition(edition, whole):
+    """An image with another edition in its header."""
+    return edition.to_bytes(2, "little") + whole[2:]
 
 
 # Each image with its sheet, in the order of the test program. A refusal's number and place are
@@ -210,6 +238,19 @@ CASES = {
     "cost_too_large": (s_with_cost(7, 1000001), refused(9, 7)),
     "no_arcs": solved(NO_ARCS),
     "backward": solved(S_BACKWARD),
+    # edition 2, settled
+    "S_in_edition_2": (in_edition(2, image(*S)), sheet(*S)),
+    "ferry": solved(FERRY),
+    "close_with_ferries": solved(with_ferries(grid(10, 300, 3), 4, 1)),
+    # edition 2, open
+    "apart_with_ferries": solved(with_ferries(grid(10, 1000, 1), 4, 7)),
+    # edition 2, refused
+    "parted": solved(PARTED),
+    "goal_closed": solved(GOAL_CLOSED),
+    "below_the_mark": (in_edition(2, s_with_cost(7, CLOSED - 1)), refused(9, 7)),
+    # the mark in edition 1, and an edition that there is not
+    "mark_in_edition_1": (s_with_cost(7, CLOSED), refused(9, 7)),
+    "edition_3": (in_edition(3, image(*S)), refused(2, 0)),
 }
 
 # The test program lends the places that a sheet needs, and then fewer for the sheet of S.

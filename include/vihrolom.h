@@ -165,6 +165,13 @@ struct vihrolom_reply vihrolom_robust(const uint8_t *image, size_t image_length,
                                       uint32_t start, uint32_t goal, uint32_t wanted, uint16_t *path,
                                       size_t path_length, uint32_t *work, size_t work_length);
 
+// Find: the arc from a node to another, by halving the range of the arcs: of what is left the middle arc
+// is looked at, of two the first, and then the side that may hold the arc is left.
+//   v0: 1 if there is such an arc, 0 if not; a number outside 1..n has none   v1: its index, 0 if there is none
+//   v2: how many arcs were looked at, at most 10
+// Refuses by rows 1 to 9.
+struct vihrolom_reply vihrolom_find(const uint8_t *image, size_t image_length, uint32_t tail, uint32_t head);
+
 #ifdef __cplusplus
 }
 #endif

@@ -1,4 +1,4 @@
-// Calls the eight C functions on the cases of docs/REFERENCE.md and on an example of each refusal. Every
+// Calls the nine C functions on the cases of docs/REFERENCE.md and on an example of each refusal. Every
 // lent list stands at the beginning of a longer buffer that holds a pattern, and after each call the whole
 // buffer is held to what it has to be: what is written, what is kept, and what lies behind the list.
 // Prints the number of checks; stops at the first that fails, with exit status 1. C99, and C++ as well.
@@ -195,6 +195,12 @@ static void robust_case(const char *name, uint32_t column, uint32_t start, uint3
     expect_list("the workspace", &work);
 }
 
+static void find_case(const char *name, uint32_t tail, uint32_t head, reply due) {
+    running = name;
+    expect_reply(vihrolom_find(image.is.bytes, image.length, tail, head), due);
+    expect_list("the image", &image);
+}
+
 // ---- replies
 
 static reply gives(uint32_t v0, uint32_t v1, uint32_t v2) {
@@ -330,6 +336,19 @@ static void robust_cases(void) {
     robust_case("Robust from 4 to 1", 1, 4, 1, 2, N, two, refused(VIHROLOM_NO_PATH, 0), NULL);
 }
 
+static void find_cases(void) {
+    find_case("Find 2 3", 2, 3, gives(1, 2, 1));
+    find_case("Find 1 2", 1, 2, gives(1, 0, 2));
+    find_case("Find 3 4", 3, 4, gives(1, 4, 3));
+    find_case("Find 4 1", 4, 1, gives(0, 0, 3));
+    find_case("Find 0 0", 0, 0, gives(0, 0, 2));
+    find_case("Find 1 65538", 1, 65538, gives(0, 0, 3));
+    find_case("Find 4294967295 2", UINT32_MAX, 2, gives(0, 0, 3));
+    image = damaged(0, 7);
+    find_case("Find in edition 7", 2, 3, refused(VIHROLOM_WRONG_EDITION, 0));
+    image = bytes(S_image, sizeof S_image);
+}
+
 // The image that Build makes of a network with one column.
 static struct list built(uint32_t n, struct list arcs, struct list costs) {
     struct list made = places(VIHROLOM_IMAGE_LENGTH(costs.length, 1));
@@ -350,6 +369,7 @@ static void other_networks(void) {
     running = "Build with n = 2, m = 0, k = 1";
     image = built(2, nodes(ring, 0), numbers(nothing, 0));
     expect("the length", image.length, 24);
+    find_case("Find with n = 2, m = 0, k = 1", 1, 2, gives(0, 0, 0));
     robust_case("Robust with n = 2, m = 0, k = 1", 1, 1, 2, 1, 2, VIHROLOM_WORK_LENGTH(2, 1), refused(VIHROLOM_NO_PATH, 0), NULL);
 
     uint16_t line[2 * 199], path[200];
@@ -409,6 +429,7 @@ int main(void) {
     rank_cases();
     robust_cases();
     closed_arc();
+    find_cases();
     other_networks();
     printf("smoke: %u checks\n", checks);
     return 0;

@@ -16,7 +16,7 @@ from unittest import mock
 
 import _ctypes
 import vihrolom
-from vihrolom import Choice, Lists, Path, Refusal, Regret, Sizes
+from vihrolom import Choice, Found, Lists, Path, Refusal, Regret, Sizes
 
 FOLDER = os.path.dirname(os.path.abspath(__file__))
 EXAMPLES = os.path.join(FOLDER, "..", "..", "examples")
@@ -106,6 +106,23 @@ class Cases(unittest.TestCase):
         self.assertEqual(outcome(vihrolom.robust, CLOSED, 1, 3, 4, 5), (15, 0))
         self.assertEqual(vihrolom.sheet(CLOSED), "route 1 2 4\nregret 3 column 1\nranked 1 settled\n")
 
+    def test_find(self):
+        self.assertEqual(vihrolom.find(S, 2, 3), Found(2, 1))
+        self.assertEqual(vihrolom.find(S, 1, 2), Found(0, 2))
+        self.assertEqual(vihrolom.find(S, 3, 4), Found(4, 3))
+        self.assertEqual(vihrolom.find(S, 4, 1), Found(None, 3))
+        self.assertEqual(vihrolom.find(S, 0, 0), Found(None, 2))
+
+    def test_find_in_1000_arcs(self):
+        arcs = [(tail, head) for tail in range(1, 201) for head in range(1, 7) if head != tail]
+        arcs = arcs[:1000]
+        image = vihrolom.build(1, 200, 1, [node for arc in arcs for node in arc], [1] * 1000)
+        for index, (tail, head) in enumerate(arcs):
+            self.assertEqual(vihrolom.find(image, tail, head).index, index)
+        self.assertEqual(vihrolom.find(image, *arcs[999]), Found(999, 10))
+        self.assertEqual(vihrolom.find(image, *arcs[499]), Found(499, 1))
+        self.assertEqual(vihrolom.find(image, 200, 200), Found(None, 10))
+
     def test_ring_of_zero_costs(self):
         image = vihrolom.build(1, 4, 1, [1, 3, 2, 3, 2, 4, 3, 2, 3, 4], [0] * 5)
         self.assertEqual(vihrolom.rank(image, 1, 1, 4, 5), [Path((1, 3, 2, 4), 0), Path((1, 3, 4), 0)])
@@ -115,6 +132,7 @@ class Cases(unittest.TestCase):
         self.assertEqual(len(image), 24)
         self.assertEqual(vihrolom.unpack(image), Lists(Sizes(2, 0, 1, 1), (), ()))
         self.assertEqual(vihrolom.label(image, 1, 2), [None, 0])
+        self.assertEqual(vihrolom.find(image, 1, 2), Found(None, 0))
         self.assertEqual(outcome(vihrolom.robust, image, 1, 1, 2, 1), (15, 0))
 
     def test_line_of_200_nodes(self):
@@ -163,6 +181,7 @@ class Refusals(Refusing):
         self.refused(number, place, vihrolom.regret, image, 1, 4, [1, 3, 4])
         self.refused(number, place, vihrolom.rank, image, 1, 1, 4, 1)
         self.refused(number, place, vihrolom.robust, image, 1, 1, 4, 1)
+        self.refused(number, place, vihrolom.find, image, 1, 2)
         self.assertEqual(vihrolom.sheet(image), f"refused {number} at {place}\n")
 
     def refused_field(self, number, place, offset, form, value):
@@ -286,6 +305,10 @@ class Numbers(Refusing):
                 self.refused(10, 0, call, S, 1, 1, number, *more)
             self.refused(10, 0, vihrolom.regret, S, number, 4, [1, 3, 4])
             self.refused(10, 0, vihrolom.regret, S, 1, number, [1, 3, 4])
+            self.assertIsNone(vihrolom.find(S, 1, number).index)
+            self.assertIsNone(vihrolom.find(S, number, 2).index)
+        self.assertEqual(vihrolom.find(S, 2**32 + 1, 2), Found(None, 3))
+        self.assertEqual(vihrolom.find(S, -1, 2), Found(None, 2))
 
     def test_nodes_beyond_16_bits(self):
         for node in (2**16, 2**16 + 3, *BEYOND):
@@ -314,6 +337,7 @@ class Numbers(Refusing):
                 (vihrolom.regret, (S, 1, 4, [1, wrong, 4])),
                 (vihrolom.rank, (S, 1, 1, 4, wrong)),
                 (vihrolom.robust, (S, 1, 1, wrong, 5)),
+                (vihrolom.find, (S, 1, wrong)),
             ]:
                 self.assertRaises(TypeError, call, *arguments)
         for wrong in (1.0, "1"):
@@ -362,6 +386,16 @@ class Plain:
 
     def least(self, u, start, goal):
         return min((self.cost(u, path) for path in self.paths([u], start, goal)), default=None)
+
+    def find(self, tail, head):
+        left, looks = self.arcs, 0
+        while left:
+            middle = (len(left) - 1) // 2
+            looks += 1
+            if left[middle] == (tail, head):
+                break
+            left = left[middle + 1 :] if left[middle] < (tail, head) else left[:middle]
+        return Found(self.arcs.index((tail, head)) if (tail, head) in self.arcs else None, looks)
 
     def label(self, u, goal):
         return [self.least(u, node, goal) for node in range(1, self.nodes + 1)]
@@ -457,6 +491,8 @@ class AgainstEnumeration(unittest.TestCase):
             self.agree(plain, vihrolom.rank, column, start, goal, limit)
         for limit in (1, draw.randint(2, 12), 256):
             self.agree(plain, vihrolom.robust, column, start, goal, limit)
+        for tail, head in [(start, goal), (goal, draw.randint(0, plain.nodes + 1))]:
+            self.agree(plain, vihrolom.find, tail, head)
         paths = plain.paths([], start, goal)
         for path in draw.sample(paths, min(3, len(paths))):
             self.agree(plain, vihrolom.regret, start, goal, path)
@@ -471,9 +507,9 @@ class AgainstEnumeration(unittest.TestCase):
             plain = draw_network(draw)
             self.agree_on_lists(plain)
             self.agree_on_paths(plain, draw)
-        self.assertEqual(set(self.compared), {"label", "shortest", "rank", "robust", "regret"})
+        self.assertEqual(set(self.compared), {"label", "shortest", "rank", "robust", "regret", "find"})
         self.assertGreaterEqual(min(self.compared.values()), self.NETWORKS)
-        self.assertGreaterEqual(sum(self.compared.values()), 10 * self.NETWORKS)
+        self.assertGreaterEqual(sum(self.compared.values()), 12 * self.NETWORKS)
 
 
 class Passing(unittest.TestCase):

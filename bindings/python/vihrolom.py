@@ -15,8 +15,9 @@ in every column, and hold them in each against the best path of that column.
 
 Numbers may be any whole numbers. One that does not fit the 32 bits of its parameter, or the 16 bits
 of a node in a list, is never cut down to them: it is refused by the refusal table, since it is
-no edition, outside 1..n, 1..k or 1..256 or above 1,000,000. The table has no row for a negative cost;
-that raises ValueError. What is no whole number raises TypeError.
+no edition, outside 1..n, 1..k or 1..256 or above 1,000,000; Find, which refuses no number, finds no
+arc. The table has no row for a negative cost; that raises ValueError. What is no whole number raises
+TypeError.
 """
 from __future__ import annotations
 
@@ -130,6 +131,14 @@ class Choice:
     floor: Optional[int]
 
 
+@dataclass(frozen=True)
+class Found:
+    """What a search for an arc found: its index, None if there is no such arc, and the arcs looked at."""
+
+    index: Optional[int]
+    looks: int
+
+
 def build(
     edition: int,
     nodes: int,
@@ -213,6 +222,15 @@ def robust(image: bytes, column: int, start: int, goal: int, limit: int) -> Choi
     return Choice(tuple(path[:length]), figure, worst, count, settled, floor)
 
 
+def find(image: bytes, tail: int, head: int) -> Found:
+    """The arc from `tail` to `head`, looked for by halving the range of the arcs.
+
+    A number outside 1..n has no arc, whatever its size.
+    """
+    reply = _call("find", _image(image), _nearest(tail), _nearest(head))
+    return Found(reply.v1 if reply.v0 == 1 else None, reply.v2)
+
+
 def sheet(image: bytes) -> str:
     """The sheet that the program prints for an image, refused ones included.
 
@@ -267,6 +285,11 @@ def _number(number: int) -> int:
     return number if 0 <= number <= _GREATEST_32 else 0
 
 
+def _nearest(number: int) -> int:
+    """The number, or the nearest that fits 32 bits: it is above or below as many nodes."""
+    return max(0, min(operator.index(number), _GREATEST_32))
+
+
 def _node_list(nodes: Iterable[int]) -> ctypes.Array:
     """The nodes of a list; 0, which is no node, stands for one that does not fit 16 bits."""
     places = [operator.index(node) for node in nodes]
@@ -310,6 +333,7 @@ _FUNCTIONS = {
     "regret": (_BYTES, _NUMBER, _NUMBER, _NODES),
     "rank": (_BYTES, _NUMBER, _NUMBER, _NUMBER, _NUMBER, _NODES, _WORDS, _WORDS),
     "robust": (_BYTES, _NUMBER, _NUMBER, _NUMBER, _NUMBER, _NODES, _WORDS),
+    "find": (_BYTES, _NUMBER, _NUMBER),
 }
 
 

@@ -71,3 +71,12 @@ impl fmt::Display for Choice {
         write!(f, "\nranked {} {}", self.count, self.state)
     }
 }
+
+/// What a search for an arc found.
+#[derive(Clone, Copy, Debug, PartialEq, Eq, Hash)]
+pub struct Found {
+    /// The arc's index, or `None` if there is no such arc.
+    pub index: Option<u32>,
+    /// How many arcs were looked at, at most 10.
+    pub looks: u32,
+}

@@ -168,3 +168,10 @@ pub fn unpack(image: &[u8], nodes: &mut [u16], costs: &mut [u32]) -> Reply {
         )
     }
 }
+
+/// Find: looks for the arc from a node to another. Values: found (1 or 0), index (0 if there is none),
+/// looks.
+pub fn find(image: &[u8], tail: u32, head: u32) -> Reply {
+    // SAFETY: pointer and length are those of a slice that is borrowed for the call.
+    unsafe { raw::vihrolom_find(image.as_ptr(), image.len(), tail, head) }
+}

@@ -1,6 +1,6 @@
 //! An accepted network, and the calls on it.
 
-use crate::{calls, Choice, Path, Refusal, Regret, State};
+use crate::{calls, Choice, Found, Path, Refusal, Regret, State};
 
 /// The length of the longest image: 1,000 arcs and 8 columns.
 const LONGEST_IMAGE: usize = 24 + 4 * 1_000 * (1 + 8);
@@ -174,6 +174,15 @@ impl Network {
             } else {
                 State::Open { floor }
             },
+        })
+    }
+
+    /// The arc from a node to another, looked for by halving the range of the arcs.
+    pub fn find(&self, tail: u32, head: u32) -> Result<Found, Refusal> {
+        let [found, index, looks, ..] = calls::find(&self.image, tail, head).values()?;
+        Ok(Found {
+            index: (found == 1).then_some(index),
+            looks,
         })
     }
 

@@ -136,4 +136,7 @@ extern "C" {
         costs: *mut u32,
         costs_length: usize,
     ) -> Reply;
+
+    /// Find. v: found (1 or 0), index (0 if there is none), looks.
+    pub fn vihrolom_find(image: *const u8, image_length: usize, tail: u32, head: u32) -> Reply;
 }

@@ -1,4 +1,5 @@
 // A call's answer as eight numbers.
+use arc_calls::Found;
 use column_calls::Labelled;
 use column_calls::Listed;
 use column_calls::Routed;
@@ -17,6 +18,7 @@ ghost use Rattle.image.specs.Answers.{refused, checked};
 ghost use Rattle.packing.specs.Answers.{built, unpacked};
 ghost use Rattle.column_calls.specs.Answers.{labelled, routed, listed};
 ghost use Rattle.network_calls.specs.Answers.{regretted, decided};
+ghost use Rattle.arc_calls.specs.Answers.{found};
 ghost use Rattle.c_replies.specs.Replies.{numbers, reply-of};
 
 // refusal is 0 for a result, and v0 to v5 are then its values; it is else the number of the refusal, and
@@ -157,5 +159,16 @@ pub fn of_decided(answer: Decided) -> Reply
         Decided::Settled(found) => of_decision(found, 1, 0),
         Decided::Open(found, floor) => of_decision(found, 2, floor),
         Decided::Refused(refusal) => of_refusal(refusal),
+    }
+}
+
+// Find's answer.
+pub fn of_found(answer: Found) -> Reply
+    ensures { λ r. ⌜ numbers r ≡ reply-of (found answer) ⌝ }
+{
+    match answer {
+        Found::At(index, looks) => result(1, index, looks, 0, 0, 0),
+        Found::Nothing(looks) => result(0, 0, looks, 0, 0, 0),
+        Found::Refused(refusal) => of_refusal(refusal),
     }
 }

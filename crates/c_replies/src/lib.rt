@@ -5,6 +5,7 @@ pub use answers::Reply;
 pub use answers::of_built;
 pub use answers::of_checked;
 pub use answers::of_decided;
+pub use answers::of_found;
 pub use answers::of_labelled;
 pub use answers::of_listed;
 pub use answers::of_regretted;

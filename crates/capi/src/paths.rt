@@ -1,6 +1,8 @@
-// The calls of the path layer: Label, Shortest, Regret, Rank and Robust.
+// The calls of the path layer: Label, Shortest, Regret, Rank, Robust and Find.
+use arc_calls::find::find;
 use c_replies::Reply;
 use c_replies::of_decided;
+use c_replies::of_found;
 use c_replies::of_labelled;
 use c_replies::of_listed;
 use c_replies::of_regretted;
@@ -12,9 +14,12 @@ use network_calls::regret::regret;
 use network_calls::robust::robust;
 ghost use mathlib.Core.Path.{_≡_};
 ghost use lib.ListN.{length};
-ghost use Rattle.image.specs.Outcome.{after};
+ghost use Rattle.image.specs.Outcome.{sound, after};
+ghost use Rattle.image.specs.Layout.{netOf};
+ghost use Rattle.image.specs.Calls.{image-fault};
 ghost use Rattle.outcomes.specs.Calls.{cleared, label-fault, label-outcome, labels-of, shortest-fault, shortest-outcome, shortest-of, regret-outcome, rank-fault, rank-outcome, rank-rows-of, rank-costs-of, robust-fault, robust-outcome, robust-of, chosen};
 ghost use Rattle.outcomes.specs.Demands.{Kept2, Kept3};
+ghost use Rattle.arc_calls.specs.Calls.{FindsArc, find-of, find-outcome};
 ghost use Rattle.c_replies.specs.Replies.{numbers, reply-of};
 
 // REFERENCE, section 4.2. No values.
@@ -93,4 +98,15 @@ pub extern "C" fn vihrolom_robust(
 {
     let answer = robust(image, column, start, goal, wanted, path, work);
     of_decided(answer)
+}
+
+// REFERENCE, section 4.9. v0: 1 if the arc is found, 0 if not; v1: its index, 0 if not; v2: the number of
+// records looked at.
+#[no_mangle]
+pub extern "C" fn vihrolom_find(image: &[u8], tail: u32, head: u32) -> Reply
+    ensures { λ r. ⌜ numbers r ≡ reply-of (find-outcome (now (image .entry)) tail head) ⌝ }
+    ensures { λ _. ⌜ (image-fault (now (image .entry)) ≡ sound → FindsArc (netOf (now (image .entry)) .arcs) (tail, head) (find-of (now (image .entry)) tail head)) ⌝ }
+{
+    let answer = find(image, tail, head);
+    of_found(answer)
 }

@@ -10,6 +10,7 @@ ghost use Rattle.candidates.specs.Keeping.{Readable};
 ghost use Rattle.candidates.specs.Routes.{route-at, Rooted};
 ghost use Rattle.branching.specs.Found.{Ends};
 ghost use Rattle.measuring.specs.Columns.{network};
+ghost use Rattle.measuring.specs.Steps.{Measured};
 ghost use Rattle.choosing.specs.Counting.{Priced, Counted, Outlook};
 use crate::task::Task;
 use candidates::cost_at;
@@ -58,8 +59,8 @@ pub fn due(
     place < wanted
 }
 
-// The most that the path at the place `rank` costs beyond the bests, and its worst column. The path is laid
-// out in `path`; m is the number of arcs.
+// The most that the path at the place `rank` costs beyond the bests, and its worst column, if it is below the
+// limit. The path is laid out in `path`; m is the number of arcs.
 fn measure_at(
     task: Task,
     star: &[u16],
@@ -68,18 +69,18 @@ fn measure_at(
     bests: &[u64],
     work: &[u32],
     rank: usize,
+    limit: u64,
     path: &mut [u16],
 ) -> Measure
     requires { ⌜ Priced (task .n) m (task .start) (task .goal) (now star) (now costs) (now bests) ⌝ }
     requires { ⌜ Ends (task .n + 1) (task .start) (task .goal) × (task .n ≤ length (now path)) ⌝ }
     requires { ⌜ Rooted (task .n) (now work) rank × Path (column (network (task .n) m (length (now bests)) (now star) (now costs)) 1) (task .start) (task .goal) (route-at (task .start) (task .n) (now work) rank) ⌝ }
-    ensures { λ r. ⌜ r .figure ≡ figure-over (network (task .n) m (length (now (bests .entry))) (now (star .entry)) (now (costs .entry))) (now (bests .entry)) (route-at (task .start) (task .n) (now (work .entry)) rank) ⌝ }
-    ensures { λ r. ⌜ r .worst ≡ worst-over (network (task .n) m (length (now (bests .entry))) (now (star .entry)) (now (costs .entry))) (now (bests .entry)) (route-at (task .start) (task .n) (now (work .entry)) rank) ⌝ }
+    ensures { λ r. ⌜ Measured limit (figure-over (network (task .n) m (length (now (bests .entry))) (now (star .entry)) (now (costs .entry))) (now (bests .entry)) (route-at (task .start) (task .n) (now (work .entry)) rank)) (worst-over (network (task .n) m (length (now (bests .entry))) (now (star .entry)) (now (costs .entry))) (now (bests .entry)) (route-at (task .start) (task .n) (now (work .entry)) rank)) (r .figure) (r .worst) ⌝ }
 {
     let n = task.n;
     let len = length_at(work, n, rank);
     lay_out(work, n, rank, len, task.start, path);
-    measure(star, m, costs, bests, n, &path[..len])
+    measure(star, m, costs, bests, n, &path[..len], limit)
 }
 
 // Counts the path at the place `rank`, which is the next: it is measured, and leads from now on if its
@@ -100,8 +101,9 @@ pub fn count_path(
     ensures { λ r. ⌜ Counted (network (task .n) m (length (now (bests .entry))) (now (star .entry)) (now (costs .entry))) (now (bests .entry)) (route-at (task .start) (task .n) (now (work .entry)) rank) rank leader r ⌝ }
 {
     let mut path = [0u16; 200];
-    let found = measure_at(task, star, m, costs, bests, work, rank, &mut path);
-    if found.figure < leader.figure {
+    let limit = leader.figure;
+    let found = measure_at(task, star, m, costs, bests, work, rank, limit, &mut path);
+    if found.figure < limit {
         return Leader {
             place: rank,
             figure: found.figure,

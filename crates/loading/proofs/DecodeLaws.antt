@@ -3,21 +3,22 @@ use Prim.Native.Nat.{ℕ, zero, suc, _+_, _*_, _-_, _≤_, _<_}
 use native.Mathlib.Omega.{arith}
 use native.Mathlib.Nat.{eq-or-lt-of-le}
 use mathlib.Core.Path.{_≡_, refl, sym, _∙_, ap, subst}
-use mathlib.Core.Bool.{true}
 use mathlib.Core.Logic.{⊎-elim}
 use mathlib.Core.List.{List, [], _∷_, _++_, map, append-nil}
-use lib.Dec.{ltb, eqb}
 use lib.ListN.{length, getD, take, drop, length-map, drop-of-length-le, List·getD-map}
-use borrow.Author.Tests.{ltb-true, eqb-true}
-use Rattle.terms.specs.Network.{Net, weigh, cost-column, restrict, below, RisingFrom, no-more, next, ArcOf, Admitted}
-use Rattle.terms.proofs.ListLaws.{or-cases, and-both, getD-mem, le-or-lt}
+use Rattle.terms.specs.Network.{Net, weigh, cost-column, restrict, RisingFrom, no-more, next, ArcOf, Admitted}
+use Rattle.terms.proofs.ListLaws.{getD-mem, le-or-lt}
 use Rattle.terms.proofs.NetworkLaws.{restrict-admitted}
 use borrow.Rule.Slice.PartMut.{mid-len}
 use Rattle.image.specs.Bytes.{field, decode}
 use Rattle.image.specs.Layout.{edition, costs-start, arc-count, column-count, netOf}
 use Rattle.image.specs.declared.check.Sizes.{Sizes}
+use Rattle.image.specs.Outcome.{sound}
+use Rattle.image.specs.Calls.{image-fault}
+use Rattle.image.proofs.CheckLaws.{Sized}
 use Rattle.image.proofs.NetworkLaws.{accepted-network, length-columns}
 use Rattle.star.specs.Arcs.{graph, Arcs}
+use Rattle.star.proofs.SearchLaws.{Below, lower-tail, lower-head, below-is}
 use Rattle.loading.specs.Accepted.{Accepted, InColumn}
 use Rattle.loading.specs.Selected.{Indices, selected}
 use Rattle.loading.proofs.PartLaws.{length-arcs, length-to, arc-at, column-inside, column-at}
@@ -51,15 +52,6 @@ graph-weigh (a ∷ l) [] = refl
 graph-weigh (a ∷ l) (w ∷ ws) = ap (λ g. record { tail = a .0; head = a .1; weight = w } ∷ g) (graph-weigh l ws)
 
 -- ---- the order of the arcs
--- what it is that one arc is below another
-pub data Below (a b : ℕ × ℕ) : Type 0 where
-  lower-tail : a .0 < b .0 → Below a b
-  lower-head : a .0 ≡ b .0 → a .1 < b .1 → Below a b
-
-below-is : {a b : ℕ × ℕ} → below a b ≡ true → Below a b
-unfolding below
-below-is {a} {b} e = ⊎-elim (λ h. lower-tail (ltb-true _ _ h)) (λ h. let k = and-both (eqb (a .0) (b .0)) (ltb (a .1) (b .1)) h in lower-head (eqb-true _ _ (k .0)) (ltb-true _ _ (k .1))) (or-cases e)
-
 below-trans : {a b c : ℕ × ℕ} → Below a b → Below b c → Below a c
 below-trans (lower-tail h) (lower-tail k) = lower-tail (omega arith)
 below-trans (lower-tail h) (lower-head e k) = lower-tail (omega arith)
@@ -132,6 +124,11 @@ module _ {e : ℕ} {net : Net} (ok : Admitted e net) where
   arcs-decoded = decoded (tails (net .arcs)) (heads (net .arcs)) refl refl
 
 -- ---- an accepted image
+-- Check's answer says of it: these are its sizes
+pub accepted-of : {b : List ℕ} {sizes : Sizes} → image-fault b ≡ sound → Sized b (sizes .n) (sizes .m) (sizes .k) (sizes .edition) → Accepted b sizes
+unfolding netOf
+accepted-of {b} ok s = record { passes = ok; nodes-are = s .n-is; arcs-are = s .m-is ∙ sym (length-arcs b ok); columns-are = s .k-is ∙ sym (length-columns b); edition-is = s .e-is }
+
 module _ {b : List ℕ} {sizes : Sizes} (a : Accepted b sizes) where
   pub admitted : Admitted (edition b) (netOf b)
   admitted = accepted-network b (a .passes)

@@ -1,5 +1,5 @@
 -- A loaded column, and the arcs that are open in every column, from what is read and labelled. Assumes nothing.
-use Prim.Native.Nat.{ℕ, _+_, _*_, _≤_, _<_}
+use Prim.Native.Nat.{ℕ, _+_, _≤_, _<_}
 use native.Mathlib.Omega.{arith}
 use mathlib.Core.Path.{_≡_, sym, _∙_, ap, subst}
 use mathlib.Core.Bool.{true, not}
@@ -8,7 +8,7 @@ use lib.Dec.{eqb}
 use lib.ListN.{length, getD, length-map}
 use borrow.Author.Tests.{eqb-false, not-true}
 use Rattle.terms.specs.Lists.{_∈_}
-use Rattle.terms.specs.Network.{Net, mark, cost-column, column, restrict, open-in, open-everywhere, common, Cost, at-most, marked, Admitted}
+use Rattle.terms.specs.Network.{Net, mark, cost-column, column, restrict, open-in, common, Cost, at-most, marked, Admitted}
 use Rattle.terms.proofs.ListLaws.{pick-mem, getD-mem}
 use Rattle.terms.proofs.NetworkLaws.{costs-restrict, costs-mem, costs-long, restrict-admitted, restrict-columns, restrict-nodes, column-open, column-unmarked}
 use Rattle.star.specs.Arcs.{graph, Arcs}

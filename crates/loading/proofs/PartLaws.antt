@@ -14,7 +14,7 @@ use Rattle.image.specs.Bytes.{number, field, decode}
 use Rattle.image.specs.Outcome.{sound}
 use Rattle.image.specs.Layout.{arc-count, column-count, costs-start, nodes-in, costs-in, node-list, cost-list, netOf}
 use Rattle.image.specs.Calls.{image-fault}
-use Rattle.image.proofs.ByteLaws.{decode-at, length-decode}
+use Rattle.image.proofs.ByteLaws.{decode-at}
 use Rattle.image.proofs.RowLaws.{pairs-at, length-pairs}
 use Rattle.loading.specs.Selected.{Indices, at-places}
 use Rattle.loading.proofs.SelectLaws.{index-below}

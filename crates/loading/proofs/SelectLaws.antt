@@ -3,7 +3,7 @@ use Prim.Native.Nat.{ℕ, zero, suc, _+_, _-_, _≤_, _<_}
 use native.Mathlib.Omega.{arith}
 use native.Mathlib.Numerals.{add-one}
 use native.Mathlib.Nat.{eq-or-lt-of-le}
-use mathlib.Core.Path.{_≡_, refl, sym, _∙_, ap, ap₂, subst, fun-ext}
+use mathlib.Core.Path.{_≡_, refl, sym, _∙_, ap, subst, fun-ext}
 use mathlib.Core.Bool.{Bool, true, false, not, _&&_}
 use mathlib.Core.Logic.{_≢_, ⊎-elim}
 use mathlib.Core.List.{List, [], _∷_, _++_, map, append-nil, Memᴰ·of-map}
@@ -161,6 +161,10 @@ pub selected-costs : (ks : List ℕ) (net : Net) (u : ℕ) → 1 ≤ u → u ≤
 unfolding cost-column
 selected-costs ks net u lo hi = selected-column ks net (u - 1) (omega arith)
 
+-- all arcs are the whole network
+pub selected-all : {e : ℕ} {net : Net} → Admitted e net → {m : ℕ} → m ≡ length (net .arcs) → selected (numbers 0 m) net ≡ net
+selected-all {net = net} ok {m} count = selected-restrict ok (λ _. true) {ks = numbers 0 m} count (sym (keep-all (λ _. true) (numbers 0 m) (λ x h. refl))) ∙ restrict-all (λ _. true) net (λ _. refl)
+
 -- where as many arcs are open in every column as there are, all are
 pub common-all : {e : ℕ} {net : Net} → Admitted e net → length (common net .arcs) ≡ length (net .arcs) → common net ≡ net
 unfolding common
@@ -169,5 +173,4 @@ common-all {net = net} ok same =
     let is = selected-restrict ok (open-everywhere net) {ks = ks} refl refl in
     let I : Indices (length (net .arcs)) ks = record { test = open-everywhere net; are = refl } in
     let long : length ks ≡ length (net .arcs) = sym (selected-length ks net) ∙ ap (λ x. length (x .arcs)) is ∙ same in
-    let every = selected-restrict ok (λ _. true) {ks = numbers 0 (length (net .arcs))} refl (sym (keep-all (λ _. true) (numbers 0 (length (net .arcs))) (λ x h. refl))) in
-    sym is ∙ ap (λ k. selected k net) (indices-all I long) ∙ every ∙ restrict-all (λ _. true) net (λ _. refl)
+    sym is ∙ ap (λ k. selected k net) (indices-all I long) ∙ selected-all ok refl

@@ -5,7 +5,7 @@ use star::assemble;
 use star::chain;
 use star::out_starts;
 ghost use mathlib.Core.Path.{_≡_};
-ghost use Prim.Native.Nat.{_+_, _*_};
+ghost use Prim.Native.Nat.{_+_};
 ghost use lib.ListN.{length};
 ghost use Rattle.image.specs.Layout.{netOf};
 ghost use Rattle.loading.specs.Accepted.{Accepted};

@@ -8,3 +8,5 @@ mod selecting;
 pub use loading::label_nodes;
 pub use loading::load;
 pub use loading::load_common;
+pub use reading::read_arcs;
+pub use selecting::number_arcs;

@@ -15,7 +15,7 @@ ghost use Rattle.loading.specs.Accepted.{Accepted, InColumn};
 ghost use Rattle.loading.specs.Selected.{passing, Indices, unmarked-at};
 
 // The indices of all arcs: 0, 1 and so on.
-fn number_arcs(kept: &mut [u16])
+pub fn number_arcs(kept: &mut [u16])
     requires { ⌜ length (now kept) ≤ 1000 ⌝ }
     ensures { λ _. ⌜ now (kept .exit) ≡ numbers 0 (length (now (kept .entry))) ⌝ }
 {

@@ -6,7 +6,7 @@ use native.Mathlib.Nat.{eq-or-lt-of-le}
 use mathlib.Core.Path.{_≡_, refl, sym, _∙_, ap, ap₂, subst}
 use mathlib.Core.Bool.{true}
 use mathlib.Core.Logic.{⊎-elim}
-use mathlib.Core.List.{List, [], _∷_}
+use mathlib.Core.List.{List, [], _∷_, Memᴰ·map}
 use lib.Dec.{eqb}
 use lib.ListN.{length, getD, set, take, drop, length-take}
 use lib.Seq.{drop-cons, drop-length, getD-take}
@@ -14,7 +14,7 @@ use Rattle.terms.specs.Lists.{largest, index}
 use Rattle.terms.specs.Network.{Graph, linked, column}
 use Rattle.terms.specs.Paths.{Route, ByArcs, along, single, cost, cost-from}
 use Rattle.terms.specs.Regret.{over, figure-over, worst-over}
-use Rattle.terms.proofs.ListLaws.{getD-mem, map-numbers}
+use Rattle.terms.proofs.ListLaws.{getD-mem, map-numbers, largest-ge, mem-numbers}
 use Rattle.star.specs.Arcs.{graph, Arcs, At}
 use Rattle.star.proofs.ArcLaws.{at-weight, tail-within, later-within}
 use Rattle.star.proofs.Stores.{set-each}
@@ -22,8 +22,13 @@ use Rattle.star.specs.Star.{Star}
 use Rattle.star.specs.Layout.{tails-of, heads-of, outs-of}
 use Rattle.terms.proofs.PathLaws.{arcs-linked}
 use Rattle.measuring.specs.Columns.{Columns, network, column-costs}
-use Rattle.measuring.specs.Steps.{Starred, Steps, sum-of, excess, excesses, Summed}
+use Rattle.measuring.specs.Steps.{Starred, Steps, sum-of, excess, excesses, Measured, Summed}
 use Rattle.measuring.proofs.ColumnLaws.{length-columns, held-column, column-full, columns-arcs, columns-star, columns-few}
+
+-- what the arcs cost beyond the best of one column is no more than the largest
+pub excess-within : (m : ℕ) (costs bests arcs : List ℕ) (u : ℕ) → 1 ≤ u → u ≤ length bests → excess m costs bests arcs u ≤ largest (excesses m costs bests arcs)
+unfolding excesses
+excess-within m costs bests arcs u lo hi = largest-ge (Memᴰ·map (excess m costs bests arcs) (mem-numbers 1 (length bests) u lo (omega arith)))
 
 -- ---- sums
 pub sum-more : (ws arcs : List ℕ) (i : ℕ) → i < length arcs → sum-of ws (drop i arcs) ≡ getD ws (getD arcs i 0) 0 + sum-of ws (drop (i + 1) arcs)
@@ -104,7 +109,7 @@ module _ (bests : List ℕ) {n m : ℕ} {s costs path : List ℕ} (C : Columns n
     unfolding over excesses excess
     over-is = rw (length-columns n m (length bests) s costs) (map-numbers _ (excess m costs bests (take (length path - 1) arcs)) 1 (length bests) (λ u lo hi. ap (λ x. x - getD bests (u - 1) 0) (cost-is u lo (omega arith))))
 
-    pub measured-path : {f w : ℕ} → f ≡ largest (excesses m costs bests (take (length path - 1) arcs)) → w ≡ suc (index (eqb f) (excesses m costs bests (take (length path - 1) arcs)))
-        → (f ≡ figure-over (network n m (length bests) s costs) bests path) × (w ≡ worst-over (network n m (length bests) s costs) bests path)
+    pub measured-path : {limit f w : ℕ} → Measured limit (largest (excesses m costs bests (take (length path - 1) arcs))) (suc (index (eqb (largest (excesses m costs bests (take (length path - 1) arcs)))) (excesses m costs bests (take (length path - 1) arcs)))) f w
+        → Measured limit (figure-over (network n m (length bests) s costs) bests path) (worst-over (network n m (length bests) s costs) bests path) f w
     unfolding figure-over worst-over
-    measured-path e g = let f-is = e ∙ ap largest (sym over-is) in (f-is, g ∙ ap₂ (λ x l. suc (index (eqb x) l)) f-is (sym over-is))
+    measured-path {limit} {f} {w} r = subst (λ l. Measured limit (largest l) (suc (index (eqb (largest l)) l)) f w) (sym over-is) r

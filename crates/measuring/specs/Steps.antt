@@ -28,6 +28,11 @@ excess m costs bests arcs u = sum-of (column-costs m costs u) arcs - getD bests 
 unfoldable pub excesses : ℕ → List ℕ → List ℕ → List ℕ → List ℕ
 excesses m costs bests arcs = map (excess m costs bests arcs) (numbers 1 (length bests))
 
+-- a measure that may stop at a limit: below the limit it is the figure with its worst column, and else the figure is no less than the limit
+pub record Measured (limit figure worst f w : ℕ) : Type 0 where
+  pub exact : f < limit → (f ≡ figure) × (w ≡ worst)
+  pub beyond : limit ≤ f → limit ≤ figure
+
 -- arcs that can be summed in each column, and cost the bests at least
 pub record Summed (m : ℕ) (costs bests arcs : List ℕ) : Type 0 where
   pub columns-from : 1 ≤ length bests

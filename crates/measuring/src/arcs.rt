@@ -1,6 +1,6 @@
 // The arcs of a path.
 use star::Arc;
-use star::find_arc;
+use star::arc_between;
 ghost use mathlib.Core.Path.{_≡_};
 ghost use mathlib.Core.Bool.{true};
 ghost use mathlib.Core.List.{List};
@@ -17,8 +17,8 @@ fn arc_index(heads: &[u16], first_out: &[u16], v: usize, y: u16) -> u16
     requires { ⌜ (v + 1 < length (now «first_out»)) × (getD (now «first_out») (v + 1) 0 ≤ length (now heads)) ⌝ }
     ensures { λ r. ⌜ ((n : ℕ) (ts ws : List ℕ) → Arcs n ts (now (heads .entry)) ws → Star n ts (now (heads .entry)) (now («first_out» .entry)) → linked (graph ts (now (heads .entry)) ws) v y ≡ true → At ts (now (heads .entry)) v y r) ⌝ }
 {
-    let found = find_arc(heads, first_out, v, y);
-    let Arc::At(i) = found else {
+    let found = arc_between(heads, first_out, v, y);
+    let Arc::At(i, _) = found else {
         return 0;
     };
     i

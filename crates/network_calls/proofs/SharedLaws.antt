@@ -17,7 +17,7 @@ use Rattle.terms.specs.Regret as regret
 use Rattle.terms.specs.Robust as terms
 use Rattle.terms.specs.Robust.{robust}
 use Rattle.terms.proofs.ColumnLaws.{cut-at}
-use Rattle.terms.proofs.ListLaws.{getD-mem, mem-length, mem-place}
+use Rattle.terms.proofs.ListLaws.{le-or-lt, getD-mem, mem-length, mem-place}
 use Rattle.terms.proofs.PathLaws.{Within, column-within, path-listed}
 use Rattle.terms.proofs.RankingLaws.{path-ranked}
 use Rattle.terms.proofs.RegretLaws.{best-le, label-reached}
@@ -29,7 +29,6 @@ use Rattle.image.specs.declared.check.Sizes.{Sizes}
 use Rattle.star.specs.Layout.{tails-of, heads-of, graph-of, Network}
 use Rattle.labels.specs.Labels.{far, Least}
 use Rattle.loading.specs.Accepted.{Accepted, Ends}
-use Rattle.loading.specs.Selected.{in-a-row}
 use Rattle.loading.specs.Loaded.{Loaded, Shared}
 use Rattle.loading.proofs.RowLaws.{row-length, row-cut, row-mem}
 use Rattle.loading.proofs.SelectLaws.{common-all}
@@ -38,6 +37,7 @@ use Rattle.loading.proofs.ShapeLaws.{shape-network, shape-graph}
 use Rattle.ranking.specs.Ranking.{Problem}
 use Rattle.ranking.proofs.ResultLaws.{problem-of}
 use Rattle.measuring.specs.Bests.{Joined, Labelled}
+use Rattle.measuring.specs.Steps.{Measured}
 use Rattle.measuring.specs.Columns.{arc-pairs, network, column-costs, Columns}
 use Rattle.measuring.proofs.ColumnLaws.{column-part, column-inside, column-full}
 use Rattle.measuring.proofs.BestLaws.{start-best, filled-all}
@@ -242,14 +242,21 @@ module _ {b : List ℕ} {sizes : Sizes} (a : Accepted b sizes) {m : ℕ} {star c
       pub path-for : Path (column (network n m (length bests) star costs) 1) s t p
       path-for = subst (λ x. Path (column x 1) s t p) (sym network-for) (path-common (admitted a) 1 (omega arith) (admitted a .columns-from) q)
 
-      pub measured-for : {f w : ℕ} → f ≡ figure-over (network n m (length bests) star costs) bests p → w ≡ worst-over (network n m (length bests) star costs) bests p → (f ≡ figure net s t p) × (w ≡ worst net s t p)
+      measured-for : {f w : ℕ} → f ≡ figure-over (network n m (length bests) star costs) bests p → w ≡ worst-over (network n m (length bests) star costs) bests p → (f ≡ figure net s t p) × (w ≡ worst net s t p)
       measured-for e g = (
         e ∙ ap₂ (λ x l. figure-over x l p) network-for (H .bests-are) ∙ sym (over-figure (admitted a) s t (ends .start-in .from) (ends .start-in .upto) q),
         g ∙ ap₂ (λ x l. worst-over x l p) network-for (H .bests-are) ∙ sym (over-worst (admitted a) s t (ends .start-in .from) (ends .start-in .upto) q),
       )
 
-      pub figure-small : {f : ℕ} → f ≡ figure-over (network n m (length bests) star costs) bests p → f ≤ 199000000
-      figure-small e = omega (arith, figure-to priced-for p path-for)
+      -- no figure reaches a limit above 199,000,000
+      pub measured-below : {limit f w : ℕ} → 199000000 < limit → Measured limit (figure-over (network n m (length bests) star costs) bests p) (worst-over (network n m (length bests) star costs) bests p) f w → ((f ≡ figure net s t p) × (w ≡ worst net s t p)) × (f ≤ 199000000)
+      measured-below {limit} {f} {w} high r = (measured-for (is .0) (is .1), omega (arith, is .0, small))
+        where
+          small : figure-over (network n m (length bests) star costs) bests p ≤ 199000000
+          small = figure-to priced-for p path-for
+
+          is : (f ≡ figure-over (network n m (length bests) star costs) bests p) × (w ≡ worst-over (network n m (length bests) star costs) bests p)
+          is = r .exact (⊎-elim (λ h. absurd (omega (arith, r .beyond h, small))) (λ h. h) (le-or-lt limit f))
 
     -- what the search is given: the part of the costs that is lent for column r
     module _ {r : ℕ} (from : 1 ≤ r) (upto : r ≤ sizes .k) (k-is : length bests ≡ sizes .k) where

@@ -5,6 +5,7 @@ use super::pricing::price;
 use image::Checked;
 use image::Refusal;
 use image::Sizes;
+use labels::FAR;
 use loading::load_common;
 use measuring::measure;
 use outcomes::check_costs;
@@ -54,7 +55,8 @@ fn measure_path(
     let none = [0u64; 1];
     price(image, sizes, m, star, costs, &none, start, goal, 0, bests);
     let n = sizes.n as usize;
-    let found = measure(star, m, costs, bests, n, nodes);
+    // no figure comes near to it
+    let found = measure(star, m, costs, bests, n, nodes, FAR);
     Measure {
         figure: found.figure as u32,
         worst: found.worst,

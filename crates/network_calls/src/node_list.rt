@@ -1,6 +1,6 @@
 // Node lists: whether one is a path, and where it fails.
 use star::Arc;
-use star::find_arc;
+use star::arc_between;
 ghost use mathlib.Core.Path.{_≡_};
 ghost use mathlib.Core.List.{List};
 ghost use Prim.Native.Nat.{ℕ, _+_};
@@ -25,8 +25,8 @@ fn first_error(heads: &[u16], first_out: &[u16], nodes: &[u16]) -> usize
 {
     let mut at = 1;
     'search: while at < nodes.len() {
-        let found = find_arc(heads, first_out, nodes[at - 1] as usize, nodes[at]);
-        let Arc::At(_) = found else {
+        let found = arc_between(heads, first_out, nodes[at - 1] as usize, nodes[at]);
+        let Arc::At(_, _) = found else {
             break 'search;
         };
         let mut i = 0;

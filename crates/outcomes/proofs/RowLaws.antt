@@ -20,7 +20,7 @@ use Rattle.image.specs.declared.check.Sizes.{Sizes}
 use Rattle.image.proofs.OutcomeLaws.{outcome-fault, then-fault, then-next, then-sound, row-sound, gives-sound}
 use Rattle.image.proofs.CheckLaws.{sized, same-sizes, rejected}
 use Rattle.loading.proofs.PartLaws.{length-arcs}
-use Rattle.loading.proofs.DecodeLaws.{admitted}
+use Rattle.loading.proofs.DecodeLaws.{accepted-of, admitted}
 use Rattle.image.proofs.NetworkLaws.{accepted-network, length-columns}
 use Rattle.outcomes.specs.Calls.{ends-row, goal-row, column-row, room-row, list-row, count-row, workspace, search-rows, ranking-rows, label-fault, list-rows}
 use Rattle.loading.specs.Accepted.{Accepted, Node, InColumn, Ends}
@@ -43,12 +43,7 @@ never e = let z : _≡_ {A = ℕ} 0 1 = cc in absurd (omega arith)
 
 -- ---- what an answer that gives sizes says: the rows so far are sound, the image is accepted, and these are its sizes
 pub given-sizes : {b : List ℕ} (f : Fault) {z : Sizes} → (f ≡ sound → image-fault b ≡ sound) → gives (size-list z) ≡ outcome f (sizes b) → (f ≡ sound) × Accepted b z
-unfolding netOf
-given-sizes {b} f first e =
-    let g = gives-sound f (sizes b) e in
-    let s = sized b (g .1) in
-    let ok = first (g .0) in
-    (g .0, record { passes = ok; nodes-are = s .n-is; arcs-are = s .m-is ∙ sym (length-arcs b ok); columns-are = s .k-is ∙ sym (length-columns b); edition-is = s .e-is })
+given-sizes {b} f first e = let g = gives-sound f (sizes b) e in (g .0, accepted-of (first (g .0)) (sized b (g .1)))
 
 pub given-network : {b : List ℕ} {z : Sizes} → gives (size-list z) ≡ check-outcome b → Accepted b z
 unfolding check-outcome

@@ -23,14 +23,12 @@ use Rattle.candidates.specs.Bars.{barred}
 use Rattle.candidates.specs.Placing.{Placed}
 use Rattle.branching.specs.Branches.{Branch, branch, In, First}
 use Rattle.exits.specs.Exits.{Unmarked}
-use Rattle.branching.specs.Found.{Ahead, Extent, FirstFound}
+use Rattle.branching.specs.Found.{Ahead}
 use Rattle.ranking.specs.Pool.{Candidate}
 use Rattle.ranking.specs.Ranking.{Problem, Filled, Deviation, Changed, Settled, TooDear}
 use Rattle.exits.specs.Small.{longest}
 use Rattle.ranking.specs.State.{branch-of, Beyond, Entered, Searching, taking-over}
 use Rattle.exits.specs.Walks.{Consistent, Exit, Choice}
-use Rattle.branching.specs.declared.first.Found.{Found}
-use Rattle.branching.specs.declared.first.Found.the-variants.{Tail, Empty}
 use Rattle.branching.proofs.FirstLaws.{branch-empty, branch-floor}
 use Rattle.ranking.proofs.SearchLaws.{none-found, all-lost, too-dear}
 use Rattle.ranking.proofs.StateLaws.{entry-cost, length-done, length-candidates, last-candidate, entered-put, ranked-kept, search-put}

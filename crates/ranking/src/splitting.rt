@@ -25,15 +25,15 @@ use candidates::set_bars;
 use candidates::shared_at;
 use candidates::tail_length_at;
 use star::Arc;
-use star::find_arc;
+use star::arc_between;
 
 // The weight of the arc from v to y.
 fn arc_weight(heads: &[u16], weights: &[u32], first_out: &[u16], v: usize, y: u16) -> u32
     requires { ⌜ (v + 1 < length (now «first_out»)) × (getD (now «first_out») (v + 1) 0 ≤ length (now heads)) × (length (now weights) ≡ length (now heads)) ⌝ }
     ensures { λ r. ⌜ ((n : ℕ) (ts : List ℕ) → Arcs n ts (now (heads .entry)) (now (weights .entry)) → Star n ts (now (heads .entry)) (now («first_out» .entry)) → linked (graph ts (now (heads .entry)) (now (weights .entry))) v y ≡ true → r ≡ weight (graph ts (now (heads .entry)) (now (weights .entry))) v y) ⌝ }
 {
-    let found = find_arc(heads, first_out, v, y);
-    let Arc::At(i) = found else {
+    let found = arc_between(heads, first_out, v, y);
+    let Arc::At(i, _) = found else {
         return 0;
     };
     weights[i as usize]

@@ -1,5 +1,6 @@
 pub mod Stores
 pub mod ArcLaws
+pub mod SearchLaws
 pub mod StarLaws
 pub mod NetworkLaws
 pub mod LayoutLaws

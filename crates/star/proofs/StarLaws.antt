@@ -2,7 +2,7 @@
 use Prim.Native.Nat.{ℕ, _+_, _≤_, _<_}
 use native.Mathlib.Omega.{arith}
 use native.Mathlib.Nat.{eq-or-lt-of-le}
-use mathlib.Core.Path.{_≡_, refl}
+use mathlib.Core.Path.{_≡_, refl, sym, _∙_}
 use mathlib.Core.Bool.{Bool, true, false}
 use mathlib.Core.Logic.{⊎-elim}
 use mathlib.Core.List.{List}
@@ -11,7 +11,9 @@ use Rattle.terms.proofs.ListLaws.{le-or-lt, clash}
 use Rattle.star.specs.Arcs.{Arcs, At}
 use Rattle.star.proofs.Stores.{set-each}
 use Rattle.star.specs.Star.{Star, RisingTails, Comes, Cut}
-use Rattle.star.specs.Found.{ArcFound, here, missing}
+use Rattle.star.specs.Search.{Rising, Finds}
+use Rattle.star.specs.Found.{sought, ArcFound, here, missing}
+use Rattle.star.proofs.SearchLaws.{below-of}
 use Rattle.star.specs.declared.arcs.Arc.{Arc}
 use Rattle.star.specs.declared.arcs.Arc.the-variants as arc
 
@@ -67,7 +69,7 @@ star-of {n} {ts} {hs} {first = first} arcs rising long cuts = record {
 pub up-to : (P : ℕ → Type 0) (a i : ℕ) → ((j : ℕ) → a ≤ j → j < i → P j) → P i → (j : ℕ) → a ≤ j → j < i + 1 → P j
 up-to P a i h p j lo hi = ⊎-elim (λ e. rw e p) (λ k. h j lo k) (eq-or-lt-of-le {n = j} {m = i} (omega arith))
 
--- ---- the arc from v to y is looked for among those out of v
+-- ---- the arc from v to y is one of those out of v
 module _ {n : ℕ} {ts hs first : List ℕ} (star : Star n ts hs first) {v y : ℕ} (node : v ≤ n) where
   pub arc-at : (i : ℕ) → getD first v 0 ≤ i → i < getD first (v + 1) 0 → getD hs i 0 ≡ y → At ts hs v y i
   arc-at i lo hi e = record { below = omega (arith, star .within (v + 1) (omega arith)); tail-is = star .out-of v i node lo hi; head-is = e }
@@ -75,16 +77,26 @@ module _ {n : ℕ} {ts hs first : List ℕ} (star : Star n ts hs first) {v y : �
   pub arc-among : {i : ℕ} → At ts hs v y i → (getD first v 0 ≤ i) × (i < getD first (v + 1) 0)
   arc-among {i} a = star .out v i node (a .below) (a .tail-is)
 
+-- whose heads rise
+out-rising : {n : ℕ} {ts hs first : List ℕ} → Star n ts hs first → (v : ℕ) → v ≤ n → Rising hs hs (getD first v 0) (getD first (v + 1) 0)
+out-rising {hs = hs} star v node = record { rises = λ i j lo h hi. let l = star .rising i j h (omega (arith, star .within (v + 1) (omega arith))) (star .out-of v i node lo (omega arith) ∙ sym (star .out-of v j node (omega arith) hi)) in below-of (getD hs i 0) (getD hs i 0) (getD hs j 0) (getD hs j 0) (omega arith) (λ _. l) }
+
+-- so what the search gives there, by heads, is the arc
+pub arc-found : {hs first : List ℕ} {v y : ℕ} (r : Arc) → v + 1 < length first → getD first (v + 1) 0 ≤ length hs → Finds hs hs (y, y) (getD first v 0) (getD first (v + 1) 0) (sought r) → ArcFound hs first v y r
+arc-found (arc.At i looks) v-in within f = let m = f .index-right i refl in here {i = i} (omega (arith, m .upto)) (m .head-is) (λ n ts star. arc-at star (omega (arith, star .long)) i (m .from) (m .upto) (m .head-is))
+arc-found {v = v} (arc.Nothing looks) v-in within f =
+    missing (λ n ts star i a. let node : v ≤ n = omega (arith, star .long) in let o = arc-among star node a in f .none-right (out-rising star v node) refl i (record { from = o .0; upto = o .1; tail-is = a .head-is; head-is = a .head-is }))
+
 -- ---- what was found
 module _ {hs first : List ℕ} {v y : ℕ} where
-  pub found-index : {i : ℕ} {r : Arc} → ArcFound hs first v y r → r ≡ arc.At i → (i < length hs) × (getD hs i 0 ≡ y)
+  pub found-index : {i looks : ℕ} {r : Arc} → ArcFound hs first v y r → r ≡ arc.At i looks → (i < length hs) × (getD hs i 0 ≡ y)
   found-index {i = j} (here {i} h e a) t = let q : j ≡ i = cc in rw q (h, e)
   found-index (missing n) t = let z : _≡_ {A = ℕ} 0 1 = cc in absurd (omega arith)
 
-  pub found-at : {i n : ℕ} {ts : List ℕ} {r : Arc} → ArcFound hs first v y r → r ≡ arc.At i → Star n ts hs first → At ts hs v y i
-  found-at {i = j} {n} {ts} (here {i} h e a) t s = let q : j ≡ i = cc in rw q (a n ts s)
+  pub found-at : {i looks n : ℕ} {ts : List ℕ} {r : Arc} → ArcFound hs first v y r → r ≡ arc.At i looks → Star n ts hs first → At ts hs v y i
+  found-at {i = j} {n = n} {ts = ts} (here {i} h e a) t s = let q : j ≡ i = cc in rw q (a n ts s)
   found-at (missing n) t s = let z : _≡_ {A = ℕ} 0 1 = cc in absurd (omega arith)
 
-  pub none-found : {n : ℕ} {ts : List ℕ} {r : Arc} → ArcFound hs first v y r → r ≡ arc.Nothing → Star n ts hs first → (i : ℕ) → At ts hs v y i → ⊥
+  pub none-found : {looks n : ℕ} {ts : List ℕ} {r : Arc} → ArcFound hs first v y r → r ≡ arc.Nothing looks → Star n ts hs first → (i : ℕ) → At ts hs v y i → ⊥
   none-found (here h e a) t s = let z : _≡_ {A = ℕ} 0 1 = cc in absurd (omega arith)
-  none-found {n} {ts} (missing none) t s = none n ts s
+  none-found {n = n} {ts = ts} (missing none) t s = none n ts s

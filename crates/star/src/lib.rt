@@ -8,6 +8,7 @@ mod chains;
 mod outs;
 
 pub use arcs::Arc;
+pub use arcs::arc_between;
 pub use arcs::find_arc;
 pub use assembling::assemble;
 pub use chains::chain;

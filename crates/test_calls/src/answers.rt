@@ -1,4 +1,5 @@
 // The answer of a call as numbers: its values, or the refusal's number and place.
+use arc_calls::Found;
 use column_calls::Labelled;
 use column_calls::Listed;
 use column_calls::Routed;
@@ -12,6 +13,7 @@ use network_calls::Decision;
 use network_calls::Regretted;
 use packing::Built;
 use packing::Unpacked;
+use test_fixtures::plain_image::Header;
 use test_fixtures::slices::holds_numbers;
 
 // A refusal's number and place; or the number 0, the place 0 and the values that the call gave,
@@ -39,12 +41,12 @@ pub fn single(value: u32) -> Answer {
     }
 }
 
-// Check's and Unpack's result.
-pub fn sizes(n: u32, m: u32, k: u32) -> Answer {
+// Check's and Unpack's result: n, m, k and the edition.
+pub fn sizes(header: Header, m: u32) -> Answer {
     Answer {
         number: 0,
         place: 0,
-        values: [n, m, k, 0, 0, 0],
+        values: [header.n, m, header.k, header.edition, 0, 0],
     }
 }
 
@@ -85,8 +87,17 @@ fn of_refusal(row: Refusal) -> Answer {
     refusal(number(row), place(row))
 }
 
+// The edition, n and k of an image that was taken.
+pub fn header_of(given: Sizes) -> Header {
+    Header {
+        edition: given.edition,
+        n: given.n,
+        k: given.k,
+    }
+}
+
 fn of_sizes(given: Sizes) -> Answer {
-    sizes(given.n, given.m, given.k)
+    sizes(header_of(given), given.m)
 }
 
 pub fn of_check(answer: Checked) -> Answer {
@@ -151,6 +162,23 @@ pub fn of_robust(answer: Decided) -> Answer {
         Decided::Settled(given) => of_settled(given),
         Decided::Open(given, floor) => of_open(given, floor),
         Decided::Refused(row) => of_refusal(row),
+    }
+}
+
+// Find's result: 1 or 0, the index, and the number of looks.
+pub fn found(is_found: u32, index: u32, looks: u32) -> Answer {
+    Answer {
+        number: 0,
+        place: 0,
+        values: [is_found, index, looks, 0, 0, 0],
+    }
+}
+
+pub fn of_find(answer: Found) -> Answer {
+    match answer {
+        Found::At(index, looks) => found(1, index, looks),
+        Found::Nothing(looks) => found(0, 0, looks),
+        Found::Refused(row) => of_refusal(row),
     }
 }
 

@@ -2,6 +2,7 @@
 // held to their answers.
 
 pub mod answers;
+pub mod find_calls;
 pub mod path_calls;
 pub mod rank_calls;
 pub mod refused_images;

@@ -1,5 +1,6 @@
 // The calls of the path layer on an image that is refused.
 use super::answers::Answer;
+use super::find_calls::find_agrees;
 use super::path_calls::label_agrees;
 use super::path_calls::regret_agrees;
 use super::path_calls::shortest_agrees;
@@ -10,6 +11,7 @@ use super::rank_calls::rank_agrees;
 use super::robust_calls::RouteRooms;
 use super::robust_calls::needed_route_rooms;
 use super::robust_calls::robust_agrees;
+use test_fixtures::report::FIND;
 use test_fixtures::report::LABEL;
 use test_fixtures::report::RANK;
 use test_fixtures::report::REGRET;
@@ -64,6 +66,8 @@ pub fn note_refused_paths(mut report: Report, image: &[u8], expected: Answer) ->
     report = report.note(SHORTEST, shortest_agrees(image, 0, 0, 0, 0, expected, &[]));
     report = report.note(REGRET, regret_agrees(image, 1, 4, &[1, 3, 4], expected));
     report = report.note(REGRET, regret_agrees(image, 0, 0, &[], expected));
+    report = report.note(FIND, find_agrees(image, 1, 2, expected));
+    report = report.note(FIND, find_agrees(image, 0, 0, expected));
     report = note_refused_ranks(report, image, expected);
     note_refused_robusts(report, image, expected)
 }

@@ -1,4 +1,7 @@
-// Arcs, and whether a node list is a path.
+// Arcs, and whether a node list is a path that is open in every column.
+
+// In the place of a cost: the arc is closed in that column.
+const CLOSED: u32 = 4294967295;
 
 // The index of the arc from a to b, or the number of arcs if there is none.
 pub fn arc_index(arcs: &[u16], a: u16, b: u16) -> usize {
@@ -10,8 +13,27 @@ pub fn arc_index(arcs: &[u16], a: u16, b: u16) -> usize {
     arcs.len() / 2
 }
 
-fn has_arc(arcs: &[u16], a: u16, b: u16) -> bool {
-    arc_index(arcs, a, b) < arcs.len() / 2
+// Whether the arc at an index, of m, is closed in some column.
+fn is_closed(costs: &[u32], m: usize, arc: usize) -> bool {
+    if m == 0 {
+        return false;
+    }
+    for i in 0..costs.len() {
+        if i % m == arc && costs[i] == CLOSED {
+            return true;
+        }
+    }
+    false
+}
+
+// Whether there is an arc from a to b that is open in every column.
+fn has_arc(arcs: &[u16], costs: &[u32], a: u16, b: u16) -> bool {
+    let m = arcs.len() / 2;
+    let arc = arc_index(arcs, a, b);
+    if arc == m {
+        return false;
+    }
+    !is_closed(costs, m, arc)
 }
 
 // Whether one of the first `count` nodes is this node.
@@ -30,8 +52,9 @@ pub enum NodeList {
     Wrong(usize),
 }
 
-// Whether a node list is a path from start to goal.
-pub fn check_list(arcs: &[u16], start: u16, goal: u16, nodes: &[u16]) -> NodeList {
+// Whether a node list is a path from start to goal that is open in every column. An arc that is closed
+// in some column counts as no arc.
+pub fn check_list(arcs: &[u16], costs: &[u32], start: u16, goal: u16, nodes: &[u16]) -> NodeList {
     if nodes.len() == 0 {
         return NodeList::Wrong(0);
     }
@@ -39,7 +62,7 @@ pub fn check_list(arcs: &[u16], start: u16, goal: u16, nodes: &[u16]) -> NodeLis
         return NodeList::Wrong(0);
     }
     for i in 1..nodes.len() {
-        if is_among(nodes, i, nodes[i]) || !has_arc(arcs, nodes[i - 1], nodes[i]) {
+        if is_among(nodes, i, nodes[i]) || !has_arc(arcs, costs, nodes[i - 1], nodes[i]) {
             return NodeList::Wrong(i);
         }
     }

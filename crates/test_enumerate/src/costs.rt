@@ -6,6 +6,9 @@ ghost use Prim.Native.Nat.{_≤_};
 // A number for each column, from column 1 on, filled up with 0.
 pub type Costs = [u64; 8];
 
+// In the place of a cost, of an arc or of a path: it is closed in that column. No path costs so much.
+pub const CLOSED: u64 = 4294967295;
+
 // What stands for column u.
 pub fn in_column(numbers: Costs, u: u32) -> u64 {
     if u < 1 {
@@ -33,7 +36,7 @@ fn wide(number: u32) -> u64
     number as u64
 }
 
-// The cost of an arc in one column, and 0 behind the last arc.
+// The cost of an arc in one column, or the mark, and 0 behind the last arc.
 fn arc_cost(column: &[u32], arc: usize) -> u64
     ensures { λ r. ⌜ r ≤ 4294967295 ⌝ }
 {
@@ -54,16 +57,20 @@ fn path_arcs(arcs: &[u16], row: Row) -> [usize; 8] {
     used
 }
 
-// The sum over the arcs of a path, in one column.
+// The sum over the arcs of a path, in one column, or the mark if one of them is closed there.
 fn sum(column: &[u32], used: [usize; 8]) -> u64 {
     let mut total = 0;
     for i in 1..8usize {
-        total += arc_cost(column, used[i]);
+        let cost = arc_cost(column, used[i]);
+        if cost == CLOSED {
+            return CLOSED;
+        }
+        total += cost;
     }
     total
 }
 
-// The cost of a path in each column.
+// The cost of a path in each column, or the mark where it is closed.
 pub fn path_costs(arcs: &[u16], costs: &[u32], row: Row) -> Costs {
     let m = arcs.len() / 2;
     let used = path_arcs(arcs, row);

@@ -4,9 +4,11 @@
 // these rows.
 //
 // A network is given by Build's two lists: its arcs, tail and head in turn, and its costs, column
-// by column.
+// by column. An arc may be closed in a column; every path of arcs is written down, and in a column
+// where one of its arcs is closed it has the mark in place of a cost.
 
 mod arcs;
+mod closing;
 mod costs;
 mod deviations;
 mod order;
@@ -15,6 +17,8 @@ mod stopping;
 
 pub use arcs::NodeList;
 pub use arcs::check_list;
+pub use closing::open_count;
+pub use closing::open_everywhere;
 pub use costs::Costs;
 pub use costs::all_costs;
 pub use costs::costs_at;

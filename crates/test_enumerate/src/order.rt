@@ -1,12 +1,13 @@
 // The ranking order in a column, and best and labels by it. Paths are rows, with the costs of each
-// in a second slice.
+// in a second slice. A path that is closed in the column has the mark as its cost there, which is above
+// every cost: it comes behind all that are open.
 use super::costs::Costs;
 use super::costs::costs_at;
 use super::costs::in_column;
 use super::costs::put_costs;
 use super::paths::Row;
 
-// The label of a node from which the goal cannot be reached.
+// The label of a node from which the goal cannot be reached: no path from it is open.
 pub const UNREACHED: u64 = 4294967295;
 
 // Whether a node list comes before another: the first differing place decides, smaller node first.
@@ -51,7 +52,7 @@ fn put_row(rows: &mut [Row], i: usize, row: Row) {
 }
 
 // The path at i and the path at j change places.
-fn swap(rows: &mut [Row], costs: &mut [Costs], i: usize, j: usize) {
+pub fn swap(rows: &mut [Row], costs: &mut [Costs], i: usize, j: usize) {
     let row = row_at(rows, i);
     let numbers = costs_at(costs, i);
     put_row(rows, i, row_at(rows, j));
@@ -69,7 +70,7 @@ pub fn rank(u: u32, count: usize, rows: &mut [Row], costs: &mut [Costs]) {
 }
 
 // best(u) for each of the columns 1 to k, from all paths from start to goal: the cost of the first
-// in the ranking order.
+// in the ranking order; or the mark, if no path is open in u.
 pub fn bests(k: u32, rows: &[Row], costs: &[Costs]) -> Costs {
     let mut result = [0u64; 8];
     for u in 1..9u32 {

@@ -6,6 +6,7 @@ use packing::Unpacked;
 use packing::build::build;
 use packing::unpack::unpack;
 use test_calls::answers::Answer;
+use test_calls::answers::header_of;
 use test_calls::answers::of_build;
 use test_calls::answers::of_check;
 use test_calls::answers::of_unpack;
@@ -14,6 +15,7 @@ use test_calls::answers::single;
 use test_calls::refused_images::note_refused_paths;
 use test_fixtures::numbers::count;
 use test_fixtures::numbers::product;
+use test_fixtures::plain_image::Header;
 use test_fixtures::report::CHECK;
 use test_fixtures::report::REBUILD;
 use test_fixtures::report::Report;
@@ -39,15 +41,14 @@ pub fn check_agrees(image: &[u8], expected: Answer) -> bool {
 
 // Build into a slice that holds the pattern.
 fn build_into(
-    n: u32,
-    k: u32,
+    header: Header,
     nodes: &[u16],
     costs: &[u32],
     image: &mut [u8],
     expected: Answer,
     written: &[u8],
 ) -> bool {
-    let answer = of_build(build(n, k, nodes, costs, image));
+    let answer = of_build(build(header.edition, header.n, header.k, nodes, costs, image));
     if !same_answer(answer, expected) {
         return false;
     }
@@ -57,8 +58,7 @@ fn build_into(
 // Whether Build into a slice of `room` bytes gives the answer, and writes these bytes and no
 // others.
 pub fn build_agrees(
-    n: u32,
-    k: u32,
+    header: Header,
     nodes: &[u16],
     costs: &[u32],
     room: usize,
@@ -69,7 +69,14 @@ pub fn build_agrees(
     if IMAGE_PLACES < room {
         return false;
     }
-    build_into(n, k, nodes, costs, &mut places[0..room], expected, written)
+    build_into(
+        header,
+        nodes,
+        costs,
+        &mut places[0..room],
+        expected,
+        written,
+    )
 }
 
 // Unpack into slices that hold the pattern.
@@ -120,9 +127,9 @@ pub fn unpack_agrees(
 }
 
 // Whether Build gives an image back from the lists at the front of two slices.
-fn build_back(image: &[u8], n: u32, m: u32, k: u32, nodes: &[u16], costs: &[u32]) -> bool {
+fn build_back(image: &[u8], header: Header, m: u32, nodes: &[u16], costs: &[u32]) -> bool {
     let node_count = 2 * (m as usize);
-    let cost_count = product(m, k) as usize;
+    let cost_count = product(m, header.k) as usize;
     if nodes.len() < node_count {
         return false;
     }
@@ -132,7 +139,7 @@ fn build_back(image: &[u8], n: u32, m: u32, k: u32, nodes: &[u16], costs: &[u32]
     let node_list = &nodes[0..node_count];
     let cost_list = &costs[0..cost_count];
     let bytes = single(count(image.len()));
-    build_agrees(n, k, node_list, cost_list, image.len(), bytes, image)
+    build_agrees(header, node_list, cost_list, image.len(), bytes, image)
 }
 
 // Unpack into slices, and Build from what it wrote.
@@ -141,7 +148,7 @@ fn rebuild_with(image: &[u8], nodes: &mut [u16], costs: &mut [u32]) -> bool {
     let Unpacked::Lists(sizes) = answer else {
         return false;
     };
-    build_back(image, sizes.n, sizes.m, sizes.k, nodes, costs)
+    build_back(image, header_of(sizes), sizes.m, nodes, costs)
 }
 
 // Whether Unpack, and Build from the lists that it wrote, give an image back byte for byte.

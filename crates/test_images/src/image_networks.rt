@@ -12,8 +12,10 @@ use test_fixtures::networks::S_COSTS;
 use test_fixtures::networks::S_NODES;
 use test_fixtures::networks::largest_nodes;
 use test_fixtures::networks::lay_out_s;
+use test_fixtures::plain_image::Header;
 use test_fixtures::plain_image::arc_count;
 use test_fixtures::plain_image::encode;
+use test_fixtures::plain_image::first_edition;
 use test_fixtures::plain_image::total;
 use test_fixtures::report::BUILD;
 use test_fixtures::report::CHECK;
@@ -24,8 +26,7 @@ use test_fixtures::report::UNPACK;
 // Build into a slice that is exactly long enough, into a longer one and into one a byte too short.
 fn note_builds(
     report: Report,
-    n: u32,
-    k: u32,
+    header: Header,
     nodes: &[u16],
     costs: &[u32],
     image: &[u8],
@@ -33,9 +34,9 @@ fn note_builds(
     let result = single(total(nodes, costs));
     let short = refusal(13, 0);
     let room = total(nodes, costs) as usize;
-    let exact = build_agrees(n, k, nodes, costs, room, result, image);
-    let longer = build_agrees(n, k, nodes, costs, room + 9, result, image);
-    let shorter = build_agrees(n, k, nodes, costs, room - 1, short, &[]);
+    let exact = build_agrees(header, nodes, costs, room, result, image);
+    let longer = build_agrees(header, nodes, costs, room + 9, result, image);
+    let shorter = build_agrees(header, nodes, costs, room - 1, short, &[]);
     report
         .note(BUILD, exact)
         .note(BUILD, longer)
@@ -74,14 +75,13 @@ fn note_short_unpacks(report: Report, image: &[u8], node_room: usize, cost_room:
 // All calls of the image layer, on a network's lists and its image.
 pub fn note_network(
     mut report: Report,
-    n: u32,
-    k: u32,
+    header: Header,
     nodes: &[u16],
     costs: &[u32],
     image: &[u8],
 ) -> Report {
-    let result = sizes(n, arc_count(nodes), k);
-    report = note_builds(report, n, k, nodes, costs, image);
+    let result = sizes(header, arc_count(nodes));
+    report = note_builds(report, header, nodes, costs, image);
     report = report.note(CHECK, check_agrees(image, result));
     report = note_unpacks(report, image, result, nodes, costs);
     report = note_short_unpacks(report, image, nodes.len(), costs.len());
@@ -90,11 +90,24 @@ pub fn note_network(
 
 // Network S's image, with the numbers of REFERENCE, section 8.1.
 fn note_s(image: &[u8]) -> Report {
-    let report = note_network(Report::new(), 4, 2, &S_NODES, &S_COSTS, image);
-    let built = build_agrees(4, 2, &S_NODES, &S_COSTS, 84, single(84), image);
+    let report = note_network(
+        Report::new(),
+        first_edition(4, 2),
+        &S_NODES,
+        &S_COSTS,
+        image,
+    );
+    let built = build_agrees(
+        first_edition(4, 2),
+        &S_NODES,
+        &S_COSTS,
+        84,
+        single(84),
+        image,
+    );
     report
         .note(BUILD, built)
-        .note(CHECK, check_agrees(image, sizes(4, 5, 2)))
+        .note(CHECK, check_agrees(image, sizes(first_edition(4, 2), 5)))
 }
 
 fn network_s() {
@@ -106,24 +119,33 @@ fn network_s() {
 // n = 2, m = 0, k = 1: the image is the header, 24 bytes.
 fn network_without_arcs() {
     let image = b"\x01\0\x02\0\0\0\x01\0\x18\0\0\0\x18\0\0\0\x18\0\0\0\0\0\0\0";
-    let report = note_network(Report::new(), 2, 1, &[], &[], image);
+    let report = note_network(Report::new(), first_edition(2, 1), &[], &[], image);
     report
-        .note(CHECK, check_agrees(image, sizes(2, 0, 1)))
+        .note(CHECK, check_agrees(image, sizes(first_edition(2, 1), 0)))
         .print(b"network without arcs");
 }
 
-fn lay_out_largest(nodes: &mut [u16], costs: &[u32], image: &mut [u8]) {
+fn lay_out_largest(header: Header, nodes: &mut [u16], costs: &[u32], image: &mut [u8]) {
     largest_nodes(nodes);
-    encode(200, 8, nodes, costs, image);
+    encode(header, nodes, costs, image);
 }
 
-// n = 200, m = 1,000, k = 8, each cost 1,000,000.
-fn largest_network() {
+// n = 200, m = 1,000, k = 8, with this number as each cost.
+pub fn note_largest(edition: u32, cost: u32) -> Report {
+    let header = Header {
+        edition,
+        n: 200,
+        k: 8,
+    };
     let mut nodes = [0u16; 2000];
-    let costs = [1000000u32; 8000];
+    let costs = [cost; 8000];
     let mut image = [0u8; 36024];
-    lay_out_largest(&mut nodes, &costs, &mut image);
-    note_network(Report::new(), 200, 8, &nodes, &costs, &image).print(b"largest network");
+    lay_out_largest(header, &mut nodes, &costs, &mut image);
+    note_network(Report::new(), header, &nodes, &costs, &image)
+}
+
+fn largest_network() {
+    note_largest(1, 1000000).print(b"largest network");
 }
 
 pub fn run() {

@@ -1,50 +1,49 @@
 // The refusal table on lists: what Build answers, and what Check and Unpack answer for the image of
-// the same lists.
+// the same lists. All are of edition 1; editions.rt has what differs in edition 2.
 use super::image_calls::build_agrees;
 use super::image_calls::note_refused_image;
 use test_calls::answers::refusal;
+use test_fixtures::plain_image::Header;
 use test_fixtures::plain_image::encode;
+use test_fixtures::plain_image::first_edition;
 use test_fixtures::plain_image::total;
 use test_fixtures::report::BUILD;
 use test_fixtures::report::CHECK;
 use test_fixtures::report::Report;
 
 // Build into a slice of `room` bytes refuses with this number and place, and writes nothing.
-fn build_refuses(
+pub fn build_refuses(
     report: Report,
-    n: u32,
-    k: u32,
+    header: Header,
     nodes: &[u16],
     costs: &[u32],
     room: usize,
     number: u32,
     place: u32,
 ) -> Report {
-    let agrees = build_agrees(n, k, nodes, costs, room, refusal(number, place), &[]);
+    let agrees = build_agrees(header, nodes, costs, room, refusal(number, place), &[]);
     report.note(BUILD, agrees)
 }
 
 // All calls, with a slice for the image.
 fn all_refuse_with(
     mut report: Report,
-    n: u32,
-    k: u32,
+    header: Header,
     nodes: &[u16],
     costs: &[u32],
     image: &mut [u8],
     number: u32,
     place: u32,
 ) -> Report {
-    report = build_refuses(report, n, k, nodes, costs, 200, number, place);
-    encode(n, k, nodes, costs, image);
+    report = build_refuses(report, header, nodes, costs, 200, number, place);
+    encode(header, nodes, costs, image);
     note_refused_image(report, image, refusal(number, place))
 }
 
 // Build, and Check and Unpack on the image of the lists, refuse with this number and place.
-fn all_refuse(
+pub fn all_refuse(
     report: Report,
-    n: u32,
-    k: u32,
+    header: Header,
     nodes: &[u16],
     costs: &[u32],
     number: u32,
@@ -57,8 +56,7 @@ fn all_refuse(
     }
     all_refuse_with(
         report,
-        n,
-        k,
+        header,
         nodes,
         costs,
         &mut image[0..bytes],
@@ -79,8 +77,7 @@ fn sizes_refused(report: Report, n: u32, k: u32, node_count: usize, cost_count: 
     }
     all_refuse(
         report,
-        n,
-        k,
+        first_edition(n, k),
         &nodes[0..node_count],
         &costs[0..cost_count],
         3,
@@ -108,8 +105,7 @@ fn lists_refused(
     }
     build_refuses(
         report,
-        n,
-        k,
+        first_edition(n, k),
         &nodes[0..node_count],
         &costs[0..cost_count],
         room,
@@ -130,8 +126,7 @@ fn zeros_refused(report: Report, node_count: usize, cost_count: usize, number: u
     }
     build_refuses(
         report,
-        4,
-        1,
+        first_edition(4, 1),
         &nodes[0..node_count],
         &costs[0..cost_count],
         9000,
@@ -142,17 +137,31 @@ fn zeros_refused(report: Report, node_count: usize, cost_count: usize, number: u
 
 // All calls refuse the only arc.
 fn arc_refused(report: Report, n: u32, tail: u16, head: u16, number: u32) -> Report {
-    all_refuse(report, n, 1, &[tail, head], &[5], number, 0)
+    all_refuse(report, first_edition(n, 1), &[tail, head], &[5], number, 0)
 }
 
 // All calls refuse the arc that stands second, behind 1→2.
 fn second_arc_refused(report: Report, tail: u16, head: u16, number: u32) -> Report {
-    all_refuse(report, 4, 1, &[1, 2, tail, head], &[5, 6], number, 1)
+    all_refuse(
+        report,
+        first_edition(4, 1),
+        &[1, 2, tail, head],
+        &[5, 6],
+        number,
+        1,
+    )
 }
 
 // All calls refuse three arcs.
 fn arcs_refused(report: Report, nodes: [u16; 6], number: u32, place: u32) -> Report {
-    all_refuse(report, 4, 1, &nodes, &[5, 6, 7], number, place)
+    all_refuse(
+        report,
+        first_edition(4, 1),
+        &nodes,
+        &[5, 6, 7],
+        number,
+        place,
+    )
 }
 
 // Row 3, by n and by k.
@@ -161,7 +170,14 @@ fn sizes_out_of_range(mut report: Report) -> Report {
     report = sizes_refused(report, 1, 1, 0, 0);
     report = sizes_refused(report, 201, 1, 2, 1);
     report = sizes_refused(report, 2, 0, 2, 0);
-    report = all_refuse(report, 2, 9, &[1, 2], &[1, 2, 3, 4, 5, 6, 7, 8, 9], 3, 0);
+    report = all_refuse(
+        report,
+        first_edition(2, 9),
+        &[1, 2],
+        &[1, 2, 3, 4, 5, 6, 7, 8, 9],
+        3,
+        0,
+    );
     report = lists_refused(report, 65538, 1, 2, 1, 200, 3);
     lists_refused(report, 2, 4294967295, 0, 0, 200, 3)
 }
@@ -181,7 +197,7 @@ fn lengths_wrong(mut report: Report) -> Report {
     report = lists_refused(report, 4, 2, 2, 1, 200, 4);
     report = lists_refused(report, 4, 2, 2, 3, 200, 4);
     report = lists_refused(report, 4, 1, 0, 1, 200, 4);
-    build_refuses(report, 4, 1, &[0, 2], &[], 200, 4, 0)
+    build_refuses(report, first_edition(4, 1), &[0, 2], &[], 200, 4, 0)
 }
 
 // Row 6, for the first arc and for a later one.
@@ -198,18 +214,18 @@ fn arcs_wrong(mut report: Report) -> Report {
     report = arc_refused(report, 4, 2, 2, 7);
     report = arcs_refused(report, [1, 2, 1, 3, 4, 4], 7, 2);
     report = second_arc_refused(report, 1, 2, 8);
-    report = all_refuse(report, 4, 1, &[1, 3, 1, 2], &[5, 6], 8, 1);
+    report = all_refuse(report, first_edition(4, 1), &[1, 3, 1, 2], &[5, 6], 8, 1);
     arcs_refused(report, [1, 2, 2, 3, 1, 4], 8, 2)
 }
 
 // All calls refuse the cost of the only arc.
 fn cost_refused(report: Report, cost: u32) -> Report {
-    all_refuse(report, 4, 1, &[1, 2], &[cost], 9, 0)
+    all_refuse(report, first_edition(4, 1), &[1, 2], &[cost], 9, 0)
 }
 
 // All calls refuse two columns of costs for two arcs.
 fn columns_refused(report: Report, costs: [u32; 4], place: u32) -> Report {
-    all_refuse(report, 4, 2, &[1, 2, 1, 3], &costs, 9, place)
+    all_refuse(report, first_edition(4, 2), &[1, 2, 1, 3], &costs, 9, place)
 }
 
 // Row 9, in the first column and in a later one, with the first such cost in front.
@@ -233,17 +249,24 @@ fn several_arc_rows(mut report: Report) -> Report {
 // Which row is given where several apply to lists: the sizes and the lengths first, and arcs before
 // costs.
 fn several_list_rows(mut report: Report) -> Report {
-    report = all_refuse(report, 4, 1, &[1, 2, 1, 2], &[1000001, 6], 8, 1);
-    report = all_refuse(report, 1, 1, &[1, 2], &[1000001], 3, 0);
-    build_refuses(report, 4, 1, &[0, 2, 1], &[5], 200, 4, 0)
+    report = all_refuse(
+        report,
+        first_edition(4, 1),
+        &[1, 2, 1, 2],
+        &[1000001, 6],
+        8,
+        1,
+    );
+    report = all_refuse(report, first_edition(1, 1), &[1, 2], &[1000001], 3, 0);
+    build_refuses(report, first_edition(4, 1), &[0, 2, 1], &[5], 200, 4, 0)
 }
 
 // Which row is given where the slice is too short as well: the other row.
 fn slices_last(mut report: Report) -> Report {
     report = lists_refused(report, 1, 1, 2, 1, 0, 3);
     report = lists_refused(report, 4, 1, 2, 0, 0, 4);
-    report = build_refuses(report, 4, 1, &[2, 2], &[5], 0, 7, 0);
-    build_refuses(report, 4, 1, &[1, 2], &[1000001], 0, 9, 0)
+    report = build_refuses(report, first_edition(4, 1), &[2, 2], &[5], 0, 7, 0);
+    build_refuses(report, first_edition(4, 1), &[1, 2], &[1000001], 0, 9, 0)
 }
 
 // Row 13.

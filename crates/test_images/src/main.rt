@@ -6,6 +6,7 @@
 // come from REFERENCE, section 8, or from plain_answers.rt, which is written apart from the library.
 // The calls of the path layer on what they take are tested by the program test_routes.
 
+mod editions;
 mod image_calls;
 mod image_changes;
 mod image_networks;
@@ -20,6 +21,7 @@ fn main() {
     image_networks::run();
     image_refusals::run();
     image_changes::run();
+    editions::run();
     random_networks::run();
     path_refusals::run();
     rank_refusals::run();

@@ -4,9 +4,11 @@ use test_calls::answers::Answer;
 use test_calls::answers::refusal;
 use test_calls::answers::single;
 use test_calls::answers::sizes;
+use test_fixtures::closing::CLOSED;
 use test_fixtures::numbers::count;
 use test_fixtures::numbers::product;
 use test_fixtures::numbers::wide16;
+use test_fixtures::plain_image::Header;
 use test_fixtures::plain_image::arc_count;
 use test_fixtures::plain_image::decode_costs;
 use test_fixtures::plain_image::decode_nodes;
@@ -14,6 +16,11 @@ use test_fixtures::plain_image::number16;
 use test_fixtures::plain_image::number32;
 use test_fixtures::plain_image::total;
 ghost use Prim.Native.Nat.{_≤_};
+
+// Row 2.
+fn edition_is_wrong(edition: u32) -> bool {
+    edition != 1 && edition != 2
+}
 
 // Row 3.
 fn size_out_of_range(n: u32, m: u32, k: u32) -> bool {
@@ -60,10 +67,18 @@ fn arcs_answer(n: u32, nodes: &[u16]) -> Answer {
     refusal(0, 0)
 }
 
+// Row 9 for a number: in edition 2 the mark may stand in the place of a cost.
+fn cost_is_wrong(edition: u32, cost: u32) -> bool {
+    if edition == 2 && cost == CLOSED {
+        return false;
+    }
+    1000000 < cost
+}
+
 // The refusal for the first cost that is too large, or number 0.
-fn costs_answer(costs: &[u32]) -> Answer {
+fn costs_answer(edition: u32, costs: &[u32]) -> Answer {
     for i in 0..costs.len() {
-        if 1000000 < costs[i] {
+        if cost_is_wrong(edition, costs[i]) {
             return refusal(9, count(i));
         }
     }
@@ -71,12 +86,12 @@ fn costs_answer(costs: &[u32]) -> Answer {
 }
 
 // The refusal of two lists by rows 6 to 9, or else the answer given.
-fn lists_answer(n: u32, nodes: &[u16], costs: &[u32], otherwise: Answer) -> Answer {
-    let arcs = arcs_answer(n, nodes);
+fn lists_answer(header: Header, nodes: &[u16], costs: &[u32], otherwise: Answer) -> Answer {
+    let arcs = arcs_answer(header.n, nodes);
     if arcs.number != 0 {
         return arcs;
     }
-    let prices = costs_answer(costs);
+    let prices = costs_answer(header.edition, costs);
     if prices.number != 0 {
         return prices;
     }
@@ -84,19 +99,22 @@ fn lists_answer(n: u32, nodes: &[u16], costs: &[u32], otherwise: Answer) -> Answ
 }
 
 // Build's answer with a slice of `room` bytes.
-pub fn build_answer(n: u32, k: u32, nodes: &[u16], costs: &[u32], room: usize) -> Answer {
+pub fn build_answer(header: Header, nodes: &[u16], costs: &[u32], room: usize) -> Answer {
     let m = arc_count(nodes);
-    if size_out_of_range(n, m, k) {
+    if edition_is_wrong(header.edition) {
+        return refusal(2, 0);
+    }
+    if size_out_of_range(header.n, m, header.k) {
         return refusal(3, 0);
     }
-    if nodes.len() % 2 == 1 || product(m, k) != costs.len() as u64 {
+    if nodes.len() % 2 == 1 || product(m, header.k) != costs.len() as u64 {
         return refusal(4, 0);
     }
     let bytes = total(nodes, costs);
     if room < bytes as usize {
-        return lists_answer(n, nodes, costs, refusal(13, 0));
+        return lists_answer(header, nodes, costs, refusal(13, 0));
     }
-    lists_answer(n, nodes, costs, single(bytes))
+    lists_answer(header, nodes, costs, single(bytes))
 }
 
 // Row 4 for an image.
@@ -116,7 +134,7 @@ fn header_row(image: &[u8]) -> u32 {
     if image.len() < 24 {
         return 1;
     }
-    if number16(image, 0) != 1 {
+    if edition_is_wrong(wide16(number16(image, 0))) {
         return 2;
     }
     let n = wide16(number16(image, 2));
@@ -141,11 +159,14 @@ fn check_with(image: &[u8], nodes: &mut [u16], costs: &mut [u32]) -> Answer {
     if row != 0 {
         return refusal(row, 0);
     }
-    let n = wide16(number16(image, 2));
+    let header = Header {
+        edition: wide16(number16(image, 0)),
+        n: wide16(number16(image, 2)),
+        k: wide16(number16(image, 6)),
+    };
     let m = wide16(number16(image, 4));
-    let k = wide16(number16(image, 6));
     let node_count = 2 * (m as usize);
-    let cost_count = product(m, k) as usize;
+    let cost_count = product(m, header.k) as usize;
     if nodes.len() < node_count {
         return refusal(0, 0);
     }
@@ -155,10 +176,10 @@ fn check_with(image: &[u8], nodes: &mut [u16], costs: &mut [u32]) -> Answer {
     decode_nodes(image, &mut nodes[0..node_count]);
     decode_costs(image, 24 + 4 * m, &mut costs[0..cost_count]);
     lists_answer(
-        n,
+        header,
         &nodes[0..node_count],
         &costs[0..cost_count],
-        sizes(n, m, k),
+        sizes(header, m),
     )
 }
 

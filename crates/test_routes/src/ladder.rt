@@ -8,6 +8,7 @@
 // 1,000 at every other; all other arcs cost 0. So the first 256 paths cost 0 to 255, and the path
 // that costs c takes the higher node at step 58 + b exactly if the number c has the bit b.
 use test_fixtures::plain_image::encode;
+use test_fixtures::plain_image::first_edition;
 ghost use Prim.Native.Nat.{_≤_};
 
 // Two to the power b, for b up to 7.
@@ -94,7 +95,7 @@ fn lay_out_costs(for_robust: bool, costs: &mut [u32]) {
 fn lay_out_ladder(for_robust: bool, arcs: &mut [u16], costs: &mut [u32], image: &mut [u8]) {
     lay_out_arcs(arcs);
     lay_out_costs(for_robust, costs);
-    encode(199, 2, arcs, costs, image);
+    encode(first_edition(199, 2), arcs, costs, image);
 }
 
 // 264 arcs and two columns: 24 + 4 * 264 + 8 * 264 bytes.

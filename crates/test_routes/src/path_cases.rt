@@ -19,7 +19,7 @@ use test_fixtures::report::SHORTEST;
 const UNREACHED: u32 = 4294967295;
 
 // Regret of a path gives this figure and worst column.
-fn regret_is(
+pub fn regret_is(
     report: Report,
     image: &[u8],
     start: u32,
@@ -33,7 +33,7 @@ fn regret_is(
 }
 
 // Regret of a list that is no path gives 14 at this place.
-fn list_refused(
+pub fn list_refused(
     report: Report,
     image: &[u8],
     start: u32,
@@ -45,9 +45,9 @@ fn list_refused(
     report.note(REGRET, agrees)
 }
 
-// Shortest from a start from which the goal cannot be reached.
-fn no_path(report: Report, image: &[u8], start: u32, goal: u32) -> Report {
-    let agrees = shortest_agrees(image, 1, start, goal, 9, refusal(15, 0), &[]);
+// Shortest from a start from which the goal cannot be reached in a column.
+pub fn no_path(report: Report, image: &[u8], column: u32, start: u32, goal: u32) -> Report {
+    let agrees = shortest_agrees(image, column, start, goal, 9, refusal(15, 0), &[]);
     report.note(SHORTEST, agrees)
 }
 
@@ -62,8 +62,8 @@ fn paths_of_s(mut report: Report, image: &[u8]) -> Report {
     report = note_shortest(report, image, 1, 1, 4, 4, &[1, 2, 3, 4], 5);
     report = note_shortest(report, image, 2, 1, 4, 4, &[1, 2, 4], 5);
     report = note_shortest(report, image, 2, 1, 3, 4, &[1, 3], 1);
-    report = no_path(report, image, 4, 1);
-    no_path(report, image, 3, 2)
+    report = no_path(report, image, 1, 4, 1);
+    no_path(report, image, 1, 3, 2)
 }
 
 fn figures_of_s(mut report: Report, image: &[u8]) -> Report {
@@ -91,7 +91,7 @@ fn lists_on_s(mut report: Report, image: &[u8]) -> Report {
     list_refused(report, image, 4, 1, &[4, 1], 1)
 }
 
-fn note_s(mut report: Report, image: &[u8]) -> Report {
+pub fn note_s(mut report: Report, image: &[u8]) -> Report {
     report = labels_of_s(report, image);
     report = paths_of_s(report, image);
     report = figures_of_s(report, image);
@@ -110,7 +110,7 @@ fn note_zero_costs(mut report: Report, image: &[u8]) -> Report {
 
 fn note_no_arcs(mut report: Report, image: &[u8]) -> Report {
     report = note_label(report, image, 1, 2, &[UNREACHED, 0]);
-    report = no_path(report, image, 1, 2);
+    report = no_path(report, image, 1, 1, 2);
     list_refused(report, image, 1, 2, &[1, 2], 1)
 }
 

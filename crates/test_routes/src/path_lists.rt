@@ -13,17 +13,25 @@ use test_fixtures::numbers::node;
 use test_fixtures::report::REGRET;
 use test_fixtures::report::Report;
 
+// The nodes between which a path is looked for, in a network of n nodes.
+pub struct Trip {
+    pub n: u32,
+    pub start: u32,
+    pub goal: u32,
+}
+
 // Regret's answer for a list of up to eight nodes, which is given as a row too.
 fn regret_answer(
-    start: u32,
-    goal: u32,
+    trip: Trip,
     arcs: &[u16],
     costs: &[u32],
     bests: Costs,
     list: &[u16],
     row: Row,
 ) -> Answer {
-    let kind = test_enumerate::check_list(arcs, node(start), node(goal), list);
+    let start = node(trip.start);
+    let goal = node(trip.goal);
+    let kind = test_enumerate::check_list(arcs, costs, start, goal, list);
     if let NodeList::Wrong(place) = kind {
         return refusal(14, count(place));
     }
@@ -47,8 +55,7 @@ fn beginning(mut row: Row, size: usize) -> Row {
 // Regret of the list of a row's first `length` nodes.
 fn note_list(
     report: Report,
-    start: u32,
-    goal: u32,
+    trip: Trip,
     arcs: &[u16],
     costs: &[u32],
     bests: Costs,
@@ -61,8 +68,9 @@ fn note_list(
     }
     let first = beginning(row, length);
     let list = &row[0..length];
-    let expected = regret_answer(start, goal, arcs, costs, bests, list, first);
-    report.note(REGRET, regret_agrees(image, start, goal, list, expected))
+    let expected = regret_answer(trip, arcs, costs, bests, list, first);
+    let agrees = regret_agrees(image, trip.start, trip.goal, list, expected);
+    report.note(REGRET, agrees)
 }
 
 // A node from 0 to n + 1.
@@ -131,9 +139,7 @@ fn drawn_list(kind: u32, n: u32, start: u32, path: Row, numbers: &[u32], from: u
 // Regret of a list of each kind.
 pub fn note_lists(
     mut report: Report,
-    n: u32,
-    start: u32,
-    goal: u32,
+    trip: Trip,
     arcs: &[u16],
     costs: &[u32],
     bests: Costs,
@@ -141,20 +147,20 @@ pub fn note_lists(
     numbers: &[u32],
     image: &[u8],
 ) -> Report {
-    let from = 50 * (goal % 9) + 6 * (start % 9);
+    let from = 50 * (trip.goal % 9) + 6 * (trip.start % 9);
     for kind in 0..5u32 {
-        let list = drawn_list(kind, n, start, path, numbers, from);
+        let list = drawn_list(kind, trip.n, trip.start, path, numbers, from);
         let row = list.row;
         let length = list.length;
-        report = note_list(report, start, goal, arcs, costs, bests, row, length, image);
+        report = note_list(report, trip, arcs, costs, bests, row, length, image);
     }
     report
 }
 
-// One of the paths, or a row of zeros if there is none.
-pub fn drawn_path(rows: &[Row], number: u32) -> Row {
-    if rows.len() == 0 {
+// One of the first `count` paths, or a row of zeros if there is none.
+pub fn drawn_path(rows: &[Row], count: usize, number: u32) -> Row {
+    if count == 0 {
         return [0; 8];
     }
-    test_enumerate::row_at(rows, number as usize % rows.len())
+    test_enumerate::row_at(rows, number as usize % count)
 }

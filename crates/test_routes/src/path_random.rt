@@ -1,4 +1,5 @@
 // Random networks: the calls of the path layer, held to the plain enumeration of all paths.
+use super::path_lists::Trip;
 use super::path_lists::drawn_path;
 use super::path_lists::note_lists;
 use super::rank_random::note_ranks;
@@ -12,15 +13,10 @@ use test_fixtures::networks::number_at;
 use test_fixtures::numbers::count;
 use test_fixtures::numbers::narrow;
 use test_fixtures::numbers::node;
+use test_fixtures::plain_image::Header;
 use test_fixtures::report::LABEL;
 use test_fixtures::report::Report;
 use test_fixtures::report::SHORTEST;
-
-// The nodes and the columns of a network.
-struct Size {
-    n: u32,
-    k: u32,
-}
 
 fn put_number(numbers: &mut [u32], i: usize, number: u32) {
     if i < numbers.len() {
@@ -68,7 +64,7 @@ fn note_first(
     prices: &[Costs],
 ) -> Report {
     let room = n as usize + 9 * (u % 2) as usize;
-    if rows.len() == 0 {
+    if test_enumerate::open_count(u, prices) == 0 {
         let none = shortest_agrees(image, u, start, goal, room, refusal(15, 0), &[]);
         return report.note(SHORTEST, none);
     }
@@ -104,11 +100,12 @@ fn note_firsts(
 }
 
 // The calls from a start to a goal, if they differ, by all paths with their costs. Rank and Robust put
-// these into their order.
+// these into their order. Regret has lists made from a path that is open in every column, and in edition
+// 2 also from any path.
 fn note_pair(
     mut report: Report,
     code: u32,
-    size: Size,
+    header: Header,
     arcs: &[u16],
     costs: &[u32],
     numbers: &[u32],
@@ -122,24 +119,24 @@ fn note_pair(
     if start == goal {
         return report;
     }
-    report = note_firsts(report, size.n, size.k, start, goal, image, rows, prices);
-    let path = drawn_path(rows, number_at(numbers, start as usize));
-    report = note_lists(
-        report,
-        size.n,
+    report = note_firsts(report, header.n, header.k, start, goal, image, rows, prices);
+    let trip = Trip {
+        n: header.n,
         start,
         goal,
-        arcs,
-        costs,
-        bests,
-        path,
-        numbers,
-        image,
-    );
+    };
+    let open = test_enumerate::open_everywhere(rows, prices);
+    let number = number_at(numbers, start as usize);
+    let path = drawn_path(rows, open, number);
+    report = note_lists(report, trip, arcs, costs, bests, path, numbers, image);
+    if header.edition == 2 {
+        let other = drawn_path(rows, rows.len(), number);
+        report = note_lists(report, trip, arcs, costs, bests, other, numbers, image);
+    }
     note_ranks(
         report,
-        size.n,
-        size.k,
+        header.n,
+        header.k,
         code,
         numbers,
         image,
@@ -184,7 +181,7 @@ fn note_goal(report: Report, code: u32, n: u32, k: u32, image: &[u8], labels: &[
 fn note_code(
     report: Report,
     code: u32,
-    size: Size,
+    header: Header,
     arcs: &[u16],
     costs: &[u32],
     numbers: &[u32],
@@ -195,7 +192,7 @@ fn note_code(
 ) -> Report {
     let start = code % 8 + 1;
     let goal = code / 8 + 1;
-    if size.n < start || size.n < goal {
+    if header.n < start || header.n < goal {
         return report;
     }
     let paths = lay_out_paths(start, goal, arcs, costs, rows, prices);
@@ -207,12 +204,12 @@ fn note_code(
     }
     let all = &mut rows[0..paths];
     let priced = &mut prices[0..paths];
-    let bests = test_enumerate::labels(size.k, node(start), node(goal), all, priced);
+    let bests = test_enumerate::labels(header.k, node(start), node(goal), all, priced);
     put_labels(labels, start, bests);
     note_pair(
         report,
         code,
-        size,
+        header,
         arcs,
         costs,
         numbers,
@@ -225,7 +222,7 @@ fn note_code(
 
 fn note_codes(
     mut report: Report,
-    size: Size,
+    header: Header,
     arcs: &[u16],
     costs: &[u32],
     numbers: &[u32],
@@ -238,7 +235,7 @@ fn note_codes(
         report = note_code(
             report,
             code,
-            size,
+            header,
             arcs,
             costs,
             numbers,
@@ -247,7 +244,7 @@ fn note_codes(
             prices,
             labels,
         );
-        report = note_goal(report, code, size.n, size.k, image, labels);
+        report = note_goal(report, code, header.n, header.k, image, labels);
     }
     report
 }
@@ -256,8 +253,7 @@ fn note_codes(
 // columns.
 pub fn note_paths(
     report: Report,
-    n: u32,
-    k: u32,
+    header: Header,
     arcs: &[u16],
     costs: &[u32],
     numbers: &[u32],
@@ -270,7 +266,7 @@ pub fn note_paths(
     let mut labels = [0u32; 64];
     note_codes(
         report,
-        Size { n, k },
+        header,
         arcs,
         costs,
         numbers,

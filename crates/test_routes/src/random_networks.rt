@@ -1,6 +1,7 @@
 // Random networks of 2 to 8 nodes: the calls on their image.
 use super::path_random::note_paths;
 use test_fixtures::networks::draw_network;
+use test_fixtures::plain_image::Header;
 use test_fixtures::plain_image::encode;
 use test_fixtures::plain_image::total;
 use test_fixtures::random::Random;
@@ -11,26 +12,26 @@ use test_fixtures::report::Report;
 // All calls, between all nodes and in all columns.
 fn note_network(
     report: Report,
-    n: u32,
-    k: u32,
+    header: Header,
     nodes: &[u16],
     costs: &[u32],
     numbers: &[u32],
     image: &mut [u8],
 ) -> Report {
-    encode(n, k, nodes, costs, image);
-    note_paths(report, n, k, nodes, costs, numbers, image)
+    encode(header, nodes, costs, image);
+    note_paths(report, header, nodes, costs, numbers, image)
 }
 
 // Draws a network from numbers, and lends its lists and as much as its image takes.
 fn note_numbers(
     report: Report,
+    edition: u32,
     numbers: &[u32],
     nodes: &mut [u16],
     costs: &mut [u32],
     image: &mut [u8],
 ) -> Report {
-    let drawn = draw_network(numbers, nodes, costs);
+    let drawn = draw_network(edition, numbers, nodes, costs);
     let node_count = drawn.node_count;
     let cost_count = drawn.cost_count;
     if nodes.len() < node_count {
@@ -48,8 +49,7 @@ fn note_numbers(
     let image_part = &mut image[0..bytes];
     note_network(
         report,
-        drawn.n,
-        drawn.k,
+        drawn.header,
         node_list,
         cost_list,
         numbers,
@@ -57,8 +57,9 @@ fn note_numbers(
     )
 }
 
-// 3,000 networks.
+// 3,000 networks of an edition.
 fn networks_with(
+    edition: u32,
     numbers: &mut [u32],
     nodes: &mut [u16],
     costs: &mut [u32],
@@ -68,16 +69,21 @@ fn networks_with(
     let mut report = Report::new();
     for _ in 0..3000u32 {
         random = draw(random, numbers);
-        report = note_numbers(report, numbers, nodes, costs, image);
+        report = note_numbers(report, edition, numbers, nodes, costs, image);
     }
     report
 }
 
 // The most arcs are 56, and the most costs 448.
-pub fn run() {
+fn networks(edition: u32) -> Report {
     let mut numbers = [0u32; 520];
     let mut nodes = [0u16; 112];
     let mut costs = [0u32; 448];
     let mut image = [0u8; 2040];
-    networks_with(&mut numbers, &mut nodes, &mut costs, &mut image).print(b"random networks");
+    networks_with(edition, &mut numbers, &mut nodes, &mut costs, &mut image)
+}
+
+pub fn run() {
+    networks(1).print(b"random networks");
+    networks(2).print(b"random networks of edition 2");
 }

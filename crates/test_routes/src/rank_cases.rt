@@ -19,7 +19,7 @@ use test_fixtures::slices::NODE_PATTERN;
 use test_fixtures::slices::NUMBER_PATTERN;
 
 // Rank from 1 to 4, in a network of four nodes.
-fn ranked(
+pub fn ranked(
     report: Report,
     image: &[u8],
     column: u32,
@@ -37,9 +37,9 @@ fn ranked(
 }
 
 // Rank refuses with 15 and writes nothing.
-fn no_path(report: Report, image: &[u8], n: u32, start: u32, goal: u32) -> Report {
+pub fn no_path(report: Report, image: &[u8], n: u32, column: u32, start: u32, goal: u32) -> Report {
     let request = Request {
-        column: 1,
+        column,
         start,
         goal,
         wanted: 5,
@@ -69,15 +69,15 @@ fn second_of_s(mut report: Report, image: &[u8]) -> Report {
 }
 
 // K below, at and above the number of paths.
-fn note_s(mut report: Report, image: &[u8]) -> Report {
+pub fn note_s(mut report: Report, image: &[u8]) -> Report {
     report = first_of_s(report, image, 5, 12, 3);
     report = first_of_s(report, image, 256, 12, 3);
     report = first_of_s(report, image, 3, 12, 3);
     report = first_of_s(report, image, 2, 8, 2);
     report = first_of_s(report, image, 1, 4, 1);
     report = second_of_s(report, image);
-    report = no_path(report, image, 4, 4, 1);
-    no_path(report, image, 4, 3, 2)
+    report = no_path(report, image, 4, 1, 4, 1);
+    no_path(report, image, 4, 1, 3, 2)
 }
 
 fn note_zero_costs(mut report: Report, image: &[u8]) -> Report {
@@ -144,7 +144,7 @@ fn on_zero_costs() {
 }
 
 fn on_no_arcs() {
-    no_path(Report::new(), &no_arcs(), 2, 1, 2).print(b"network without arcs");
+    no_path(Report::new(), &no_arcs(), 2, 1, 1, 2).print(b"network without arcs");
 }
 
 fn on_line() {

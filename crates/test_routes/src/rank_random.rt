@@ -100,7 +100,8 @@ fn rank_gives(
     )
 }
 
-// Rank, by all paths with their costs, which are put into its order as far as it goes.
+// Rank, by all paths with their costs, which are put into its order as far as it goes: those that are
+// open in the column come first.
 fn rank_holds(
     image: &[u8],
     n: u32,
@@ -108,10 +109,11 @@ fn rank_holds(
     paths: &mut [Row],
     prices: &mut [Costs],
 ) -> bool {
-    if paths.len() == 0 {
+    let open = test_enumerate::open_count(request.column, prices);
+    if open == 0 {
         return rank_agrees(image, request, lent(n, request), refusal(15, 0), &[], &[]);
     }
-    let given = least(request.wanted, count(paths.len()));
+    let given = least(request.wanted, count(open));
     test_enumerate::rank(request.column, given as usize, paths, prices);
     rank_gives(image, n, request, given, paths, prices)
 }

@@ -21,7 +21,7 @@ use test_fixtures::slices::NODE_PATTERN;
 use test_fixtures::slices::NUMBER_PATTERN;
 
 // Robust from 1 to 4, in a network of four nodes.
-fn chosen(
+pub fn chosen(
     report: Report,
     image: &[u8],
     column: u32,
@@ -39,9 +39,9 @@ fn chosen(
 }
 
 // Robust refuses with 15 and writes nothing.
-fn no_path(report: Report, image: &[u8], n: u32, start: u32, goal: u32) -> Report {
+pub fn no_path(report: Report, image: &[u8], n: u32, column: u32, start: u32, goal: u32) -> Report {
     let request = Request {
-        column: 1,
+        column,
         start,
         goal,
         wanted: 1,
@@ -58,7 +58,7 @@ fn no_path(report: Report, image: &[u8], n: u32, start: u32, goal: u32) -> Repor
 
 // K below, at and above the number of paths that the stopping rule needs: 2 in column 1, and 1 in
 // column 2.
-fn note_s(mut report: Report, image: &[u8]) -> Report {
+pub fn note_s(mut report: Report, image: &[u8]) -> Report {
     let first = settled(3, 3, 2, 2);
     report = chosen(report, image, 1, 1, left_open(4, 8, 2, 1, 2), &[1, 2, 3, 4]);
     report = chosen(report, image, 1, 2, first, &[1, 3, 4]);
@@ -69,8 +69,8 @@ fn note_s(mut report: Report, image: &[u8]) -> Report {
     report = chosen(report, image, 2, 1, second, &[1, 2, 4]);
     report = chosen(report, image, 2, 2, second, &[1, 2, 4]);
     report = chosen(report, image, 2, 256, second, &[1, 2, 4]);
-    report = no_path(report, image, 4, 4, 1);
-    no_path(report, image, 4, 3, 2)
+    report = no_path(report, image, 4, 1, 4, 1);
+    no_path(report, image, 4, 1, 3, 2)
 }
 
 // The first ranked path is as good as any.
@@ -128,7 +128,7 @@ fn on_zero_costs() {
 }
 
 fn on_no_arcs() {
-    no_path(Report::new(), &no_arcs(), 2, 1, 2).print(b"network without arcs");
+    no_path(Report::new(), &no_arcs(), 2, 1, 1, 2).print(b"network without arcs");
 }
 
 fn on_line() {

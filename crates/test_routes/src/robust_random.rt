@@ -54,8 +54,26 @@ fn robust_gives(
     robust_agrees(image, request, lent(n, request), found, &row[0..length])
 }
 
-// Robust, by all paths with their costs. Its answer says nothing of a path behind the first K + 1,
-// so these are put into its order.
+// Robust where these are the paths that are open in every column. Its answer says nothing of a path
+// behind the first K + 1, so these are put into its order.
+fn robust_ranked(
+    image: &[u8],
+    n: u32,
+    request: Request,
+    bests: Costs,
+    paths: &mut [Row],
+    prices: &mut [Costs],
+) -> bool {
+    let looked_at = count(request.wanted as usize) + 1;
+    let ranked = least(looked_at, count(paths.len())) as usize;
+    test_enumerate::rank(request.column, ranked, paths, prices);
+    if prices.len() < ranked {
+        return false;
+    }
+    robust_gives(image, n, request, bests, paths, &prices[0..ranked])
+}
+
+// Robust, by all paths with their costs. Those that are open in every column are put in front.
 fn robust_holds(
     image: &[u8],
     n: u32,
@@ -64,16 +82,19 @@ fn robust_holds(
     paths: &mut [Row],
     prices: &mut [Costs],
 ) -> bool {
-    if paths.len() == 0 {
+    let open = test_enumerate::open_everywhere(paths, prices);
+    if open == 0 {
         return robust_agrees(image, request, lent(n, request), refusal(15, 0), &[]);
     }
-    let looked_at = count(request.wanted as usize) + 1;
-    let ranked = least(looked_at, count(paths.len())) as usize;
-    test_enumerate::rank(request.column, ranked, paths, prices);
-    if prices.len() < ranked {
+    if paths.len() < open {
         return false;
     }
-    robust_gives(image, n, request, bests, paths, &prices[0..ranked])
+    if prices.len() < open {
+        return false;
+    }
+    let listed = &mut paths[0..open];
+    let priced = &mut prices[0..open];
+    robust_ranked(image, n, request, bests, listed, priced)
 }
 
 // Robust for a pair of nodes in a column, and in column 1 also with slices that are too short.

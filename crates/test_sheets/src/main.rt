@@ -102,6 +102,20 @@ fn print_refused() {
     print(b"backward.image");
 }
 
+// Edition 2, in which an arc may be closed in a column: settled, open and refused; and what edition 1
+// and any other edition refuse.
+fn print_closed() {
+    print(b"S_in_edition_2.image");
+    print(b"ferry.image");
+    print(b"close_with_ferries.image");
+    print(b"apart_with_ferries.image");
+    print(b"parted.image");
+    print(b"goal_closed.image");
+    print(b"below_the_mark.image");
+    print(b"mark_in_edition_1.image");
+    print(b"edition_3.image");
+}
+
 fn print_too_short() {
     print_in(b"S.image", 1023);
     print_in(b"S.image", 0);
@@ -111,5 +125,6 @@ fn main() {
     print_settled();
     print_open();
     print_refused();
+    print_closed();
     print_too_short();
 }

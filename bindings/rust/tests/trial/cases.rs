@@ -3,7 +3,7 @@
 use crate::tally::numbers;
 use std::path::Path as FilePath;
 use vihrolom::raw::Reply;
-use vihrolom::{calls, Choice, Network, Path, Refusal, Regret, State};
+use vihrolom::{calls, Choice, Found, Network, Path, Refusal, Regret, State};
 
 const S_ARCS: [(u32, u32); 5] = [(1, 2), (1, 3), (2, 3), (2, 4), (3, 4)];
 const S_COLUMNS: [[u32; 5]; 2] = [[2, 5, 1, 6, 2], [4, 1, 2, 1, 7]];
@@ -122,6 +122,22 @@ fn robust_routes_of_s() {
     );
 }
 
+fn found(index: Option<u32>, looks: u32) -> Result<Found, Refusal> {
+    Ok(Found { index, looks })
+}
+
+#[test]
+fn arcs_of_s() {
+    let s = network_s();
+    assert_eq!(s.find(2, 3), found(Some(2), 1));
+    assert_eq!(s.find(1, 2), found(Some(0), 2));
+    assert_eq!(s.find(3, 4), found(Some(4), 3));
+    assert_eq!(s.find(4, 1), found(None, 3));
+    assert_eq!(s.find(0, 0), found(None, 2));
+    assert_eq!(s.find(1, 65_536 + 2), found(None, 3));
+    assert_eq!(s.find(u32::MAX, u32::MAX), found(None, 3));
+}
+
 #[test]
 fn refusals_of_s() {
     let s = network_s();
@@ -214,6 +230,7 @@ fn two_nodes_without_an_arc() {
     assert_eq!(network.columns(), [[]]);
     assert_eq!(network.robust(1, 1, 2, 1), Err(Refusal::NoPath));
     assert_eq!(network.label(1, 2), Ok(vec![None, Some(0)]));
+    assert_eq!(network.find(1, 2), found(None, 0));
 }
 
 #[test]
@@ -250,6 +267,9 @@ fn the_longest_image_is_accepted() {
         network.rank(8, 1, 200, 256).map(|paths| paths.len()),
         Ok(256)
     );
+    let (tail, head) = arcs[999];
+    assert_eq!(network.find(tail, head), found(Some(999), 10));
+    assert_eq!(network.find(tail, head + 1), found(None, 10));
 }
 
 #[test]

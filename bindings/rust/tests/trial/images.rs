@@ -97,6 +97,7 @@ fn hold_refused(image: &[u8], refused: Refused) {
         expected
     );
     assert_eq!(calls::unpack(image, nodes.slice(), costs.slice()), expected);
+    assert_eq!(calls::find(image, 1, 2), expected);
     nodes.assert_holds(&[]);
     costs.assert_holds(&[]);
     work.assert_holds(&[]);

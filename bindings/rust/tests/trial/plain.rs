@@ -132,6 +132,23 @@ impl Net {
         }
     }
 
+    /// Find: the arc's index by a scan, and the looks by the rule, which leaves a part of the arcs.
+    pub fn find(&self, tail: u32, head: u32) -> (Option<u32>, u32) {
+        let arc = (tail, head);
+        let index = self.arcs.iter().position(|&each| each == arc);
+        let (mut left, mut looks) = (&self.arcs[..], 0);
+        while !left.is_empty() {
+            let (before, from_middle) = left.split_at((left.len() - 1) / 2);
+            looks += 1;
+            left = match from_middle[0].cmp(&arc) {
+                std::cmp::Ordering::Less => &from_middle[1..],
+                std::cmp::Ordering::Equal => &[],
+                std::cmp::Ordering::Greater => before,
+            };
+        }
+        (index.map(|index| index as u32), looks)
+    }
+
     /// Label: for each node the least cost of its paths to the goal.
     pub fn label(&self, column: u32, goal: u32) -> Result<Vec<Option<u32>>, Refused> {
         if !self.has_node(goal) {

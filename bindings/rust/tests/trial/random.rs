@@ -31,7 +31,7 @@ fn calls_agree_with_the_enumeration_on_random_networks() {
         "refusal 14",
         "refusal 15",
     ];
-    tally.report("random networks", 12 * NETWORKS, &kinds);
+    tally.report("random networks", 14 * NETWORKS, &kinds);
 }
 
 /// Holds each call on a network to the enumeration, with drawn numbers.
@@ -73,6 +73,10 @@ pub fn hold_calls(net: &Net, network: &Network, draw: &mut Draw, tally: &mut Tal
         tally.saw("paths in the column, none in all");
     }
     tally.hold("robust", got, expected, &about);
+
+    let got = network.find(start, goal);
+    let got = got.map(|found| (found.index, found.looks));
+    tally.hold("find", got, Ok(net.find(start, goal)), &about);
 
     let paths = query.lists();
     for _ in 0..3 {

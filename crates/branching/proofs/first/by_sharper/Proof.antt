@@ -1,6 +1,6 @@
 -- `first::by_sharper`: a walk along the sharpened labels, which are consistent; where they cannot be relied on, the path by exact labels; and where they show that each
 -- path costs more than is wanted, none. Assumes nothing.
-use Prim.Native.Nat.{ℕ, _-_}
+use Prim.Native.Nat.{_-_}
 use native.Mathlib.Omega.{arith}
 use mathlib.Core.Path.{refl}
 use lib.ListN.{length, take, getD}

@@ -13,6 +13,7 @@ use Rattle.candidates.specs.Routes.{route-at, Fits}
 use Rattle.candidates.proofs.RootedLaws.{rooted-fits, route-size}
 use Rattle.candidates.proofs.LayingLaws.{all-laid}
 use Rattle.measuring.specs.Columns.{network}
+use Rattle.measuring.specs.Steps.{Measured}
 use Rattle.choosing.specs.Counting.{Priced}
 use Rattle.choosing.proofs.PricedLaws.{measurable}
 use Rattle.choosing.proofs.counting.measure_at.Statement.{statement}
@@ -82,8 +83,7 @@ measure-requires c κs = let o = c .before .before .before in
 returns : tie.Need-returns
 returns c = let o = placed c in
     let s = start (sized o) in
-    let E = c .measure .ensures in
-    (E .0 ∙ ap (figure-over (net s) (s .args .bests .now)) (laid o), E .1 ∙ ap (worst-over (net s) (s .args .bests .now)) (laid o))
+    subst (λ p. Measured (s .args .limit) (figure-over (net s) (s .args .bests .now) p) (worst-over (net s) (s .args .bests .now) p) (c .measure .result .figure) (c .measure .result .worst)) (laid o) (c .measure .ensures)
 
 pub measure-at-spec : {M : Type 1} → statement M
 measure-at-spec =

@@ -3,12 +3,10 @@ use Prim.Native.Nat.{_+_}
 use native.Mathlib.Omega.{arith}
 use borrow.Author.Needs.{needs}
 use Rattle.star.specs.Layout.{heads-of, outs-of, graph-of}
-use Rattle.star.specs.Star.{Starts}
 use Rattle.star.proofs.NetworkLaws.{network-heads, network-starts}
 use Rattle.exits.proofs.ExitLaws.{scanned-chosen, scanned-usable}
 use Rattle.exits.proofs.stepping.least_exit.Statement.{statement}
 use Rattle.exits.proofs.stepping.least_exit.Tie as tie
-use lib.ListN.{length}
 
 abbrev entry : tie.After-shared-slice-known5 → tie.Start
 entry c = c .before .before .before .before .before

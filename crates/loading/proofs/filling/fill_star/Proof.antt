@@ -1,7 +1,7 @@
 -- `filling::fill_star` lends parts of local arrays: as many places as there are arcs, or nodes and one or two more. Assumes nothing.
-use Prim.Native.Nat.{ℕ, _+_, _≤_}
+use Prim.Native.Nat.{_+_, _≤_}
 use native.Mathlib.Omega.{arith}
-use mathlib.Core.Path.{_≡_, sym, _∙_}
+use mathlib.Core.Path.{sym, _∙_}
 use lib.ListN.{length}
 use Rattle.terms.proofs.RoomLaws.{part-long}
 use Rattle.loading.proofs.SelectLaws.{indices-few}

@@ -1,8 +1,8 @@
 -- `loading::load_common_in` lends as many places as there are arcs that are open in every column. Assumes nothing.
-use Prim.Native.Nat.{ℕ, _+_, _*_, _≤_}
+use Prim.Native.Nat.{ℕ, _*_, _≤_}
 use native.Mathlib.Omega.{arith}
 use native.Mathlib.Nat.{mul-le-mul, mul-le-mul-right}
-use mathlib.Core.Path.{_≡_, sym, _∙_, ap, subst, subst₂}
+use mathlib.Core.Path.{sym, _∙_, ap, subst, subst₂}
 use mathlib.Core.List.{List}
 use lib.ListN.{length, drop}
 use lib.Seq.{length-take-le, take-at}

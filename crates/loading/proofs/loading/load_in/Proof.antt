@@ -1,7 +1,7 @@
 -- `loading::load_in` lends as many places as the column has arcs. Assumes nothing.
-use Prim.Native.Nat.{ℕ, _+_, _*_, _≤_}
+use Prim.Native.Nat.{ℕ, _≤_}
 use native.Mathlib.Omega.{arith}
-use mathlib.Core.Path.{_≡_, sym, _∙_, ap, subst₂}
+use mathlib.Core.Path.{sym, _∙_, ap, subst₂}
 use mathlib.Core.List.{List}
 use lib.ListN.{length, drop}
 use lib.Seq.{length-take-le, take-at}

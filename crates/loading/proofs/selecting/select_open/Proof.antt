@@ -1,5 +1,4 @@
 -- `selecting::select_open`: of all indices, those of the arcs that are open in the column. Assumes nothing.
-use Prim.Native.Nat.{_≤_}
 use native.Mathlib.Omega.{arith}
 use mathlib.Core.Path.{_≡_, sym, _∙_, ap, subst}
 use lib.Seq.{take-length}

@@ -7,10 +7,10 @@ use Rattle.measuring.proofs.arcs.arc_index.Tie as tie
 
 returns : tie.Need-returns
 returns c = λ n ts ws A S l. let a = linked-at A _ _ l in
-    absurd (none-found (c .before .before .find-arc .ensures) (c .enum-told .given .1) S (a .0) (a .1))
+    absurd (none-found (c .before .before .arc-between .ensures) (c .enum-told .given .1) S (a .0) (a .1))
 
 returns-2 : tie.Need-returns-2
-returns-2 c = λ n ts ws A S l. found-at (c .before .before .before .find-arc .ensures) (c .before .found .given .1) S
+returns-2 c = λ n ts ws A S l. found-at (c .before .before .before .arc-between .ensures) (c .before .found .given .1) S
 
 pub arc-index-spec : {M : Type 1} → statement M
 arc-index-spec =

@@ -81,8 +81,7 @@ returns : tie.Need-returns
 unfolding heads-of outs-of
 returns c = let p = c .before .before .before .before in
     let s = start p in
-    let r = c .greatest-excess .ensures in
-    measured-path (s .args .bests .now) (s .pre .0) (s .pre .1 .0) (room p) (p .path-arcs .ensures) (r .0) (r .1)
+    measured-path (s .args .bests .now) (s .pre .0) (s .pre .1 .0) (room p) (p .path-arcs .ensures) (c .greatest-excess .ensures)
 
 pub measure-in-spec : {M : Type 1} → statement M
 measure-in-spec =

@@ -2,7 +2,7 @@
 use Prim.Native.Nat.{ℕ, _+_, _*_, _≤_}
 use native.Mathlib.Omega.{arith}
 use native.Mathlib.Nat.{mul-le-mul, mul-le-mul-right}
-use mathlib.Core.Path.{_≡_, sym, _∙_, ap, subst₂}
+use mathlib.Core.Path.{_≡_, sym, ap, subst₂}
 use lib.ListN.{length, take}
 use lib.Seq.{length-take-le}
 use Rattle.image.specs.Layout.{netOf}

@@ -5,7 +5,6 @@ use mathlib.Core.Path.{_≡_, sym, _∙_, ap, subst}
 use lib.ListN.{length, take, drop}
 use Rattle.star.specs.Layout.{Network}
 use Rattle.image.proofs.OutcomeLaws.{outcome-fault, after-fault}
-use Rattle.loading.proofs.DecodeLaws.{few-nodes}
 use Rattle.measuring.specs.Bests.{Labelled}
 use Rattle.outcomes.specs.Calls.{cleared}
 use Rattle.outcomes.proofs.WorkLaws.{cleared-is, cleared-not}

@@ -1,8 +1,8 @@
 -- `measured::measure_in`: the arcs that are open in every column take the beginning of the slices. Assumes nothing.
-use Prim.Native.Nat.{ℕ, _+_, _*_, _≤_}
+use Prim.Native.Nat.{ℕ, _*_, _≤_}
 use native.Mathlib.Omega.{arith}
 use native.Mathlib.Nat.{mul-le-mul, mul-le-mul-right}
-use mathlib.Core.Path.{_≡_, sym, _∙_, ap, subst}
+use mathlib.Core.Path.{sym, ap, subst}
 use lib.ListN.{length, take}
 use lib.Seq.{length-take-le}
 use Rattle.image.specs.Layout.{netOf}

@@ -1,7 +1,7 @@
 -- `measured::measure_path`: the slices hold the image's network and each column's best, so what is measured is the path's figure and worst column. Assumes nothing.
 use native.Mathlib.Omega.{arith}
 use Rattle.choosing.proofs.PricedLaws.{measurable}
-use Rattle.network_calls.proofs.SharedLaws.{priced-for, path-for, measured-for, figure-small}
+use Rattle.network_calls.proofs.SharedLaws.{priced-for, path-for, measured-below}
 use borrow.Author.Needs.{needs}
 use Rattle.network_calls.proofs.measured.measure_path.Statement.{statement}
 use Rattle.network_calls.proofs.measured.measure_path.Tie as tie
@@ -24,17 +24,21 @@ measure-requires c κs = let q = priced c in
     let H = q .price .ensures in
     measurable (priced-for (p .0 .0) (p .0 .1) n (p .1 .0) H) (p .1 .0 .start-in .from) (omega (arith, n, p .1 .0 .start-in .upto)) (p .1 .0 .apart) (path-for (p .0 .0) (p .0 .1) n (p .1 .0) H (p .1 .1))
 
+-- the figure is far below the limit, so it is what is measured, with its worst column
+abbrev measured : tie.After-measure → tie.After-price
+measured x = priced (x .before)
+
 cast-t20 : tie.Need-cast-t20
 cast-t20 c = let x = c .before in
-    let q = priced (x .before) in
+    let q = measured x in
     let p = start q .pre in
-    omega (arith, figure-small (p .0 .0) (p .0 .1) (p .0 .0 .nodes-are) (p .1 .0) (q .price .ensures) (p .1 .1) (x .measure .ensures .0))
+    omega (arith, measured-below (p .0 .0) (p .0 .1) (p .0 .0 .nodes-are) (p .1 .0) (q .price .ensures) (p .1 .1) (omega arith) (x .measure .ensures) .1)
 
 returns : tie.Need-returns
 returns c = let x = c .before in
-    let q = priced (x .before) in
+    let q = measured x in
     let p = start q .pre in
-    measured-for (p .0 .0) (p .0 .1) (p .0 .0 .nodes-are) (p .1 .0) (q .price .ensures) (p .1 .1) (x .measure .ensures .0) (x .measure .ensures .1)
+    measured-below (p .0 .0) (p .0 .1) (p .0 .0 .nodes-are) (p .1 .0) (q .price .ensures) (p .1 .1) (omega arith) (x .measure .ensures) .0
 
 pub measure-path-spec : {M : Type 1} → statement M
 measure-path-spec =

@@ -1,6 +1,5 @@
 -- `measured::measure_shared`: each return is the first of rows 14 and 16 that applies, or the measure. Assumes nothing.
 use Prim.Native.Nat.{ℕ, _+_, _≤_}
-use native.Mathlib.Omega.{arith}
 use mathlib.Core.Path.{_≡_, sym, _∙_, ap, ap₂, subst}
 use mathlib.Core.List.{[], _∷_}
 use mathlib.Core.Option.{none}

@@ -27,26 +27,26 @@ abbrev μ-search : tie.MeasureT-search
 search-holds : tie.Need-search-holds Inv-loop μ-loop Inv-search μ-search
 search-holds c = let p = c .before .before .before .pre in (omega arith, p .nonempty, p .first-in, λ n ts S i h k. absurd (omega arith))
 
-sub-find-arc : tie.Need-sub-find-arc Inv-loop μ-loop Inv-search μ-search
-sub-find-arc c = omega arith
+sub-arc-between : tie.Need-sub-arc-between Inv-loop μ-loop Inv-search μ-search
+sub-arc-between c = omega arith
 
-mul-find-arc : tie.Need-mul-find-arc Inv-loop μ-loop Inv-search μ-search
-mul-find-arc c = omega arith
+mul-arc-between : tie.Need-mul-arc-between Inv-loop μ-loop Inv-search μ-search
+mul-arc-between c = omega arith
 
-shared-slice-read-find-arc : tie.Need-shared-slice-read-find-arc Inv-loop μ-loop Inv-search μ-search
-shared-slice-read-find-arc c = omega arith
+shared-slice-read-arc-between : tie.Need-shared-slice-read-arc-between Inv-loop μ-loop Inv-search μ-search
+shared-slice-read-arc-between c = omega arith
 
-cast-find-arc : tie.Need-cast-find-arc Inv-loop μ-loop Inv-search μ-search
-cast-find-arc c = omega (arith, c .shared-slice-known4 .given (c .before .before .search .at - 1))
+cast-arc-between : tie.Need-cast-arc-between Inv-loop μ-loop Inv-search μ-search
+cast-arc-between c = omega (arith, c .shared-slice-known4 .given (c .before .before .search .at - 1))
 
-mul-find-arc-2 : tie.Need-mul-find-arc-2 Inv-loop μ-loop Inv-search μ-search
-mul-find-arc-2 c = omega arith
+mul-arc-between-2 : tie.Need-mul-arc-between-2 Inv-loop μ-loop Inv-search μ-search
+mul-arc-between-2 c = omega arith
 
-shared-slice-read-find-arc-2 : tie.Need-shared-slice-read-find-arc-2 Inv-loop μ-loop Inv-search μ-search
-shared-slice-read-find-arc-2 c = omega arith
+shared-slice-read-arc-between-2 : tie.Need-shared-slice-read-arc-between-2 Inv-loop μ-loop Inv-search μ-search
+shared-slice-read-arc-between-2 c = omega arith
 
-find-arc-requires : tie.Need-find-arc-requires Inv-loop μ-loop Inv-search μ-search
-find-arc-requires c κs = let s = c .before .before .before in
+arc-between-requires : tie.Need-arc-between-requires Inv-loop μ-loop Inv-search μ-search
+arc-between-requires c κs = let s = c .before .before .before in
     (s .search .inv .2, s .before .before .before .before .pre .within _ (s .search .inv .2))
 
 loop-holds : tie.Need-loop-holds Inv-loop μ-loop Inv-search μ-search
@@ -89,8 +89,8 @@ search-again c = let l = c .before in
     let e : s .search .at + 1 - 1 ≡ s .search .at = omega arith in (
       omega arith,
       omega arith,
-      rw e (let k = found-index (f .find-arc .ensures) told in omega (arith, p .heads-in _ (k .0), k .1)),
-      λ n ts S. below-more _ (s .search .at) (s .search .inv .3 n ts S) (λ _. record { arc = (_, found-at (f .find-arc .ensures) told S); new = λ j h. l .loop .inv .1 j (omega arith) }),
+      rw e (let k = found-index (f .arc-between .ensures) told in omega (arith, p .heads-in _ (k .0), k .1)),
+      λ n ts S. below-more _ (s .search .at) (s .search .inv .3 n ts S) (λ _. record { arc = (_, found-at (f .arc-between .ensures) told S); new = λ j h. l .loop .inv .1 j (omega arith) }),
     )
 
 returns : tie.Need-returns Inv-loop μ-loop Inv-search μ-search
@@ -100,7 +100,7 @@ returns c = let i = c .before .search .inv in
 returns-2 : tie.Need-returns-2 Inv-loop μ-loop Inv-search μ-search
 returns-2 c = let f = c .before .before in
     let i = f .before .before .before .before .search .inv in
-    λ n ts S. record { after-first = i .0; upto = i .1; right-before = i .3 n ts S; wrong-here = λ _ o. none-found (f .find-arc .ensures) (c .enum-told2 .given .1) S (o .arc .0) (o .arc .1) }
+    λ n ts S. record { after-first = i .0; upto = i .1; right-before = i .3 n ts S; wrong-here = λ _ o. none-found (f .arc-between .ensures) (c .enum-told2 .given .1) S (o .arc .0) (o .arc .1) }
 
 returns-3 : tie.Need-returns-3 Inv-loop μ-loop Inv-search μ-search
 returns-3 c = let l = c .before .before .before in
@@ -116,13 +116,13 @@ first-error-spec =
     Inv-search
     μ-search
     search-holds
-    sub-find-arc
-    mul-find-arc
-    shared-slice-read-find-arc
-    cast-find-arc
-    mul-find-arc-2
-    shared-slice-read-find-arc-2
-    find-arc-requires
+    sub-arc-between
+    mul-arc-between
+    shared-slice-read-arc-between
+    cast-arc-between
+    mul-arc-between-2
+    shared-slice-read-arc-between-2
+    arc-between-requires
     (λ c. search needs)
     (λ c. search needs)
     loop-holds

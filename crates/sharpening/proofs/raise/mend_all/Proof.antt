@@ -1,5 +1,5 @@
 -- `raise::mend_all` mends label after label, from the last to the first. The loop: those of the first i nodes are still to be mended. Assumes nothing.
-use Prim.Native.Nat.{ℕ, _-_, _≤_, _<_}
+use Prim.Native.Nat.{ℕ, _-_, _≤_}
 use native.Mathlib.Omega.{arith}
 use mathlib.Core.Path.{_≡_, refl}
 use mathlib.Core.List.{List}

@@ -1,5 +1,5 @@
 -- `search::spread` follows arc after arc. The loop: keys and list are as a search has them, and the arcs left fall. Assumes nothing.
-use Prim.Native.Nat.{_+_, _-_, _≤_, _<_}
+use Prim.Native.Nat.{_+_, _-_, _<_}
 use native.Mathlib.Omega.{arith}
 use mathlib.Core.Path.{_≡_, refl, _∙_}
 use lib.ListN.{length, getD}

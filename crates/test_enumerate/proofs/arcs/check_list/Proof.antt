@@ -5,10 +5,10 @@ use Rattle.test_enumerate.proofs.arcs.check_list.Statement.{statement}
 use Rattle.test_enumerate.proofs.arcs.check_list.Tie as tie
 
 abbrev Inv-loop : tie.InvT-loop
-Inv-loop arcs start goal nodes i₀ i-end i = 1 ≤ i
+Inv-loop arcs costs start goal nodes i₀ i-end i = 1 ≤ i
 
 abbrev μ-loop : tie.MeasureT-loop
-μ-loop arcs start goal nodes i₀ i-end i = i-end - i
+μ-loop arcs costs start goal nodes i₀ i-end i = i-end - i
 
 pub check-list-spec : {M : Type 1} → statement M
 check-list-spec =

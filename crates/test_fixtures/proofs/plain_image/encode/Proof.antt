@@ -7,10 +7,10 @@ use Rattle.test_fixtures.proofs.plain_image.encode.Statement.{statement
 use Rattle.test_fixtures.proofs.plain_image.encode.Tie as tie
 
 abbrev Inv-loop : tie.InvT-loop
-Inv-loop n k nodes costs image₀ at₀ at-end image at = length image ≡ length image₀
+Inv-loop header nodes costs image₀ at₀ at-end image at = length image ≡ length image₀
 
 abbrev μ-loop : tie.MeasureT-loop
-μ-loop n k nodes costs image₀ at₀ at-end image at = at-end - at
+μ-loop header nodes costs image₀ at₀ at-end image at = at-end - at
 
 pub encode-spec : {M : Type 1} → statement M
 encode-spec =

@@ -7,10 +7,10 @@ use Rattle.test_images.proofs.image_changes.note_changed_byte.Statement
 use Rattle.test_images.proofs.image_changes.note_changed_byte.Tie as tie
 
 abbrev Inv-loop : tie.InvT-loop
-Inv-loop report₀ image₀ at step₀ report image step = length image ≡ length image₀
+Inv-loop report₀ image₀ at own step₀ report image step = length image ≡ length image₀
 
 abbrev μ-loop : tie.MeasureT-loop
-μ-loop report₀ image₀ at step₀ report image step = 256 - step
+μ-loop report₀ image₀ at own step₀ report image step = 256 - step
 
 pub note-changed-byte-spec : {M : Type 1} → statement M
 note-changed-byte-spec =
@@ -18,17 +18,16 @@ note-changed-byte-spec =
     (tie.spec
     Inv-loop
     μ-loop
-    (λ c. search needs)
     (λ c κs. search needs)
     (λ c. search needs)
     (λ c. search needs)
     (λ c. search needs)
+    (λ c. search needs)
     (λ c κs. search needs)
     (λ c κs. search needs)
     (λ c. search needs)
     (λ c. search needs)
     (λ c. search needs)
-    (λ c κs. search needs)
     (λ c κs. search needs)
     (λ c. search needs)
     (λ c. search needs))

@@ -5,10 +5,10 @@ use Rattle.test_images.proofs.plain_answers.costs_answer.Statement.{sta
 use Rattle.test_images.proofs.plain_answers.costs_answer.Tie as tie
 
 abbrev Inv-loop : tie.InvT-loop
-Inv-loop costs i₀ i-end i = Unit
+Inv-loop edition costs i₀ i-end i = Unit
 
 abbrev μ-loop : tie.MeasureT-loop
-μ-loop costs i₀ i-end i = i-end - i
+μ-loop edition costs i₀ i-end i = i-end - i
 
 pub costs-answer-spec : {M : Type 1} → statement M
 costs-answer-spec =
@@ -19,6 +19,7 @@ costs-answer-spec =
     (λ c. search needs)
     (λ c. search needs)
     (λ c. search needs)
+    (λ c κs. search needs)
     (λ c κs. search needs)
     (λ c κs. search needs)
     (λ c. search needs)

@@ -5,10 +5,10 @@ use Rattle.test_routes.proofs.path_lists.note_lists.Statement.{statemen
 use Rattle.test_routes.proofs.path_lists.note_lists.Tie as tie
 
 abbrev Inv-loop : tie.InvT-loop
-Inv-loop report₀ n start goal arcs costs bests path numbers image from kind₀ report kind = Unit
+Inv-loop report₀ trip arcs costs bests path numbers image from kind₀ report kind = Unit
 
 abbrev μ-loop : tie.MeasureT-loop
-μ-loop report₀ n start goal arcs costs bests path numbers image from kind₀ report kind = 5 - kind
+μ-loop report₀ trip arcs costs bests path numbers image from kind₀ report kind = 5 - kind
 
 pub note-lists-spec : {M : Type 1} → statement M
 note-lists-spec =

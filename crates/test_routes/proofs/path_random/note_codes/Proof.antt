@@ -7,10 +7,10 @@ use Rattle.test_routes.proofs.path_random.note_codes.Statement.{stateme
 use Rattle.test_routes.proofs.path_random.note_codes.Tie as tie
 
 abbrev Inv-loop : tie.InvT-loop
-Inv-loop report₀ size arcs costs numbers image rows₀ prices₀ labels₀ code₀ report rows prices labels code = (length rows ≡ length rows₀) × (length prices ≡ length prices₀) × (length labels ≡ length labels₀)
+Inv-loop report₀ header arcs costs numbers image rows₀ prices₀ labels₀ code₀ report rows prices labels code = (length rows ≡ length rows₀) × (length prices ≡ length prices₀) × (length labels ≡ length labels₀)
 
 abbrev μ-loop : tie.MeasureT-loop
-μ-loop report₀ size arcs costs numbers image rows₀ prices₀ labels₀ code₀ report rows prices labels code = 64 - code
+μ-loop report₀ header arcs costs numbers image rows₀ prices₀ labels₀ code₀ report rows prices labels code = 64 - code
 
 pub note-codes-spec : {M : Type 1} → statement M
 note-codes-spec =

@@ -1,0 +1,2 @@
+-- for the proofs of this crate
+mod FindLaws
