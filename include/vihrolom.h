@@ -36,24 +36,28 @@ struct vihrolom_reply {
 };
 
 // The refusal table. Of the rows that apply, a call gives the one with the lowest number, except that arcs
-// are examined in their order, each by rows 6, 7 and 8. A call skips rows about things that it has not got.
+// are examined in their order, each by rows 6, 7 and 8, and records in theirs, each by 17, 18 and 9. A call skips rows about things that it has not got.
 enum vihrolom_refusal {
     VIHROLOM_IMAGE_TOO_SHORT = 1,   // image under 24 bytes
     VIHROLOM_WRONG_EDITION = 2,     // edition isn't 1 or 2
     VIHROLOM_SIZE_OUT_OF_RANGE = 3, // n, m or k outside its range
-    VIHROLOM_WRONG_FIELD = 4,       // an offset, total or reserved field is wrong; in Build, odd node list or costs not mk
+    VIHROLOM_WRONG_FIELD = 4,       // an offset, total or reserved field is wrong; in Build, odd node list or costs not mk;
+                                    // in Update, a list that isn't of fours
     VIHROLOM_WRONG_LENGTH = 5,      // image length isn't the total
     VIHROLOM_ARC_OUT_OF_RANGE = 6,  // tail or head outside 1..n; place: arc index
     VIHROLOM_ARC_TO_ITSELF = 7,     // tail equals head; place: arc index
     VIHROLOM_ARC_NOT_RISING = 8,    // arc not above the one before; place: arc index
-    VIHROLOM_COST_TOO_LARGE = 9,    // cost above 1,000,000 that isn't VIHROLOM_CLOSED in edition 2; place: its index, from 0
+    VIHROLOM_COST_TOO_LARGE = 9,    // cost above 1,000,000 that isn't VIHROLOM_CLOSED in edition 2; place: its index, from 0;
+                                    // in Update, the record's
     VIHROLOM_WRONG_ENDS = 10,       // start or goal outside 1..n, or equal
     VIHROLOM_WRONG_COLUMN = 11,     // column outside 1..k
     VIHROLOM_WRONG_PATH_COUNT = 12, // K outside 1..256
     VIHROLOM_SLICE_TOO_SHORT = 13,  // a lent slice is too short
     VIHROLOM_NOT_A_PATH = 14,       // the node list is no path; place: see vihrolom_regret
     VIHROLOM_NO_PATH = 15,          // no path exists: in the column (Shortest, Rank), or open in every column (Robust)
-    VIHROLOM_COST_OVERFLOW = 16     // a path cost exceeds 4,000,000,000
+    VIHROLOM_COST_OVERFLOW = 16,    // a path cost exceeds 4,000,000,000
+    VIHROLOM_WRONG_RECORD_ARC = 17, // a record's arc index is m or more; place: the record's index
+    VIHROLOM_WRONG_RECORD_COLUMN = 18 // a record's column is outside 1..k; place: the record's index
 };
 
 // The state of Robust's answer.
@@ -116,6 +120,17 @@ struct vihrolom_reply vihrolom_build(uint32_t edition, uint32_t n, uint32_t k, c
 // Refuses by rows 1 to 9 and 13.
 struct vihrolom_reply vihrolom_unpack(const uint8_t *image, size_t image_length, uint16_t *nodes,
                                       size_t nodes_length, uint32_t *costs, size_t costs_length);
+
+// Update: writes the costs of a list of records over those of an image. For one arc and column the record with
+// the greatest stamp counts, and of equal stamps the later in the list; the others have no effect, but each is
+// examined. Costs without a record stay.
+//   image:   the image; its costs are written
+//   records: four numbers each: arc index from 0, column, cost (in edition 2 also VIHROLOM_CLOSED), stamp
+//   no values
+// Refuses by rows 1 to 9, of which 4 is also for a list whose length isn't a multiple of four; then by the first
+// record in error, by 17, 18 or 9.
+struct vihrolom_reply vihrolom_update(uint8_t *image, size_t image_length, const uint32_t *records,
+                                      size_t records_length);
 
 // ---- the path layer
 

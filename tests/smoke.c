@@ -1,4 +1,4 @@
-// Calls the nine C functions on the cases of docs/REFERENCE.md and on an example of each refusal. Every
+// Calls the ten C functions on the cases of docs/REFERENCE.md and on an example of each refusal. Every
 // lent list stands at the beginning of a longer buffer that holds a pattern, and after each call the whole
 // buffer is held to what it has to be: what is written, what is kept, and what lies behind the list.
 // Prints the number of checks; stops at the first that fails, with exit status 1. C99, and C++ as well.
@@ -201,6 +201,17 @@ static void find_case(const char *name, uint32_t tail, uint32_t head, reply due)
     expect_list("the image", &image);
 }
 
+// The image is written; `result` is null if it must stay as it is.
+static void update_case(const char *name, struct list target, struct list records, reply due, const uint32_t *result) {
+    running = name;
+    for (size_t i = 0; result != NULL && i < M * COLUMNS; i++)
+        for (size_t byte = 0; byte < 4; byte++)
+            target.due.bytes[24 + 4 * M + 4 * i + byte] = (uint8_t)(result[i] >> (8 * byte));
+    expect_reply(vihrolom_update(target.is.bytes, target.length, records.is.numbers, records.length), due);
+    expect_list("the image", &target);
+    expect_list("the records", &records);
+}
+
 // ---- replies
 
 static reply gives(uint32_t v0, uint32_t v1, uint32_t v2) {
@@ -270,6 +281,27 @@ static void unpack_cases(void) {
     image = damaged(0, 7);
     unpack_case("Unpack edition 7", 2 * M, M * COLUMNS, refused(VIHROLOM_WRONG_EDITION, 0), NULL, NULL);
     image = bytes(S_image, sizeof S_image);
+}
+
+static void update_cases(void) {
+    struct list s = bytes(S_image, sizeof S_image), refused_image = damaged(24, 0);
+    // arc, column, cost, stamp; the third and the second count
+    const uint32_t told[] = {0, 1, 8, 5, 4, 2, 3, 0, 0, 1, 9, 5, 0, 1, 7, 4};
+    const uint32_t after[] = {9, 5, 1, 6, 2, 4, 1, 2, 1, 3};
+    update_case("Update S", s, numbers(told, 16), gives(0, 0, 0), after);
+    update_case("Update S by no record", s, numbers(told, 0), gives(0, 0, 0), S_costs);
+    const uint32_t shut[] = {1, 2, VIHROLOM_CLOSED, 0}, shut_costs[] = {2, 5, 1, 6, 2, 4, VIHROLOM_CLOSED, 2, 1, 7};
+    update_case("Update closes an arc in edition 2", damaged(0, 2), numbers(shut, 4), gives(0, 0, 0), shut_costs);
+    update_case("Update closes an arc in edition 1", s, numbers(shut, 4), refused(VIHROLOM_COST_TOO_LARGE, 0), NULL);
+    const uint32_t arc[] = {0, 1, 8, 5, 5, 3, 1000001, 0}, column[] = {0, 1, 8, 5, 0, 3, 1000001, 0};
+    const uint32_t cost[] = {0, 1, 8, 5, 0, 1, 8, 5, 0, 1, 1000001, 0};
+    update_case("Update with arc 5", s, numbers(arc, 8), refused(VIHROLOM_WRONG_RECORD_ARC, 1), NULL);
+    update_case("Update with column 3", s, numbers(column, 8), refused(VIHROLOM_WRONG_RECORD_COLUMN, 1), NULL);
+    update_case("Update with a cost above 1,000,000 that loses", s, numbers(cost, 12), refused(VIHROLOM_COST_TOO_LARGE, 2), NULL);
+    update_case("Update by seven numbers", s, numbers(arc, 7), refused(VIHROLOM_WRONG_FIELD, 0), NULL);
+    update_case("Update an image with arc 0 2 by seven numbers", refused_image, numbers(arc, 7), refused(VIHROLOM_WRONG_FIELD, 0), NULL);
+    update_case("Update an image with arc 0 2", refused_image, numbers(arc, 8), refused(VIHROLOM_ARC_OUT_OF_RANGE, 0), NULL);
+    update_case("Update edition 7 by seven numbers", damaged(0, 7), numbers(arc, 7), refused(VIHROLOM_WRONG_EDITION, 0), NULL);
 }
 
 static void label_cases(void) {
@@ -423,6 +455,7 @@ int main(void) {
     build_cases();
     check_cases();
     unpack_cases();
+    update_cases();
     label_cases();
     shortest_cases();
     regret_cases();

@@ -8,6 +8,11 @@ leads to, and its travel time in each column, a whole number from 0 to 1,000,000
 or nothing, where the road is closed in that column, like a ferry that does not sail. The route leads
 from the first place of the file to the last if no others are named. It is open in every column, and
 in each it is held against the best route of that column.
+
+With --records a second file of CSV text tells new travel times. Its first line is
+`from,to,column,time,stamp`, and each other line names a road and a column, and gives the time, `-` or
+nothing where the road is closed, and a stamp, a whole number from 0 to 4,294,967,295. Of several lines
+for one road and column the one with the greatest stamp counts, and of equal stamps the last.
 """
 from __future__ import annotations
 
@@ -23,6 +28,8 @@ MOST_PLACES = 200
 MOST_ROADS = 1000
 MOST_COLUMNS = 8
 MOST_TIME = 1_000_000
+MOST_STAMP = 2**32 - 1
+RECORD_HEADER = ["from", "to", "column", "time", "stamp"]
 
 
 class Complaint(Exception):
@@ -75,15 +82,33 @@ class Roads:
         """The roads that are open in every column."""
         return [road for road, times in self.times.items() if None not in times]
 
-    def image(self, roads: Iterable[Tuple[int, int]]) -> bytes:
+    def record(self, fields: Sequence[str]) -> vihrolom.Record:
+        """The record of one line of a file of records."""
+        if len(fields) != len(RECORD_HEADER):
+            raise Complaint(f"{len(fields)} fields in place of {len(RECORD_HEADER)}")
+        start, goal, column, time, stamp = fields
+        road = self.places.get(start), self.places.get(goal)
+        if road not in self.times:
+            raise Complaint(f"there is no road from {start!r} to {goal!r}")
+        arc, u = sorted(self.times).index(road), find(self.columns, column, "column")
+        return vihrolom.Record(arc, u, travel_time(time), whole(stamp, "stamp", MOST_STAMP))
+
+    def update(self, records: Iterable[vihrolom.Record]) -> None:
+        """Takes in the times of the winning records."""
+        arcs = sorted(self.times)
+        costs = vihrolom.unpack(vihrolom.update(self.image(arcs, 2), records)).costs
+        for index, arc in enumerate(arcs):
+            self.times[arc] = list(costs[index :: len(arcs)])
+
+    def image(self, roads: Iterable[Tuple[int, int]], least: int = 1) -> bytes:
         """The network image of some of the roads, with each place as a node.
 
-        It has edition 2 if one of them is closed in a column, else edition 1.
+        It has edition 2 if one of them is closed in a column, else the least edition asked for.
         """
         arcs = sorted(roads)
         ends = [place for arc in arcs for place in arc]
         costs = [self.times[arc][u] for u in range(len(self.columns)) for arc in arcs]
-        edition = 2 if None in costs else 1
+        edition = 2 if None in costs else least
         return vihrolom.build(edition, len(self.places), len(self.columns), ends, costs)
 
     def costs(self, path: Sequence[int]) -> List[int]:
@@ -105,16 +130,19 @@ def check_name(name: str) -> None:
 
 def travel_time(text: str) -> Optional[int]:
     """The time that a field of the file gives, or None if it says that the road is closed."""
-    if text in ("", "-"):
-        return None
+    return None if text in ("", "-") else whole(text, "time", MOST_TIME)
+
+
+def whole(text: str, kind: str, most: int) -> int:
+    """The whole number that a field gives, from 0 to the most."""
     digits = text[1:] if text.startswith("-") else text
     if not (digits.isascii() and digits.isdigit()):
         raise Complaint(f"{text!r} is no whole number")
     if text.startswith("-"):
-        raise Complaint(f"the time {text} is negative")
+        raise Complaint(f"the {kind} {text} is negative")
     # the length is looked at first, since Python refuses to convert some thousands of digits
-    if len(digits.lstrip("0")) > len(str(MOST_TIME)) or int(digits) > MOST_TIME:
-        raise Complaint(f"the time {text:.20} is above {MOST_TIME}")
+    if len(digits.lstrip("0")) > len(str(most)) or int(digits) > most:
+        raise Complaint(f"the {kind} {text:.20} is above {most}")
     return int(digits)
 
 
@@ -152,6 +180,24 @@ def read_roads(path: str) -> Roads:
     if not roads.times:
         raise Complaint(f"{path} has no road")
     return roads
+
+
+def read_records(path: str, roads: Roads) -> List[vihrolom.Record]:
+    """The records of a file, of these roads."""
+    records: Optional[List[vihrolom.Record]] = None
+    for line, fields in read_lines(path):
+        try:
+            if records is not None:
+                records.append(roads.record(fields))
+            elif fields != RECORD_HEADER:
+                raise Complaint(f"the first line must be {','.join(RECORD_HEADER)}")
+            else:
+                records = []
+        except Complaint as complaint:
+            raise Complaint(f"{path}, line {line}: {complaint}") from None
+    if records is None:
+        raise Complaint(f"{path} is empty")
+    return records
 
 
 def find(names: Sequence[str], name: str, kind: str) -> int:
@@ -195,6 +241,8 @@ def aligned(rows: Sequence[Sequence[object]]) -> str:
 def report(options: argparse.Namespace) -> str:
     """The sheet with the names of places and columns, and the ranked routes."""
     roads = read_roads(options.file)
+    if options.records is not None:
+        roads.update(read_records(options.records, roads))
     places = list(roads.places)
     start = places[0] if options.start is None else options.start
     goal = places[-1] if options.goal is None else options.goal
@@ -233,6 +281,7 @@ def parse(arguments: Sequence[str]) -> argparse.Namespace:
     parser.add_argument("--from", dest="start", metavar="PLACE", help="where the route begins")
     parser.add_argument("--to", dest="goal", metavar="PLACE", help="where the route ends")
     parser.add_argument("--column", help="the column to rank by; the first, if none is named")
+    parser.add_argument("--records", metavar="FILE", help="new travel times")
     parser.add_argument("--paths", type=int, default=8, metavar="K", help="how many paths to rank, 1 to 256")
     return parser.parse_args(arguments)
 

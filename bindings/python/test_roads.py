@@ -53,6 +53,54 @@ class Commands(unittest.TestCase):
         self.complains(f"{self.file}{complaint}", self.file)
 
 
+class Records(Commands):
+    HEADER = "from,to,column,time,stamp\n"
+
+    def setUp(self):
+        super().setUp()
+        self.write(S)
+        self.told = os.path.join(self.folder, "records.csv")
+
+    def tell(self, content):
+        with open(self.told, "w", encoding="utf-8") as file:
+            file.write(content)
+        return self.run_main(self.file, "--records", self.told)
+
+    def test_records_count_by_stamp(self):
+        self.write(S.replace("C,D,2,7", "C,D,2,9"))
+        due = self.run_main(self.file)
+        self.write(S)
+        lines = "C,D,rush,8,3\nC,D,rush,9,3\nC,D,rush,1,2\nA,B,calm,2,0\n"
+        self.assertEqual(self.tell(self.HEADER + lines), due)
+
+    def test_records_close_and_open(self):
+        self.write(S.replace("C,D,2,7", "C,D,2,-"))
+        due = self.run_main(self.file)
+        self.write(S)
+        self.assertEqual(self.tell(self.HEADER + "C,D,rush,-,1\n"), due)
+        self.assertEqual(self.tell(self.HEADER + "C,D,rush,,1\n"), due)
+        self.assertEqual(self.tell(self.HEADER + "C,D,rush,-,1\nC,D,rush,7,1\n"), self.run_main(self.file))
+        self.assertEqual(self.tell(self.HEADER), self.run_main(self.file))
+
+    def complains_of_records(self, complaint, content):
+        self.assertEqual(self.tell(content), (1, "", f"roads.py: {self.told}{complaint}\n"))
+
+    def test_complaints(self):
+        self.complains_of_records(" is empty", "")
+        self.complains_of_records(", line 1: the first line must be from,to,column,time,stamp", "from,to\n")
+        for line, complaint in (
+            ("C,D,rush,1", "4 fields in place of 5"),
+            ("D,C,rush,1,1", "there is no road from 'D' to 'C'"),
+            ("C,X,rush,1,1", "there is no road from 'C' to 'X'"),
+            ("C,D,noon,1,1", "there is no column 'noon' in the file"),
+            ("C,D,rush,1000001,1", "the time 1000001 is above 1000000"),
+            ("C,D,rush,1,x", "'x' is no whole number"),
+            ("C,D,rush,1,-1", "the stamp -1 is negative"),
+            ("C,D,rush,1,4294967296", "the stamp 4294967296 is above 4294967295"),
+        ):
+            self.complains_of_records(f", line 2: {complaint}", f"{self.HEADER}{line}\n")
+
+
 class Output(Commands):
     def test_network_s(self):
         self.write(S)

@@ -106,6 +106,30 @@ class Cases(unittest.TestCase):
         self.assertEqual(outcome(vihrolom.robust, CLOSED, 1, 3, 4, 5), (15, 0))
         self.assertEqual(vihrolom.sheet(CLOSED), "route 1 2 4\nregret 3 column 1\nranked 1 settled\n")
 
+    def test_update(self):
+        lists = vihrolom.unpack(S)
+        records = [(0, 1, 8, 5), (4, 2, 3, 0), vihrolom.Record(0, 1, 9, 5), (0, 1, 7, 4)]
+        costs = list(lists.costs)
+        costs[0], costs[9] = 9, 3
+        after = vihrolom.update(S, records)
+        self.assertEqual(after, vihrolom.build(1, 4, 2, lists.ends, costs))
+        self.assertEqual(vihrolom.update(S, []), S)
+        # each record is examined, and the first in error is given
+        self.assertEqual(outcome(vihrolom.update, S, [(0, 1, 8, 5), (5, 3, None, 0)]), (17, 1))
+        self.assertEqual(outcome(vihrolom.update, S, [(-1, 1, 8, 5)]), (17, 0))
+        self.assertEqual(outcome(vihrolom.update, S, [(2**32, 1, 8, 5)]), (17, 0))
+        self.assertEqual(outcome(vihrolom.update, S, [(0, 3, None, 0), (5, 1, 0, 0)]), (18, 0))
+        self.assertEqual(outcome(vihrolom.update, S, [(0, 2**32 + 1, 0, 0)]), (18, 0))
+        self.assertEqual(outcome(vihrolom.update, S, [(0, 1, 8, 5), (0, 1, 8, 5), (0, 1, None, 0)]), (9, 2))
+        for stamp in (-1, 2**32):
+            with self.assertRaises(ValueError):
+                vihrolom.update(S, [(0, 1, 8, stamp)])
+        # in edition 2 a record closes an arc, and another opens it again
+        edition_2 = vihrolom.build(2, 4, 2, lists.ends, lists.costs)
+        closed = vihrolom.update(edition_2, [(1, 2, None, 7)])
+        self.assertIsNone(vihrolom.unpack(closed).costs[6])
+        self.assertEqual(vihrolom.update(closed, [(1, 2, 1, 0)]), edition_2)
+
     def test_find(self):
         self.assertEqual(vihrolom.find(S, 2, 3), Found(2, 1))
         self.assertEqual(vihrolom.find(S, 1, 2), Found(0, 2))
@@ -182,6 +206,7 @@ class Refusals(Refusing):
         self.refused(number, place, vihrolom.rank, image, 1, 1, 4, 1)
         self.refused(number, place, vihrolom.robust, image, 1, 1, 4, 1)
         self.refused(number, place, vihrolom.find, image, 1, 2)
+        self.refused(number, place, vihrolom.update, image, [(9, 9, None, 0)])
         self.assertEqual(vihrolom.sheet(image), f"refused {number} at {place}\n")
 
     def refused_field(self, number, place, offset, form, value):

@@ -16,8 +16,8 @@ in every column, and hold them in each against the best path of that column.
 Numbers may be any whole numbers. One that does not fit the 32 bits of its parameter, or the 16 bits
 of a node in a list, is never cut down to them: it is refused by the refusal table, since it is
 no edition, outside 1..n, 1..k or 1..256 or above 1,000,000; Find, which refuses no number, finds no
-arc. The table has no row for a negative cost; that raises ValueError. What is no whole number raises
-TypeError.
+arc. The table has no row for a negative cost, nor for a stamp that does not fit 32 bits; these raise
+ValueError. What is no whole number raises TypeError.
 """
 from __future__ import annotations
 
@@ -26,7 +26,7 @@ import functools
 import operator
 import os
 from dataclasses import dataclass
-from typing import Iterable, List, Optional, Tuple
+from typing import Iterable, List, NamedTuple, Optional, Tuple
 
 _FOLDER = os.path.dirname(os.path.abspath(__file__))
 _LIBRARY = os.path.join(_FOLDER, "..", "..", "target", "sharedlib", "libvihrolom.so")
@@ -43,7 +43,7 @@ _ROWS = (
     "image under 24 bytes",
     "edition isn't 1 or 2",
     "n, m or k outside its range",
-    "an offset, total or reserved field is wrong; in Build, odd node list or costs not mk",
+    "an offset, total or reserved field is wrong; in Build, odd node list or costs not mk; in Update, a list that isn't of fours",
     "image length isn't the total",
     "tail or head outside 1..n",
     "tail equals head",
@@ -56,6 +56,8 @@ _ROWS = (
     "the node list is no path",
     "no path exists",
     "a path cost exceeds 4,000,000,000",
+    "a record's arc index is m or more",
+    "a record's column is outside 1..k",
 )
 
 
@@ -139,6 +141,18 @@ class Found:
     looks: int
 
 
+class Record(NamedTuple):
+    """What a van tells of one arc in one column.
+
+    `arc` is the arc's index, from 0, and `cost` is None if the arc is closed in the column.
+    """
+
+    arc: int
+    column: int
+    cost: Optional[int]
+    stamp: int
+
+
 def build(
     edition: int,
     nodes: int,
@@ -172,6 +186,24 @@ def unpack(image: bytes) -> Lists:
     costs = (ctypes.c_uint32 * (sizes.arcs * sizes.columns))()
     _call("unpack", _image(image), ends, costs)
     return Lists(sizes, tuple(ends), tuple(_unmarked(costs)))
+
+
+def update(image: bytes, records: Iterable[Record]) -> bytes:
+    """The image after a list of records, each of arc index, column, cost and stamp.
+
+    For one arc and column the record with the greatest stamp counts, and of equal stamps the later
+    in the list. Costs without a record stay. In edition 2 a cost may be None: it closes the arc.
+    """
+    listed = list(records)
+    costs = _cost_list(record[2] for record in listed)
+    numbers = []
+    for index, (arc, column, _, stamp) in enumerate(listed):
+        if not 0 <= operator.index(stamp) <= _GREATEST_32:
+            raise ValueError(f"the stamp at index {index} does not fit 32 bits: {stamp}")
+        numbers += [_index(arc), _number(column), costs[index], operator.index(stamp)]
+    after = _image(image)
+    _call("update", after, (ctypes.c_uint32 * len(numbers))(*numbers))
+    return bytes(after)
 
 
 def label(image: bytes, column: int, goal: int) -> List[Optional[int]]:
@@ -285,6 +317,12 @@ def _number(number: int) -> int:
     return number if 0 <= number <= _GREATEST_32 else 0
 
 
+def _index(number: int) -> int:
+    """The number, or the greatest of 32 bits, which is the index of no arc, if it does not fit them."""
+    number = operator.index(number)
+    return number if 0 <= number <= _GREATEST_32 else _GREATEST_32
+
+
 def _nearest(number: int) -> int:
     """The number, or the nearest that fits 32 bits: it is above or below as many nodes."""
     return max(0, min(operator.index(number), _GREATEST_32))
@@ -334,6 +372,7 @@ _FUNCTIONS = {
     "rank": (_BYTES, _NUMBER, _NUMBER, _NUMBER, _NUMBER, _NODES, _WORDS, _WORDS),
     "robust": (_BYTES, _NUMBER, _NUMBER, _NUMBER, _NUMBER, _NODES, _WORDS),
     "find": (_BYTES, _NUMBER, _NUMBER),
+    "update": (_BYTES, _WORDS),
 }
 
 

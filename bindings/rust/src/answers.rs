@@ -80,3 +80,16 @@ pub struct Found {
     /// How many arcs were looked at, at most 10.
     pub looks: u32,
 }
+
+/// What a van tells of one arc in one column.
+#[derive(Clone, Copy, Debug, PartialEq, Eq, Hash)]
+pub struct Record {
+    /// The arc's index, from 0.
+    pub arc: u32,
+    /// The column, from 1.
+    pub column: u32,
+    /// The cost, or `None`, which closes the arc in that column.
+    pub cost: Option<u32>,
+    /// The stamp: for one arc and column the greatest counts, and of equal ones the later.
+    pub stamp: u32,
+}

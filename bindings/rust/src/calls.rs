@@ -175,3 +175,18 @@ pub fn find(image: &[u8], tail: u32, head: u32) -> Reply {
     // SAFETY: pointer and length are those of a slice that is borrowed for the call.
     unsafe { raw::vihrolom_find(image.as_ptr(), image.len(), tail, head) }
 }
+
+/// Update: writes the costs of a list of records, four numbers each (arc index, column, cost, stamp), over
+/// those of the image. For one arc and column the greatest stamp counts, and of equal stamps the later.
+pub fn update(image: &mut [u8], records: &[u32]) -> Reply {
+    // SAFETY: each pointer and length are those of a slice that is borrowed for the call; the one that
+    // is written is borrowed mutably, so that it overlaps no other.
+    unsafe {
+        raw::vihrolom_update(
+            image.as_mut_ptr(),
+            image.len(),
+            records.as_ptr(),
+            records.len(),
+        )
+    }
+}

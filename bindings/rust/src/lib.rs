@@ -9,6 +9,6 @@ mod network;
 pub mod raw;
 mod refusal;
 
-pub use answers::{Choice, Found, Path, Regret, State};
+pub use answers::{Choice, Found, Path, Record, Regret, State};
 pub use network::Network;
 pub use refusal::Refusal;

@@ -1,6 +1,6 @@
 //! An accepted network, and the calls on it.
 
-use crate::{calls, Choice, Found, Path, Refusal, Regret, State};
+use crate::{calls, Choice, Found, Path, Record, Refusal, Regret, State};
 
 /// The length of the longest image: 1,000 arcs and 8 columns.
 const LONGEST_IMAGE: usize = 24 + 4 * 1_000 * (1 + 8);
@@ -184,6 +184,18 @@ impl Network {
             index: (found == 1).then_some(index),
             looks,
         })
+    }
+
+    /// The network after a list of records: for each arc and column the cost of the record with the greatest
+    /// stamp, and of equal stamps the later; costs without a record stay.
+    pub fn update(&self, records: &[Record]) -> Result<Network, Refusal> {
+        let numbers: Vec<u32> = records
+            .iter()
+            .flat_map(|r| [r.arc, r.column, marked(r.cost), r.stamp])
+            .collect();
+        let mut image = self.image.clone();
+        calls::update(&mut image, &numbers).values()?;
+        Network::from_image(image)
     }
 
     /// The size of the workspace for this many paths.

@@ -137,6 +137,14 @@ extern "C" {
         costs_length: usize,
     ) -> Reply;
 
+    /// Update: writes the costs of the records that count over those of the image.
+    pub fn vihrolom_update(
+        image: *mut u8,
+        image_length: usize,
+        records: *const u32,
+        records_length: usize,
+    ) -> Reply;
+
     /// Find. v: found (1 or 0), index (0 if there is none), looks.
     pub fn vihrolom_find(image: *const u8, image_length: usize, tail: u32, head: u32) -> Reply;
 }

@@ -13,7 +13,8 @@ pub enum Refusal {
     WrongEdition,
     /// 3: n, m or k outside its range.
     SizeOutOfRange,
-    /// 4: an offset, total or reserved field is wrong; in Build, costs not mk.
+    /// 4: an offset, total or reserved field is wrong; in Build, costs not mk; in Update, a list that
+    /// isn't of fours.
     WrongField,
     /// 5: image length isn't the total.
     WrongLength,
@@ -24,7 +25,7 @@ pub enum Refusal {
     /// 8: arc not above the one before, at this arc, from 0.
     ArcNotRising(u32),
     /// 9: cost above 1,000,000, or an arc that is closed in edition 1, at this index in all columns'
-    /// costs, from 0.
+    /// costs, from 0; in Update, at this record.
     CostTooLarge(u32),
     /// 10: start or goal outside 1..n, or equal.
     WrongEnds,
@@ -42,14 +43,18 @@ pub enum Refusal {
     NoPath,
     /// 16: a path cost exceeds 4,000,000,000.
     CostOverflow,
+    /// 17: arc index of m or more, at this record, from 0.
+    WrongRecordArc(u32),
+    /// 18: column outside 1..k, at this record, from 0.
+    WrongRecordColumn(u32),
 }
 
 /// The table's words, by number from 1.
-const WORDS: [&str; 16] = [
+const WORDS: [&str; 18] = [
     "image under 24 bytes",
     "edition isn't 1 or 2",
     "n, m or k outside its range",
-    "an offset, total or reserved field is wrong; in Build, odd node list or costs not mk",
+    "an offset, total or reserved field is wrong; in Build, odd node list or costs not mk; in Update, a list that isn't of fours",
     "image length isn't the total",
     "tail or head outside 1..n",
     "tail equals head",
@@ -62,6 +67,8 @@ const WORDS: [&str; 16] = [
     "the node list is no path",
     "no path exists",
     "a path cost exceeds 4,000,000,000",
+    "a record's arc index is m or more",
+    "a record's column is outside 1..k",
 ];
 
 impl Refusal {
@@ -84,6 +91,8 @@ impl Refusal {
             14 => Refusal::NotAPath(place),
             15 => Refusal::NoPath,
             16 => Refusal::CostOverflow,
+            17 => Refusal::WrongRecordArc(place),
+            18 => Refusal::WrongRecordColumn(place),
             _ => return None,
         })
     }
@@ -107,6 +116,8 @@ impl Refusal {
             Refusal::NotAPath(_) => 14,
             Refusal::NoPath => 15,
             Refusal::CostOverflow => 16,
+            Refusal::WrongRecordArc(_) => 17,
+            Refusal::WrongRecordColumn(_) => 18,
         }
     }
 
@@ -128,6 +139,7 @@ impl Refusal {
             | Refusal::ArcNotRising(arc) => Some(arc),
             Refusal::CostTooLarge(index) => Some(index),
             Refusal::NotAPath(position) => Some(position),
+            Refusal::WrongRecordArc(index) | Refusal::WrongRecordColumn(index) => Some(index),
             _ => None,
         }
     }

@@ -12,6 +12,7 @@ use network_calls::Decision;
 use network_calls::Regretted;
 use packing::Built;
 use packing::Unpacked;
+use record_calls::Updated;
 ghost use mathlib.Core.Path.{_≡_};
 ghost use mathlib.Core.List.{[], _∷_};
 ghost use Rattle.image.specs.Answers.{refused, checked};
@@ -19,6 +20,7 @@ ghost use Rattle.packing.specs.Answers.{built, unpacked};
 ghost use Rattle.column_calls.specs.Answers.{labelled, routed, listed};
 ghost use Rattle.network_calls.specs.Answers.{regretted, decided};
 ghost use Rattle.arc_calls.specs.Answers.{found};
+ghost use Rattle.record_calls.specs.Answers.{updated};
 ghost use Rattle.c_replies.specs.Replies.{numbers, reply-of};
 
 // refusal is 0 for a result, and v0 to v5 are then its values; it is else the number of the refusal, and
@@ -170,5 +172,15 @@ pub fn of_found(answer: Found) -> Reply
         Found::At(index, looks) => result(1, index, looks, 0, 0, 0),
         Found::Nothing(looks) => result(0, 0, looks, 0, 0, 0),
         Found::Refused(refusal) => of_refusal(refusal),
+    }
+}
+
+// Update's answer.
+pub fn of_updated(answer: Updated) -> Reply
+    ensures { λ r. ⌜ numbers r ≡ reply-of (updated answer) ⌝ }
+{
+    match answer {
+        Updated::Written => result(0, 0, 0, 0, 0, 0),
+        Updated::Refused(refusal) => of_refusal(refusal),
     }
 }

@@ -11,3 +11,4 @@ pub use answers::of_listed;
 pub use answers::of_regretted;
 pub use answers::of_routed;
 pub use answers::of_unpacked;
+pub use answers::of_updated;

@@ -1,4 +1,4 @@
-// The calls as C functions (REFERENCE, section 4.10). Slices pass as pointer and length, in elements;
+// The calls as C functions (REFERENCE, section 4.11). Slices pass as pointer and length, in elements;
 // the answer is returned by value. No function asks anything of its caller but that the slices are what
 // they say. include/vihrolom.h declares them.
 
@@ -9,6 +9,7 @@ pub use c_replies::Reply;
 pub use images::vihrolom_build;
 pub use images::vihrolom_check;
 pub use images::vihrolom_unpack;
+pub use images::vihrolom_update;
 pub use paths::vihrolom_find;
 pub use paths::vihrolom_label;
 pub use paths::vihrolom_rank;

@@ -21,6 +21,8 @@ pub enum Refusal {
     NotAPath(u32),
     NoPath,
     CostOverflow,
+    WrongRecordArc(u32),
+    WrongRecordColumn(u32),
 }
 
 // What some rows of the table come to: none applies, or the first that does.
@@ -50,6 +52,8 @@ pub fn number(refusal: Refusal) -> u32
         Refusal::NotAPath(_) => 14,
         Refusal::NoPath => 15,
         Refusal::CostOverflow => 16,
+        Refusal::WrongRecordArc(_) => 17,
+        Refusal::WrongRecordColumn(_) => 18,
     }
 }
 
@@ -63,6 +67,8 @@ pub fn place(refusal: Refusal) -> u32
         Refusal::ArcNotRising(arc) => arc,
         Refusal::CostTooLarge(index) => index,
         Refusal::NotAPath(position) => position,
+        Refusal::WrongRecordArc(index) => index,
+        Refusal::WrongRecordColumn(index) => index,
         Refusal::ImageTooShort => 0,
         Refusal::WrongEdition => 0,
         Refusal::SizeOutOfRange => 0,

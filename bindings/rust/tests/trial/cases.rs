@@ -3,7 +3,7 @@
 use crate::tally::numbers;
 use std::path::Path as FilePath;
 use vihrolom::raw::Reply;
-use vihrolom::{calls, Choice, Found, Network, Path, Refusal, Regret, State};
+use vihrolom::{calls, Choice, Found, Network, Path, Record, Refusal, Regret, State};
 
 const S_ARCS: [(u32, u32); 5] = [(1, 2), (1, 3), (2, 3), (2, 4), (3, 4)];
 const S_COLUMNS: [[u32; 5]; 2] = [[2, 5, 1, 6, 2], [4, 1, 2, 1, 7]];
@@ -124,6 +124,59 @@ fn robust_routes_of_s() {
 
 fn found(index: Option<u32>, looks: u32) -> Result<Found, Refusal> {
     Ok(Found { index, looks })
+}
+
+fn record(arc: u32, column: u32, cost: impl Into<Option<u32>>, stamp: u32) -> Record {
+    Record {
+        arc,
+        column,
+        cost: cost.into(),
+        stamp,
+    }
+}
+
+#[test]
+fn updates_of_s() {
+    let s = network_s();
+    assert_eq!(s.update(&[]), Ok(s.clone()));
+    let list = [
+        record(0, 1, 8, 5),
+        record(4, 2, 3, 0),
+        record(0, 1, 9, 5),
+        record(0, 1, 7, 4),
+    ];
+    let columns = [[9, 5, 1, 6, 2], [4, 1, 2, 1, 3]];
+    assert_eq!(s.update(&list), Network::build(1, 4, &S_ARCS, &columns));
+    // each record is examined, also one that does not count
+    let refused = |list: &[Record]| s.update(list).map(|_| ());
+    let first = record(0, 1, 8, 5);
+    assert_eq!(
+        refused(&[first, record(5, 3, None, 0)]),
+        Err(Refusal::WrongRecordArc(1))
+    );
+    assert_eq!(
+        refused(&[first, record(0, 3, None, 0)]),
+        Err(Refusal::WrongRecordColumn(1))
+    );
+    assert_eq!(
+        refused(&[first, first, record(0, 1, None, 0)]),
+        Err(Refusal::CostTooLarge(2))
+    );
+    assert_eq!(
+        refused(&[record(0, 1, 1_000_001, 0), record(5, 1, 0, 0)]),
+        Err(Refusal::CostTooLarge(0))
+    );
+    let mut image = s.image().to_vec();
+    assert_eq!(
+        calls::update(&mut image, &[0, 1, 8]).values(),
+        Err(Refusal::WrongField)
+    );
+    assert_eq!(image, s.image());
+    // in edition 2 a record closes an arc, and another opens it again
+    let open = Network::build(2, 4, &S_ARCS, &S_COLUMNS).expect("network S in edition 2");
+    let closed = open.update(&[record(1, 2, None, 1)]).expect("closed");
+    assert_eq!(closed.columns()[1][1], None);
+    assert_eq!(closed.update(&[record(1, 2, 1, 1)]), Ok(open));
 }
 
 #[test]
@@ -440,7 +493,7 @@ fn each_row_has_its_number_its_place_and_its_words() {
 }
 
 #[test]
-#[should_panic(expected = "refusal 17, which this crate doesn't know")]
+#[should_panic(expected = "refusal 19, which this crate doesn't know")]
 fn a_library_with_other_rows_is_not_trusted() {
-    refusal(17, 0);
+    refusal(19, 0);
 }

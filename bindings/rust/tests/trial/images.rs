@@ -98,6 +98,9 @@ fn hold_refused(image: &[u8], refused: Refused) {
     );
     assert_eq!(calls::unpack(image, nodes.slice(), costs.slice()), expected);
     assert_eq!(calls::find(image, 1, 2), expected);
+    let mut copy = image.to_vec();
+    assert_eq!(calls::update(&mut copy, &[9_999, 0, 0, 0]), expected);
+    assert_eq!(copy, image);
     nodes.assert_holds(&[]);
     costs.assert_holds(&[]);
     work.assert_holds(&[]);
