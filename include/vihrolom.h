@@ -36,7 +36,8 @@ struct vihrolom_reply {
 };
 
 // The refusal table. Of the rows that apply, a call gives the one with the lowest number, except that arcs
-// are examined in their order, each by rows 6, 7 and 8, and records in theirs, each by 17, 18 and 9. A call skips rows about things that it has not got.
+// are examined in their order, each by rows 6, 7 and 8, and records in theirs, each by 17, 18 and 9. A call
+// skips rows about things that it has not got.
 enum vihrolom_refusal {
     VIHROLOM_IMAGE_TOO_SHORT = 1,   // image under 24 bytes
     VIHROLOM_WRONG_EDITION = 2,     // edition isn't 1 or 2

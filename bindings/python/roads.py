@@ -82,15 +82,19 @@ class Roads:
         """The roads that are open in every column."""
         return [road for road, times in self.times.items() if None not in times]
 
-    def record(self, fields: Sequence[str]) -> vihrolom.Record:
+    def indices(self) -> Dict[Tuple[int, int], int]:
+        """The index of each road in the image of all roads."""
+        return {road: index for index, road in enumerate(sorted(self.times))}
+
+    def record(self, fields: Sequence[str], indices: Dict[Tuple[int, int], int]) -> vihrolom.Record:
         """The record of one line of a file of records."""
         if len(fields) != len(RECORD_HEADER):
             raise Complaint(f"{len(fields)} fields in place of {len(RECORD_HEADER)}")
         start, goal, column, time, stamp = fields
-        road = self.places.get(start), self.places.get(goal)
-        if road not in self.times:
+        arc = indices.get((self.places.get(start), self.places.get(goal)))
+        if arc is None:
             raise Complaint(f"there is no road from {start!r} to {goal!r}")
-        arc, u = sorted(self.times).index(road), find(self.columns, column, "column")
+        u = find(self.columns, column, "column")
         return vihrolom.Record(arc, u, travel_time(time), whole(stamp, "stamp", MOST_STAMP))
 
     def update(self, records: Iterable[vihrolom.Record]) -> None:
@@ -184,11 +188,12 @@ def read_roads(path: str) -> Roads:
 
 def read_records(path: str, roads: Roads) -> List[vihrolom.Record]:
     """The records of a file, of these roads."""
+    indices = roads.indices()
     records: Optional[List[vihrolom.Record]] = None
     for line, fields in read_lines(path):
         try:
             if records is not None:
-                records.append(roads.record(fields))
+                records.append(roads.record(fields, indices))
             elif fields != RECORD_HEADER:
                 raise Complaint(f"the first line must be {','.join(RECORD_HEADER)}")
             else:
