@@ -16,11 +16,11 @@ use Rattle.terms.specs.Paths.{Route, ByArcs, along, single, cost, cost-from}
 use Rattle.terms.specs.Regret.{over, figure-over, worst-over}
 use Rattle.terms.proofs.ListLaws.{getD-mem, map-numbers, largest-ge, mem-numbers}
 use Rattle.star.specs.Arcs.{graph, Arcs, At}
-use Rattle.star.proofs.ArcLaws.{at-weight, tail-within, later-within}
+use Rattle.star.proofs.ArcLaws.{at-weight, graph-within, tail-within}
 use Rattle.star.proofs.Stores.{set-each}
 use Rattle.star.specs.Star.{Star}
 use Rattle.star.specs.Layout.{tails-of, heads-of, outs-of}
-use Rattle.terms.proofs.PathLaws.{arcs-linked}
+use Rattle.terms.proofs.PathLaws.{arcs-linked, later-within}
 use Rattle.measuring.specs.Columns.{Columns, network, column-costs}
 use Rattle.measuring.specs.Steps.{Starred, Steps, sum-of, excess, excesses, Measured, Summed}
 use Rattle.measuring.proofs.ColumnLaws.{length-columns, held-column, column-full, columns-arcs, columns-star, columns-few}
@@ -66,7 +66,7 @@ module _ {n : ℕ} {ts hs ws : List ℕ} (A : Arcs n ts hs ws) where
   nodes-within : (path : List ℕ) → ByArcs (graph ts hs ws) path → 2 ≤ length path → (i : ℕ) → i < length path → getD path i 0 ≤ n
   nodes-within (v ∷ []) single h i l = absurd (omega arith)
   nodes-within (v ∷ x ∷ p) (along a b) h zero l = tail-within A v x a .1
-  nodes-within (v ∷ x ∷ p) (along a b) h (suc i) l = later-within A v (x ∷ p) (along a b) (getD-mem (x ∷ p) 0 i (omega arith)) .1
+  nodes-within (v ∷ x ∷ p) (along a b) h (suc i) l = later-within (graph-within A) v (x ∷ p) (along a b) (getD-mem (x ∷ p) 0 i (omega arith)) .1
 
 -- ---- a path in the columns that the slices hold
 module _ (bests : List ℕ) {n m : ℕ} {s costs path : List ℕ} (C : Columns n m (length bests) s costs) (b : ByArcs (column (network n m (length bests) s costs) 1) path) where

@@ -4,16 +4,16 @@ ghost use Prim.Native.Nat.{ℕ, _+_, _-_, _*_, _≤_, _<_};
 ghost use lib.ListN.{length, getD};
 ghost use Rattle.measuring.specs.Steps.{sum-of, excess, Summed};
 
-// The sum of the weights of the arcs.
+// The sum of the weights of the arcs, from the last backwards.
 fn arc_sum(weights: &[u32], arcs: &[u16]) -> u64
     requires { ⌜ (length (now arcs) ≤ 1000) × ((i : ℕ) → i < length (now arcs) → getD (now arcs) i 0 < length (now weights)) ⌝ }
     ensures { λ r. ⌜ r ≡ sum-of (now (weights .entry)) (now (arcs .entry)) ⌝ }
 {
     let mut sum: u64 = 0;
-    let mut i = 0;
-    while i < arcs.len() {
+    let mut i = arcs.len();
+    while 0 < i {
+        i -= 1;
         sum += weights[arcs[i] as usize] as u64;
-        i += 1;
     }
     sum
 }

@@ -3,19 +3,18 @@ use Prim.Native.Nat.{ℕ, _+_, _-_, _≤_, _<_}
 use native.Mathlib.Omega.{arith}
 use mathlib.Core.Path.{_≡_, refl, sym, _∙_, ap, subst, subst₂}
 use mathlib.Core.Bool.{Bool, true}
-use mathlib.Core.Logic.{⊎-elim}
-use mathlib.Core.List.{List, [], _∷_, _++_, tail, List·Memᴰ·cases-cons}
+use mathlib.Core.List.{List, [], _∷_, _++_, tail}
 use lib.ListN.{length, take, drop, getD, length-take, length-drop}
 use lib.Seq.{take-take, take-all, take-add, take-append-le, getD-take, getD-drop}
 use Rattle.terms.specs.Network.{Graph}
 use Rattle.terms.specs.Lists.{_∈_, elem}
-use Rattle.terms.specs.Paths.{Route, ByArcs, Path, cost}
+use Rattle.terms.specs.Paths.{Route, Path, cost}
 use Rattle.terms.proofs.ListLaws.{clash, getD-mem}
-use Rattle.terms.proofs.PathLaws.{Within, of-path, at-most-nodes}
+use Rattle.terms.proofs.PathLaws.{Within, node-within, of-path, at-most-nodes}
 use Rattle.terms.proofs.RankingLaws.{NoLater}
 use Rattle.star.specs.Arcs.{heaviest, Arcs}
 use Rattle.star.specs.Layout.{tails-of, heads-of, graph-of}
-use Rattle.star.proofs.ArcLaws.{linked-at, at-weight, graph-within, later-within, path-cost-le}
+use Rattle.star.proofs.ArcLaws.{linked-at, at-weight, graph-within, path-cost-le}
 use Rattle.candidates.specs.Slots.{Entry, none, entries}
 use Rattle.candidates.specs.Keeping.{inserted, put-in, Inserted}
 use Rattle.candidates.specs.Routes.{beginning, route, routes, Fits}
@@ -68,10 +67,7 @@ module _ {n s t : ℕ} {star ws overall : List ℕ} (P : Problem n s t star ws o
   path-short r = at-most-nodes problem-within (P .start-from) (P .start-to) (of-path r)
 
   pub path-nodes : {p : Route} {x : ℕ} → Path (graph-of star ws) s t p → x ∈ p → (1 ≤ x) × (x ≤ n)
-  unfolding graph-of
-  path-nodes {p} {x} r m =
-      ⊎-elim (λ e. (omega (arith, P .start-from), omega (arith, P .start-to))) (λ k. later-within problem-arcs s (tail p) (subst (ByArcs (graph-of star ws)) (r .from-start) (r .by-arcs)) k)
-      (List·Memᴰ·cases-cons (subst (λ (l : Route). x ∈ l) (r .from-start) m))
+  path-nodes r m = node-within problem-within (P .start-from) (P .start-to) r m
 
   pub path-small : {p : Route} → Path (graph-of star ws) s t p → cost (graph-of star ws) p ≤ longest
   unfolding graph-of

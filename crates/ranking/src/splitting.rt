@@ -115,7 +115,8 @@ fn deviate(
     now
 }
 
-// All parts, from the path's end backwards. All of the path is laid out and flagged.
+// All parts, from the path's end backwards. All of the path is laid out and flagged. What it costs behind
+// the fork is added up from the goal; what it costs before it is the rest.
 fn deviations(
     query: Query,
     star: &[u16],
@@ -138,15 +139,16 @@ fn deviations(
     let shared = stem.shared;
     let mut now = count;
     let mut d = stem.len;
-    let mut before = stem.cost;
+    // what the path costs from its node d on
+    let mut behind: u64 = 0;
     while shared < d {
         d -= 1;
-        before -= step_back(star, weights, used, path, d);
+        behind += step_back(star, weights, used, path, d);
         let fork = Fork {
             count: now,
             rank: stem.rank,
             d,
-            before,
+            before: stem.cost - behind,
         };
         now = deviate(
             query,

@@ -5,11 +5,11 @@ use native.Mathlib.Nat.{mul-suc, mul-le-mul-left}
 use mathlib.Core.Path.{_≡_, refl, sym, _∙_}
 use mathlib.Core.Bool.{true, false, _&&_, cond}
 use mathlib.Core.Logic.{_⊎_, inl, inr, ⊎-elim}
-use mathlib.Core.List.{List, [], _∷_, map, tail, List·Memᴰ·cases-cons}
+use mathlib.Core.List.{List, [], _∷_, map, tail}
 use lib.Dec.{eqb}
 use lib.ListN.{length, getD}
 use borrow.Author.Tests.{eqb-true, eq-eqb}
-use Rattle.terms.specs.Lists.{_∈_, elem, keep}
+use Rattle.terms.specs.Lists.{elem, keep}
 use Rattle.terms.specs.Network.{Arc, Graph, heads, linked, weight}
 use Rattle.terms.specs.Paths.{Route, Path, ByArcs, along, cost, cost-from}
 use Rattle.terms.proofs.ListLaws.{split, clash, or-cases, or-right, and-both, by-cond, of-cond}
@@ -97,11 +97,6 @@ module _ {n : ℕ} {ts hs ws : List ℕ} (arcs : Arcs n ts hs ws) where
 
   pub tail-within : (a b : ℕ) → linked (graph ts hs ws) a b ≡ true → (1 ≤ a) × (a ≤ n)
   tail-within a b e = let r = linked-at a b e in rw (← r .1 .tail-is) (arcs .tail-from (r .0) (r .1 .below), arcs .tail-to (r .0) (r .1 .below))
-
-  -- the nodes after the first of a path
-  pub later-within : (v : ℕ) (p : List ℕ) → ByArcs (graph ts hs ws) (v ∷ p) → {x : ℕ} → x ∈ p → (1 ≤ x) × (x ≤ n)
-  later-within v [] b m = elim m [ ]
-  later-within v (h ∷ p) (along a b) m = ⊎-elim (λ e. rw e (graph-within v h a)) (later-within h p b) (List·Memᴰ·cases-cons m)
 
   -- they can be chained in arrays of the right lengths
   pub chainable-of : {first next : List ℕ} → length first ≡ n + 1 → length next ≡ length ts → Chainable hs first next

@@ -8,6 +8,7 @@ pub mod NetworkLaws
 pub mod CommonLaws
 pub mod PrefixLaws
 pub mod RegretLaws
+pub mod SumLaws
 pub mod RobustLaws
 pub mod OverLaws
 pub mod Demand2Laws

@@ -1,5 +1,5 @@
 -- `splitting::deviations`. The loop: the parts that leave the path after d nodes or more have been looked into. Assumes nothing.
-use Prim.Native.Nat.{_+_, _-_, _<_}
+use Prim.Native.Nat.{_+_, _-_, _≤_, _<_}
 use native.Mathlib.Omega.{arith}
 use mathlib.Core.Path.{_≡_, refl, sym, _∙_}
 use mathlib.Core.List.{List}
@@ -8,17 +8,17 @@ use Rattle.terms.specs.Network.{Graph, weight}
 use Rattle.star.specs.Layout.{graph-of}
 use Rattle.candidates.specs.Slots.{Entry, none, entries}
 use Rattle.ranking.specs.Ranking.{Filled, Along}
-use Rattle.ranking.proofs.BackLaws.{Going, back-some, back-linked, back-le, along-back, going-start, going-filled, going-shared, going-next, going-end}
+use Rattle.ranking.proofs.BackLaws.{Going, back-some, back-linked, back-rest, back-le, along-back, going-start, going-filled, going-shared, going-next, going-end}
 use Rattle.ranking.proofs.splitting.deviations.Statement.{statement}
 use Rattle.ranking.proofs.splitting.deviations.Tie as tie
 
 abbrev Inv-loop : tie.InvT-loop
-Inv-loop query star weights overall used₀ barred₀ path₀ work₀ count stem shared now₀ d₀ before₀ used barred path work now d before =
-    Going (query .n) (query .slots) (graph-of star weights) (query .start) (query .goal) (query .limit) (stem .rank) work₀ count barred₀ (stem .len) work now used barred path d before
+Inv-loop query star weights overall used₀ barred₀ path₀ work₀ count stem shared now₀ d₀ behind₀ used barred path work now d behind =
+    Going (query .n) (query .slots) (graph-of star weights) (query .start) (query .goal) (query .limit) (stem .rank) work₀ count barred₀ path₀ (stem .len) (stem .cost) work now used barred path d behind
     × (length path ≡ length path₀) × (length work ≡ length work₀)
 
 abbrev μ-loop : tie.MeasureT-loop
-μ-loop query star weights overall used₀ barred₀ path₀ work₀ count stem shared now₀ d₀ before₀ used barred path work now d before =
+μ-loop query star weights overall used₀ barred₀ path₀ work₀ count stem shared now₀ d₀ behind₀ used barred path work now d behind =
     d
 
 -- the start of the function
@@ -41,7 +41,7 @@ kept-entries l = entries (entry l .args .query .n) (l .loop .work) (l .loop .now
 now-filled : (l : tie.At-loop Inv-loop μ-loop) → let s = entry l in Filled (s .args .query .n) (s .args .query .slots) (net s) (s .args .query .start) (s .args .stem .rank + 1) (l .loop .work) (l .loop .now)
 now-filled l = going-filled (filled (entry l)) (l .loop .inv .0)
 
-place : (l : tie.At-loop Inv-loop μ-loop) → let s = entry l in Along (s .args .query .n) (net s) (s .args .query .start) (s .args .query .goal) (kept-entries l) (s .args .stem .rank) (l .loop .used) (l .loop .barred) (l .loop .path) (l .loop .d) (l .loop .before)
+place : (l : tie.At-loop Inv-loop μ-loop) → let s = entry l in Along (s .args .query .n) (net s) (s .args .query .start) (s .args .query .goal) (kept-entries l) (s .args .stem .rank) (l .loop .used) (l .loop .barred) (l .loop .path) (l .loop .d) (entry l .args .stem .cost - l .loop .behind)
 place l = l .loop .inv .0 .place
 
 -- in the loop
@@ -60,11 +60,11 @@ arc b = let l = inner b .before in
     b .step-back .ensures .1 (back-linked (now-filled l .entered) (place l) (more (inner b)))
 
 back-place : (b : tie.After-step-back Inv-loop μ-loop) → let l = inner b .before in let s = entry l in
-    Along (s .args .query .n) (net s) (s .args .query .start) (s .args .query .goal) (kept-entries l) (s .args .stem .rank) (b .step-back .last .1 .1 .0) (l .loop .barred) (l .loop .path) (l .loop .d - 1) (l .loop .before - b .step-back .result)
-back-place b = let l = inner b .before in along-back (now-filled l .entered) (place l) (more (inner b)) (arc b) (rw (place l .laid .flags-long) at (b .step-back .ensures .0))
+    Along (s .args .query .n) (net s) (s .args .query .start) (s .args .query .goal) (kept-entries l) (s .args .stem .rank) (b .step-back .last .1 .1 .0) (l .loop .barred) (l .loop .path) (l .loop .d - 1) (s .args .stem .cost - (l .loop .behind + b .step-back .result))
+back-place b = let l = inner b .before in along-back (now-filled l .entered) (place l) (more (inner b)) (l .loop .inv .0 .rest) refl (arc b) (rw (place l .laid .flags-long) at (b .step-back .ensures .0))
 
 abbrev inside : tie.After-deviate Inv-loop μ-loop → tie.After-step-back Inv-loop μ-loop
-inside e = stepped (e .before .before .before .before .before)
+inside e = stepped (e .before .before .before .before .before .before)
 
 loop-holds : tie.Need-loop-holds Inv-loop μ-loop
 loop-holds c = let s = start c in (going-start (filled s) (s .pre .1 .1 .0), refl, refl)
@@ -79,11 +79,18 @@ step-back-requires c κs = let i = c .before .before in
     let z : l .loop .d - 1 + 1 ≡ l .loop .d = omega (arith, i .loop-test .taken) in
     rw (place l .laid .flags-long) (n, (rw z (place l .laid), back-some (now-filled l .entered) (place l) (more i)))
 
-sub-before : tie.Need-sub-before Inv-loop μ-loop
-sub-before c = let b = stepped c in let l = inner b .before in back-le (now-filled l .entered) (place l) (more (inner b)) (arc b)
+-- what is behind the fork is a part of what the whole path costs
+rest-within : (b : tie.After-step-back Inv-loop μ-loop) → let l = inner b .before in l .loop .behind + b .step-back .result ≤ entry l .args .stem .cost
+rest-within b = let l = inner b .before in back-le (now-filled l .entered) (place l) (more (inner b)) (l .loop .inv .0 .rest) refl (arc b)
+
+add-behind : tie.Need-add-behind Inv-loop μ-loop
+add-behind c = let b = stepped c in let s = entry (inner b .before) in omega (arith, rest-within b, s .pre .1 .1 .0 .small)
+
+sub-t17 : tie.Need-sub-t17 Inv-loop μ-loop
+sub-t17 c = rest-within (stepped (c .before))
 
 deviate-requires : tie.Need-deviate-requires Inv-loop μ-loop
-deviate-requires c κs = let b = stepped (c .before .before .before .before) in
+deviate-requires c κs = let b = stepped (c .before .before .before .before .before) in
     let l = inner b .before in
     let s = entry l in
     (s .pre .0, (now-filled l, (back-place b, omega (arith, more (inner b), place l .upper))))
@@ -98,7 +105,7 @@ loop-again c = let e = c .before .before .before .before .before .before .before
     let s = entry l in
     let i = l .loop .inv in
     let k = e .deviate .kept .1 .1 .1 .1 .1 .1 in (
-      going-next (filled s) (i .0) (more (inner b)) (back-place b) (e .deviate .ensures .0) (e .deviate .ensures .1 .0) (e .deviate .ensures .1 .1 .0) (e .deviate .ensures .1 .1 .1) (k .0),
+      going-next (filled s) (i .0) (more (inner b)) (back-place b) (back-rest (now-filled l .entered) (place l) (more (inner b)) (i .0 .rest) refl (arc b)) (e .deviate .ensures .0) (e .deviate .ensures .1 .0) (e .deviate .ensures .1 .1 .0) (e .deviate .ensures .1 .1 .1) (k .0),
       k .0 ∙ i .1,
       k .1 .0 ∙ i .2,
     )
@@ -131,7 +138,8 @@ deviations-spec =
     loop-holds
     sub-d
     step-back-requires
-    sub-before
+    add-behind
+    sub-t17
     deviate-requires
     loop-less
     loop-again
