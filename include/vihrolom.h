@@ -56,7 +56,7 @@ enum vihrolom_refusal {
     VIHROLOM_SLICE_TOO_SHORT = 13,  // a lent slice is too short
     VIHROLOM_NOT_A_PATH = 14,       // the node list is no path; place: see vihrolom_regret
     VIHROLOM_NO_PATH = 15,          // no path exists: in the column (Shortest, Rank), or open in every column (Robust)
-    VIHROLOM_COST_OVERFLOW = 16,    // a path cost exceeds 4,000,000,000
+    // 16 is not given
     VIHROLOM_WRONG_RECORD_ARC = 17, // a record's arc index is m or more; place: the record's index
     VIHROLOM_WRONG_RECORD_COLUMN = 18 // a record's column is outside 1..k; place: the record's index
 };

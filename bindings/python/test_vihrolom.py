@@ -1,7 +1,6 @@
 """Holds the module to the cases of docs/REFERENCE.md and to a plain enumeration of all loopless paths.
 
-Two rows of the refusal table are not reached: 13, since the module sizes every slice, and 16, for
-which there is no example.
+One row of the refusal table is not reached: 13, since the module sizes every slice.
 """
 import ctypes
 import glob
@@ -307,8 +306,10 @@ class Refusals(Refusing):
         refusal = Refusal(11, 0)
         self.assertEqual(str(refusal), "refused 11 at 0: column outside 1..k")
         self.assertEqual(Refusal(1, 0).words, "image under 24 bytes")
-        self.assertEqual(Refusal(16, 0).words, "a path cost exceeds 4,000,000,000")
-        self.assertEqual(len({Refusal(number, 0).words for number in range(1, 17)}), 16)
+        rows = [*range(1, 16), 17, 18]
+        self.assertEqual(len({Refusal(number, 0).words for number in rows}), len(rows))
+        with self.assertRaises(KeyError):
+            Refusal(16, 0)
         self.assertEqual(str(pickle.loads(pickle.dumps(refusal))), str(refusal))
 
 

@@ -38,27 +38,26 @@ _MARK = _GREATEST_32
 _MOST_PATHS = 256
 _SHEET_PATHS = 48
 
-# The rows of the refusal table (REFERENCE, section 6.2), from 1 on, without their places.
-_ROWS = (
-    "image under 24 bytes",
-    "edition isn't 1 or 2",
-    "n, m or k outside its range",
-    "an offset, total or reserved field is wrong; in Build, odd node list or costs not mk; in Update, a list that isn't of fours",
-    "image length isn't the total",
-    "tail or head outside 1..n",
-    "tail equals head",
-    "arc not above the one before",
-    "cost above 1,000,000, or an arc closed in edition 1",
-    "start or goal outside 1..n, or equal",
-    "column outside 1..k",
-    "K outside 1..256",
-    "a lent slice is too short",
-    "the node list is no path",
-    "no path exists",
-    "a path cost exceeds 4,000,000,000",
-    "a record's arc index is m or more",
-    "a record's column is outside 1..k",
-)
+# The rows of the refusal table (REFERENCE, section 6.2) by their numbers, without their places. None has 16.
+_ROWS = {
+    1: "image under 24 bytes",
+    2: "edition isn't 1 or 2",
+    3: "n, m or k outside its range",
+    4: "an offset, total or reserved field is wrong; in Build, odd node list or costs not mk; in Update, a list that isn't of fours",
+    5: "image length isn't the total",
+    6: "tail or head outside 1..n",
+    7: "tail equals head",
+    8: "arc not above the one before",
+    9: "cost above 1,000,000, or an arc closed in edition 1",
+    10: "start or goal outside 1..n, or equal",
+    11: "column outside 1..k",
+    12: "K outside 1..256",
+    13: "a lent slice is too short",
+    14: "the node list is no path",
+    15: "no path exists",
+    17: "a record's arc index is m or more",
+    18: "a record's column is outside 1..k",
+}
 
 
 class Refusal(Exception):
@@ -68,7 +67,7 @@ class Refusal(Exception):
         super().__init__(number, place)
         self.number = number
         self.place = place
-        self.words = _ROWS[number - 1]
+        self.words = _ROWS[number]
 
     def __str__(self) -> str:
         return f"refused {self.number} at {self.place}: {self.words}"

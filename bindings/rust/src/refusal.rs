@@ -3,7 +3,8 @@
 use std::error::Error;
 use std::fmt;
 
-/// Why a call gave no result: one row of the refusal table. Rows that name a place carry it.
+/// Why a call gave no result: one row of the refusal table. Rows that name a place carry it. No row
+/// has the number 16.
 #[derive(Clone, Copy, Debug, PartialEq, Eq, Hash)]
 #[non_exhaustive]
 pub enum Refusal {
@@ -41,35 +42,11 @@ pub enum Refusal {
     NotAPath(u32),
     /// 15: no path exists in the column, or, in Robust, none that is open in every column.
     NoPath,
-    /// 16: a path cost exceeds 4,000,000,000.
-    CostOverflow,
     /// 17: arc index of m or more, at this record, from 0.
     WrongRecordArc(u32),
     /// 18: column outside 1..k, at this record, from 0.
     WrongRecordColumn(u32),
 }
-
-/// The table's words, by number from 1.
-const WORDS: [&str; 18] = [
-    "image under 24 bytes",
-    "edition isn't 1 or 2",
-    "n, m or k outside its range",
-    "an offset, total or reserved field is wrong; in Build, odd node list or costs not mk; in Update, a list that isn't of fours",
-    "image length isn't the total",
-    "tail or head outside 1..n",
-    "tail equals head",
-    "arc not above the one before",
-    "cost above 1,000,000, or an arc closed in edition 1",
-    "start or goal outside 1..n, or equal",
-    "column outside 1..k",
-    "K outside 1..256",
-    "a lent slice is too short",
-    "the node list is no path",
-    "no path exists",
-    "a path cost exceeds 4,000,000,000",
-    "a record's arc index is m or more",
-    "a record's column is outside 1..k",
-];
 
 impl Refusal {
     /// The refusal with this number and place; `None` if the table has no such row.
@@ -90,7 +67,6 @@ impl Refusal {
             13 => Refusal::SliceTooShort,
             14 => Refusal::NotAPath(place),
             15 => Refusal::NoPath,
-            16 => Refusal::CostOverflow,
             17 => Refusal::WrongRecordArc(place),
             18 => Refusal::WrongRecordColumn(place),
             _ => return None,
@@ -115,7 +91,6 @@ impl Refusal {
             Refusal::SliceTooShort => 13,
             Refusal::NotAPath(_) => 14,
             Refusal::NoPath => 15,
-            Refusal::CostOverflow => 16,
             Refusal::WrongRecordArc(_) => 17,
             Refusal::WrongRecordColumn(_) => 18,
         }
@@ -128,7 +103,27 @@ impl Refusal {
 
     /// The table's words for the row, without the place.
     pub fn words(self) -> &'static str {
-        WORDS[self.number() as usize - 1]
+        match self {
+            Refusal::ImageTooShort => "image under 24 bytes",
+            Refusal::WrongEdition => "edition isn't 1 or 2",
+            Refusal::SizeOutOfRange => "n, m or k outside its range",
+            Refusal::WrongField => {
+                "an offset, total or reserved field is wrong; in Build, odd node list or costs not mk; in Update, a list that isn't of fours"
+            }
+            Refusal::WrongLength => "image length isn't the total",
+            Refusal::ArcOutOfRange(_) => "tail or head outside 1..n",
+            Refusal::ArcToItself(_) => "tail equals head",
+            Refusal::ArcNotRising(_) => "arc not above the one before",
+            Refusal::CostTooLarge(_) => "cost above 1,000,000, or an arc closed in edition 1",
+            Refusal::WrongEnds => "start or goal outside 1..n, or equal",
+            Refusal::WrongColumn => "column outside 1..k",
+            Refusal::WrongPathCount => "K outside 1..256",
+            Refusal::SliceTooShort => "a lent slice is too short",
+            Refusal::NotAPath(_) => "the node list is no path",
+            Refusal::NoPath => "no path exists",
+            Refusal::WrongRecordArc(_) => "a record's arc index is m or more",
+            Refusal::WrongRecordColumn(_) => "a record's column is outside 1..k",
+        }
     }
 
     /// The place, if the row names one.

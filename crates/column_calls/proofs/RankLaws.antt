@@ -1,5 +1,5 @@
 -- Rank: what its rows say where none applies, and what it writes. Assumes nothing.
-use Prim.Native.Nat.{ℕ, zero, suc, _+_, _*_, _≤_, _<_}
+use Prim.Native.Nat.{ℕ, zero, suc, _*_, _≤_, _<_}
 use native.Mathlib.Omega.{arith}
 use native.Mathlib.Nat.{mul-le-mul-right, eq-or-lt-of-le}
 use mathlib.Core.Path.{_≡_, refl, sym, _∙_, ap, ap₂, subst}
@@ -28,7 +28,7 @@ use Rattle.branching.specs.declared.first.Found.{Found}
 use Rattle.ranking.specs.Ranking.{Ranked}
 use Rattle.ranking.proofs.ResultLaws.{ranked-count, ranked-cost}
 use Rattle.terms.proofs.PathLaws.{column-within}
-use Rattle.outcomes.specs.Calls.{ranking-rows, room-row, workspace, path-rows, rank-rows, rank-of, rank-rows-of, rank-costs-of}
+use Rattle.outcomes.specs.Calls.{ranking-rows, room-row, workspace, path-row, rank-rows, rank-of, rank-rows-of, rank-costs-of}
 use Rattle.loading.specs.Accepted.{InColumn, Ends}
 use Rattle.loading.specs.Loaded.{Loaded}
 use Rattle.loading.proofs.LoadLaws.{loaded-least}
@@ -103,7 +103,7 @@ module _ (b : List ℕ) (u s t K : ℕ) where
     unfolding rank-costs-of after
     no-costs old = rw e
 
-  -- ---- rows 15 and 16
+  -- ---- row 15
   module _ (accepted : image-fault b ≡ sound) (c : InColumn b u) (ends : Ends (netOf b .nodes) s t) where
     empty : (l : List Route) → length l ≡ 0 → l ≡ []
     empty [] e = refl
@@ -114,7 +114,7 @@ module _ (b : List ℕ) (u s t K : ℕ) where
     first-of (suc K) [] h e = refl
     first-of (suc K) (p ∷ l) h e = let z : _≡_ {A = ℕ} 1 0 = ap (λ (x : List Route). length (take 1 x)) e in absurd (omega arith)
 
-    pub none-listed : 1 ≤ K → length (rank-of b u s t K) ≡ 0 → (path-rows b u s t ≡ fault 15 0) × (rank-of b u s t K ≡ [])
+    pub none-listed : 1 ≤ K → length (rank-of b u s t K) ≡ 0 → (path-row b u s t ≡ fault 15 0) × (rank-of b u s t K ≡ [])
     unfolding rank-of
     none-listed k e =
         let z = empty (take K (ranked (netOf b .nodes) (column (netOf b) u) s t)) e in
@@ -126,7 +126,7 @@ module _ (b : List ℕ) (u s t K : ℕ) where
     first-path (suc K) [] h = absurd (omega arith)
     first-path (suc K) (p ∷ l) h = (p, List·Memᴰ·head refl)
 
-    pub some-listed : 1 ≤ length (rank-of b u s t K) → path-rows b u s t ≡ sound
+    pub some-listed : 1 ≤ length (rank-of b u s t K) → path-row b u s t ≡ sound
     unfolding rank-of
     some-listed h =
         let p = first-path K (ranked (netOf b .nodes) (column (netOf b) u) s t) h in

@@ -3,7 +3,6 @@ use super::first_paths::list;
 use image::Checked;
 use image::Refusal;
 use image::Sizes;
-use outcomes::check_costs;
 use outcomes::check_ranking;
 ghost use mathlib.Core.Path.{_≡_};
 ghost use mathlib.Core.List.{[], _∷_};
@@ -13,7 +12,7 @@ ghost use Rattle.image.specs.Layout.{netOf};
 ghost use Rattle.image.specs.Calls.{sizes};
 ghost use Rattle.image.specs.Answers.{checked};
 ghost use Rattle.column_calls.specs.Answers.{listed};
-ghost use Rattle.outcomes.specs.Calls.{path-rows, rank-rows, rank-fault, rank-of, rank-rows-of, rank-costs-of, rank-outcome, cleared};
+ghost use Rattle.outcomes.specs.Calls.{path-row, rank-rows, rank-fault, rank-of, rank-rows-of, rank-costs-of, rank-outcome, cleared};
 ghost use Rattle.loading.specs.Accepted.{Accepted, InColumn, Ends};
 ghost use Rattle.outcomes.specs.Demands.{Kept2};
 ghost use Rattle.column_calls.specs.Slices.{ListSlices};
@@ -53,8 +52,7 @@ fn check_rank(
     answer
 }
 
-// Rows 16 and 15, and the paths. Whether 16 applies does not depend on the paths, and 15 is decided
-// before anything is written.
+// Row 15, and the paths. Whether there is one is decided before anything is written.
 fn write_ranked(
     image: &[u8],
     sizes: Sizes,
@@ -68,15 +66,11 @@ fn write_ranked(
 ) -> Listed
     requires { ⌜ Accepted (now image) sizes × InColumn (now image) column × Ends (netOf (now image) .nodes) start goal ⌝ }
     requires { ⌜ ListSlices (netOf (now image) .nodes) wanted (now rows) (now costs) (now work) ⌝ }
-    ensures { λ r. ⌜ listed r ≡ outcome (path-rows (now (image .entry)) column start goal) (length (rank-of (now (image .entry)) column start goal wanted) ∷ []) ⌝ }
-    ensures { λ _. ⌜ now (rows .exit) ≡ after (path-rows (now (image .entry)) column start goal) (rank-rows-of (now (image .entry)) column start goal wanted) (now (rows .entry)) ⌝ }
-    ensures { λ _. ⌜ now (costs .exit) ≡ after (path-rows (now (image .entry)) column start goal) (rank-costs-of (now (image .entry)) column start goal wanted) (now (costs .entry)) ⌝ }
-    ensures { λ _. ⌜ now (work .exit) ≡ cleared (path-rows (now (image .entry)) column start goal) (now (work .entry)) ⌝ }
+    ensures { λ r. ⌜ listed r ≡ outcome (path-row (now (image .entry)) column start goal) (length (rank-of (now (image .entry)) column start goal wanted) ∷ []) ⌝ }
+    ensures { λ _. ⌜ now (rows .exit) ≡ after (path-row (now (image .entry)) column start goal) (rank-rows-of (now (image .entry)) column start goal wanted) (now (rows .entry)) ⌝ }
+    ensures { λ _. ⌜ now (costs .exit) ≡ after (path-row (now (image .entry)) column start goal) (rank-costs-of (now (image .entry)) column start goal wanted) (now (costs .entry)) ⌝ }
+    ensures { λ _. ⌜ now (work .exit) ≡ cleared (path-row (now (image .entry)) column start goal) (now (work .entry)) ⌝ }
 {
-    let limit = check_costs(sizes);
-    let Checked::Network(_) = limit else {
-        return Listed::Refused(limit.refusal());
-    };
     let count = list(image, sizes, column, start, goal, wanted, rows, costs, work);
     if count == 0 {
         return Listed::Refused(Refusal::NoPath);

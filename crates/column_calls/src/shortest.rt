@@ -4,7 +4,6 @@ use branching::Found;
 use image::Checked;
 use image::Refusal;
 use image::Sizes;
-use outcomes::check_costs;
 use outcomes::check_search;
 use outcomes::write_path;
 ghost use mathlib.Core.Path.{_≡_};
@@ -16,7 +15,7 @@ ghost use Rattle.image.specs.Layout.{netOf};
 ghost use Rattle.image.specs.Calls.{sizes};
 ghost use Rattle.image.specs.Answers.{checked};
 ghost use Rattle.column_calls.specs.Answers.{routed};
-ghost use Rattle.outcomes.specs.Calls.{shortest-rows, path-rows, shortest-fault, shortest-of, shortest-values, shortest-outcome};
+ghost use Rattle.outcomes.specs.Calls.{shortest-rows, path-row, shortest-fault, shortest-of, shortest-values, shortest-outcome};
 ghost use Rattle.loading.specs.Accepted.{Accepted, InColumn, Ends};
 
 // Shortest's answer.
@@ -40,7 +39,7 @@ fn check_shortest(image: &[u8], column: u32, start: u32, goal: u32, room: usize)
     answer
 }
 
-// Rows 15 and 16, and the path, with room to lay it out before it is written.
+// Row 15, and the path, with room to lay it out before it is written.
 fn write_first(
     image: &[u8],
     sizes: Sizes,
@@ -52,16 +51,12 @@ fn write_first(
 ) -> Routed
     requires { ⌜ Accepted (now image) sizes × InColumn (now image) column × Ends (netOf (now image) .nodes) start goal ⌝ }
     requires { ⌜ (length (now route) ≡ netOf (now image) .nodes) × (netOf (now image) .nodes ≤ length (now path)) ⌝ }
-    ensures { λ r. ⌜ routed r ≡ outcome (path-rows (now (image .entry)) column start goal) (shortest-values (now (image .entry)) column start goal) ⌝ }
-    ensures { λ _. ⌜ now (path .exit) ≡ after (path-rows (now (image .entry)) column start goal) (shortest-of (now (image .entry)) column start goal) (now (path .entry)) ⌝ }
+    ensures { λ r. ⌜ routed r ≡ outcome (path-row (now (image .entry)) column start goal) (shortest-values (now (image .entry)) column start goal) ⌝ }
+    ensures { λ _. ⌜ now (path .exit) ≡ after (path-row (now (image .entry)) column start goal) (shortest-of (now (image .entry)) column start goal) (now (path .entry)) ⌝ }
 {
     let found = find(image, sizes, column, start, goal, route);
     let Found::Tail(len, cost) = found else {
         return Routed::Refused(Refusal::NoPath);
-    };
-    let limit = check_costs(sizes);
-    let Checked::Network(_) = limit else {
-        return Routed::Refused(limit.refusal());
     };
     write_path(route, len, path);
     Routed::Path(len as u32, cost as u32)
@@ -78,8 +73,8 @@ fn write_shortest(
 ) -> Routed
     requires { ⌜ Accepted (now image) sizes × InColumn (now image) column × Ends (netOf (now image) .nodes) start goal ⌝ }
     requires { ⌜ (netOf (now image) .nodes ≤ length (now path)) ⌝ }
-    ensures { λ r. ⌜ routed r ≡ outcome (path-rows (now (image .entry)) column start goal) (shortest-values (now (image .entry)) column start goal) ⌝ }
-    ensures { λ _. ⌜ now (path .exit) ≡ after (path-rows (now (image .entry)) column start goal) (shortest-of (now (image .entry)) column start goal) (now (path .entry)) ⌝ }
+    ensures { λ r. ⌜ routed r ≡ outcome (path-row (now (image .entry)) column start goal) (shortest-values (now (image .entry)) column start goal) ⌝ }
+    ensures { λ _. ⌜ now (path .exit) ≡ after (path-row (now (image .entry)) column start goal) (shortest-of (now (image .entry)) column start goal) (now (path .entry)) ⌝ }
 {
     let mut route = [0u16; 200];
     let places = sizes.n as usize;

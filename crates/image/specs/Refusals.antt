@@ -1,12 +1,12 @@
 -- docs/REFERENCE.md, section 6: the number and the place of each refusal. Assumes nothing.
 use Prim.Native.Nat.{ℕ}
 use Rattle.image.specs.declared.refusal.Refusal.{Refusal}
-use Rattle.image.specs.declared.refusal.Refusal.the-variants.{ImageTooShort, WrongEdition, SizeOutOfRange, WrongField, WrongLength, ArcOutOfRange, ArcToItself, ArcNotRising, CostTooLarge, WrongEnds, WrongColumn, WrongPathCount, SliceTooShort, NotAPath, NoPath, CostOverflow, WrongRecordArc, WrongRecordColumn}
+use Rattle.image.specs.declared.refusal.Refusal.the-variants.{ImageTooShort, WrongEdition, SizeOutOfRange, WrongField, WrongLength, ArcOutOfRange, ArcToItself, ArcNotRising, CostTooLarge, WrongEnds, WrongColumn, WrongPathCount, SliceTooShort, NotAPath, NoPath, WrongRecordArc, WrongRecordColumn}
 use Rattle.image.specs.declared.refusal.Verdict.{Verdict}
 use Rattle.image.specs.declared.refusal.Verdict.the-variants.{Sound, Refused}
 use Rattle.image.specs.Outcome.{Fault, sound, fault}
 
--- the number of a refusal
+-- the number of a refusal; no refusal has 16
 abbrev pub numberOf : Refusal → ℕ
 numberOf ImageTooShort = 1
 numberOf WrongEdition = 2
@@ -23,7 +23,6 @@ numberOf WrongPathCount = 12
 numberOf SliceTooShort = 13
 numberOf (NotAPath position) = 14
 numberOf NoPath = 15
-numberOf CostOverflow = 16
 numberOf (WrongRecordArc index) = 17
 numberOf (WrongRecordColumn index) = 18
 
@@ -44,7 +43,6 @@ placeOf WrongPathCount = 0
 placeOf SliceTooShort = 0
 placeOf (NotAPath position) = position
 placeOf NoPath = 0
-placeOf CostOverflow = 0
 placeOf (WrongRecordArc index) = index
 placeOf (WrongRecordColumn index) = index
 

@@ -20,7 +20,6 @@ pub enum Refusal {
     SliceTooShort,
     NotAPath(u32),
     NoPath,
-    CostOverflow,
     WrongRecordArc(u32),
     WrongRecordColumn(u32),
 }
@@ -51,7 +50,6 @@ pub fn number(refusal: Refusal) -> u32
         Refusal::SliceTooShort => 13,
         Refusal::NotAPath(_) => 14,
         Refusal::NoPath => 15,
-        Refusal::CostOverflow => 16,
         Refusal::WrongRecordArc(_) => 17,
         Refusal::WrongRecordColumn(_) => 18,
     }
@@ -79,6 +77,5 @@ pub fn place(refusal: Refusal) -> u32
         Refusal::WrongPathCount => 0,
         Refusal::SliceTooShort => 0,
         Refusal::NoPath => 0,
-        Refusal::CostOverflow => 0,
     }
 }

@@ -21,10 +21,9 @@ use Rattle.choosing.specs.Answers.{chosen-length, answered}
 use Rattle.choosing.specs.declared.answering.Answer.{Answer}
 use Rattle.choosing.specs.declared.answering.Answer.the-variants.{Settled, Open}
 use Rattle.choosing.specs.declared.answering.Choice.{Choice}
-use Rattle.outcomes.specs.Calls.{no-path-row, choice-rows, robust-rows, robust-fault, robust-of, chosen, robust-values}
+use Rattle.outcomes.specs.Calls.{no-path-row, choice-row, robust-rows, robust-fault, robust-of, chosen, robust-values}
 use Rattle.outcomes.specs.Demands.{Kept3}
-use Rattle.outcomes.proofs.CostLaws.{all-columns-row}
-use Rattle.outcomes.proofs.RowLaws.{then-last, SearchSound, RankingSound, ranking-sound, roomy}
+use Rattle.outcomes.proofs.RowLaws.{SearchSound, RankingSound, ranking-sound, roomy}
 use Rattle.outcomes.proofs.WorkLaws.{slots-fit}
 use Rattle.outcomes.proofs.ShortestLaws.{row-none, row-some}
 use Rattle.loading.specs.Accepted.{Accepted}
@@ -100,11 +99,6 @@ state-open A c count floor e p l =
     let l′ : length p ≡ c .length = l ∙ ap chosen-length e in
     ap (λ (x : ℕ). gives (x ∷ c .figure ∷ c .worst ∷ count ∷ 2 ∷ floor ∷ [])) (sym l′) ∙ ap (λ A. gives (robust-values (answered p A))) (sym e)
 
--- ---- rows 15 and 16
-pub choice-rows-are : {e : ℕ} (b : List ℕ) (r s t : ℕ) → Admitted e (netOf b) → choice-rows b r s t ≡ no-path-row (netOf b .nodes) (column (common (netOf b)) r) s t
-unfolding choice-rows
-choice-rows-are b r s t ok = then-last _ (all-columns-row ok s t)
-
 -- ---- demand 3
 module _ (b : List ℕ) (r s t K path work : ℕ) where
   module _ (e : robust-rows b r s t K path work ≡ sound) where
@@ -120,8 +114,8 @@ module _ (b : List ℕ) (r s t K path work : ℕ) where
     within = subst (λ n. Within n (column (common (netOf b)) r)) (common-nodes (netOf b)) (column-within (common-admitted ok) r)
 
     fault-is : robust-fault b r s t K path work ≡ no-path-row (netOf b .nodes) (column (common (netOf b)) r) s t
-    unfolding robust-fault
-    fault-is = then-next _ e ∙ choice-rows-are b r s t ok
+    unfolding robust-fault choice-row
+    fault-is = then-next _ e
 
     given : (p : Route) → OpenPath (netOf b) s t p → robust-fault b r s t K path work ≡ sound
     given p h =

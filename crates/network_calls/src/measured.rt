@@ -8,7 +8,6 @@ use image::Sizes;
 use labels::FAR;
 use loading::load_common;
 use measuring::measure;
-use outcomes::check_costs;
 ghost use mathlib.Core.Path.{_≡_};
 ghost use mathlib.Core.List.{[], _∷_};
 ghost use Prim.Native.Nat.{_+_};
@@ -19,7 +18,7 @@ ghost use Rattle.image.specs.Outcome.{outcome};
 ghost use Rattle.image.specs.Layout.{netOf};
 ghost use Rattle.loading.specs.Accepted.{Accepted, Ends};
 ghost use Rattle.loading.specs.Loaded.{Shared};
-ghost use Rattle.outcomes.specs.Calls.{list-rows};
+ghost use Rattle.outcomes.specs.Calls.{list-row};
 ghost use Rattle.network_calls.specs.Answers.{regretted};
 ghost use Rattle.network_calls.specs.Held.{ChoiceRoom};
 
@@ -63,7 +62,7 @@ fn measure_path(
     }
 }
 
-// Rows 14 and 16, and the measure where neither applies.
+// Row 14, and the measure where it does not apply.
 fn measure_shared(
     image: &[u8],
     sizes: Sizes,
@@ -77,16 +76,12 @@ fn measure_shared(
 ) -> Regretted
     requires { ⌜ Accepted (now image) sizes × Shared (netOf (now image)) m (now star) (now costs) × (length (now bests) ≡ sizes .k) ⌝ }
     requires { ⌜ Ends (netOf (now image) .nodes) start goal ⌝ }
-    ensures { λ r. ⌜ regretted r ≡ outcome (list-rows (now (image .entry)) start goal (now (nodes .entry))) (terms.figure (netOf (now (image .entry))) start goal (now (nodes .entry)) ∷ terms.worst (netOf (now (image .entry))) start goal (now (nodes .entry)) ∷ []) ⌝ }
+    ensures { λ r. ⌜ regretted r ≡ outcome (list-row (terms.open-fault (netOf (now (image .entry))) start goal (now (nodes .entry)))) (terms.figure (netOf (now (image .entry))) start goal (now (nodes .entry)) ∷ terms.worst (netOf (now (image .entry))) start goal (now (nodes .entry)) ∷ []) ⌝ }
 {
     let list = check_list(star, &costs[..m], sizes.n as usize, start, goal, nodes);
     if let NodeList::Fault(place) = list {
         return Regretted::Refused(Refusal::NotAPath(place));
     }
-    let limit = check_costs(sizes);
-    let Checked::Network(_) = limit else {
-        return Regretted::Refused(limit.refusal());
-    };
     Regretted::Measured(measure_path(
         image,
         sizes,
@@ -113,7 +108,7 @@ fn measure_in(
 ) -> Regretted
     requires { ⌜ Accepted (now image) sizes × ChoiceRoom (sizes .n) (sizes .m) (sizes .k) (now star) (now costs) (now bests) ⌝ }
     requires { ⌜ Ends (netOf (now image) .nodes) start goal ⌝ }
-    ensures { λ r. ⌜ regretted r ≡ outcome (list-rows (now (image .entry)) start goal (now (nodes .entry))) (terms.figure (netOf (now (image .entry))) start goal (now (nodes .entry)) ∷ terms.worst (netOf (now (image .entry))) start goal (now (nodes .entry)) ∷ []) ⌝ }
+    ensures { λ r. ⌜ regretted r ≡ outcome (list-row (terms.open-fault (netOf (now (image .entry))) start goal (now (nodes .entry)))) (terms.figure (netOf (now (image .entry))) start goal (now (nodes .entry)) ∷ terms.worst (netOf (now (image .entry))) start goal (now (nodes .entry)) ∷ []) ⌝ }
 {
     let m = load_common(image, sizes, star, costs);
     let places = sizes.n as usize + 1;
@@ -135,7 +130,7 @@ fn measure_in(
 // The figure and the worst column of a node list, or the row that refuses it.
 pub fn measure_list(image: &[u8], sizes: Sizes, start: u32, goal: u32, nodes: &[u16]) -> Regretted
     requires { ⌜ Accepted (now image) sizes × Ends (netOf (now image) .nodes) start goal ⌝ }
-    ensures { λ r. ⌜ regretted r ≡ outcome (list-rows (now (image .entry)) start goal (now (nodes .entry))) (terms.figure (netOf (now (image .entry))) start goal (now (nodes .entry)) ∷ terms.worst (netOf (now (image .entry))) start goal (now (nodes .entry)) ∷ []) ⌝ }
+    ensures { λ r. ⌜ regretted r ≡ outcome (list-row (terms.open-fault (netOf (now (image .entry))) start goal (now (nodes .entry)))) (terms.figure (netOf (now (image .entry))) start goal (now (nodes .entry)) ∷ terms.worst (netOf (now (image .entry))) start goal (now (nodes .entry)) ∷ []) ⌝ }
 {
     let mut star = [0u16; 3403];
     let mut costs = [0u32; 8000];

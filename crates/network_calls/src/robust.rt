@@ -4,18 +4,14 @@ use super::chosen::choose;
 use image::Checked;
 use image::Refusal;
 use image::Sizes;
-use outcomes::check_costs;
 use outcomes::check_ranking;
 ghost use mathlib.Core.Path.{_≡_};
 ghost use lib.ListN.{length};
 ghost use Rattle.image.specs.Outcome.{outcome, after};
-ghost use Rattle.image.specs.Layout.{netOf};
 ghost use Rattle.image.specs.Calls.{sizes};
 ghost use Rattle.image.specs.Answers.{checked};
 ghost use Rattle.network_calls.specs.Answers.{decided};
-ghost use Rattle.outcomes.specs.Calls.{choice-rows, robust-rows, robust-fault, robust-of, chosen, robust-values, robust-outcome, cleared};
-ghost use Rattle.loading.specs.Accepted.{Accepted, InColumn, Ends};
-ghost use Rattle.network_calls.specs.Held.{ChoiceSlices};
+ghost use Rattle.outcomes.specs.Calls.{robust-rows, robust-fault, robust-of, chosen, robust-outcome, cleared};
 ghost use Rattle.outcomes.specs.Demands.{Kept3};
 
 // Robust's rows before 15, for slices of these lengths.
@@ -40,31 +36,6 @@ fn check_robust(
     answer
 }
 
-// Rows 16 and 15, and the choice. Whether 16 applies does not depend on the paths, and 15 is decided
-// before anything is written.
-fn decide(
-    image: &[u8],
-    sizes: Sizes,
-    column: u32,
-    start: u32,
-    goal: u32,
-    wanted: u32,
-    path: &mut [u16],
-    work: &mut [u32],
-) -> Decided
-    requires { ⌜ Accepted (now image) sizes × InColumn (now image) column × Ends (netOf (now image) .nodes) start goal ⌝ }
-    requires { ⌜ ChoiceSlices (netOf (now image) .nodes) wanted (now path) (now work) ⌝ }
-    ensures { λ d. ⌜ decided d ≡ outcome (choice-rows (now (image .entry)) column start goal) (robust-values (robust-of (now (image .entry)) column start goal wanted)) ⌝ }
-    ensures { λ _. ⌜ now (path .exit) ≡ after (choice-rows (now (image .entry)) column start goal) (chosen (robust-of (now (image .entry)) column start goal wanted)) (now (path .entry)) ⌝ }
-    ensures { λ _. ⌜ now (work .exit) ≡ cleared (choice-rows (now (image .entry)) column start goal) (now (work .entry)) ⌝ }
-{
-    let limit = check_costs(sizes);
-    let Checked::Network(_) = limit else {
-        return Decided::Refused(limit.refusal());
-    };
-    choose(image, sizes, column, start, goal, wanted, path, work)
-}
-
 // REFERENCE, section 4.6. The first three promises say what is given and written; the last one is demand 3, section 9.3.
 pub fn robust(
     image: &[u8],
@@ -84,5 +55,5 @@ pub fn robust(
     let Checked::Network(sizes) = answer else {
         return Decided::Refused(answer.refusal());
     };
-    decide(image, sizes, column, start, goal, wanted, path, work)
+    choose(image, sizes, column, start, goal, wanted, path, work)
 }

@@ -2,7 +2,7 @@
 -- ---- rows
 use Prim.Native.Nat.{ℕ, _≤_, _<_}
 use native.Mathlib.Omega.{arith}
-use mathlib.Core.Path.{_≡_, refl, sym, _∙_}
+use mathlib.Core.Path.{_≡_, sym, _∙_}
 use mathlib.Core.Bool.{true, false, not, _&&_}
 use mathlib.Core.List.{List}
 use mathlib.Core.Option.{none, some}
@@ -21,17 +21,10 @@ use Rattle.image.proofs.OutcomeLaws.{outcome-fault, then-fault, then-next, then
 use Rattle.image.proofs.CheckLaws.{sized, same-sizes, rejected}
 use Rattle.loading.proofs.PartLaws.{length-arcs}
 use Rattle.loading.proofs.DecodeLaws.{accepted-of, admitted}
-use Rattle.image.proofs.NetworkLaws.{accepted-network, length-columns}
-use Rattle.outcomes.specs.Calls.{ends-row, goal-row, column-row, room-row, list-row, count-row, workspace, search-rows, ranking-rows, label-fault, list-rows}
+use Rattle.image.proofs.NetworkLaws.{length-columns}
+use Rattle.outcomes.specs.Calls.{ends-row, goal-row, column-row, room-row, list-row, count-row, workspace, search-rows, ranking-rows, label-fault}
 use Rattle.loading.specs.Accepted.{Accepted, Node, InColumn, Ends}
-use Rattle.outcomes.proofs.CostLaws.{all-nodes-row, all-columns-row}
-use Rattle.terms.specs.Regret as regret
-
--- a row that does not apply can stand last
-pub then-last : (f : Fault) {g : Fault} → g ≡ sound → (f then g) ≡ f
-unfolding _then_
-then-last sound e = e
-then-last (fault n p) e = refl
+use Rattle.terms.specs.Regret.{open-fault}
 
 -- Check's refusal is the call's
 pub refused-first : (b : List ℕ) {o : Outcome} {number place : ℕ} (g : Fault) (values : List ℕ) → o ≡ refuses number place → o ≡ check-outcome b → o ≡ outcome (image-fault b then g) values
@@ -180,9 +173,7 @@ module _ {b : List ℕ} {z : Sizes} (a : Accepted b z) (u t room : ℕ) where
 
       pub label-passes : z .n ≤ room → label-fault b u t room ≡ sound
       unfolding label-fault goal-row column-row room-row row _then_
-      label-passes h =
-          let c = and-both (leb 1 u) (leb u (z .k)) in-range in
-          rw (then-next _ (a .passes), ← a .nodes-are, goal, ← a .columns-are, in-range, le-ltb room (z .n) h, a .nodes-are) (all-nodes-row (admitted a) u t (leb-true _ _ (c .0)) (omega (arith, a .columns-are, leb-true u (z .k) (c .1))))
+      label-passes h = rw (then-next _ (a .passes), ← a .nodes-are, goal, ← a .columns-are, in-range, le-ltb room (z .n) h)
 
 -- what Label is given where no row applies
 pub record LabelSound (b : List ℕ) (u t room : ℕ) : Type 0 where
@@ -198,16 +189,15 @@ label-sound b u t room e =
     let e₁ = then-sound _ _ e in
     let e₂ = then-sound _ _ (e₁ .1) in
     let e₃ = then-sound _ _ (e₂ .1) in
-    let e₄ = then-sound _ _ (e₃ .1) in
     let c = and-both (leb 1 u) (leb u (length (netOf b .columns))) (not-false _ (row-sound _ _ _ (e₃ .0))) in
-    record { accepted = e₁ .0; goal = node-true (not-false _ (row-sound _ _ _ (e₂ .0))); from = leb-true _ _ (c .0); upto = leb-true _ _ (c .1); room-for = ltb-false _ _ (row-sound _ _ _ (e₄ .0)) }
+    record { accepted = e₁ .0; goal = node-true (not-false _ (row-sound _ _ _ (e₂ .0))); from = leb-true _ _ (c .0); upto = leb-true _ _ (c .1); room-for = ltb-false _ _ (row-sound _ _ _ (e₃ .1)) }
 
 -- ---- Regret
-module _ (b : List ℕ) (s t : ℕ) (nodes : List ℕ) (accepted : image-fault b ≡ sound) where
-  pub no-path-at : {place : ℕ} → some place ≡ regret.open-fault (netOf b) s t nodes → list-rows b s t nodes ≡ fault 14 place
-  unfolding list-rows list-row _then_
+module _ (net : Net) (s t : ℕ) (nodes : List ℕ) where
+  pub no-path-at : {place : ℕ} → some place ≡ open-fault net s t nodes → list-row (open-fault net s t nodes) ≡ fault 14 place
+  unfolding list-row
   no-path-at e = rw (← e)
 
-  pub list-passes : none ≡ regret.open-fault (netOf b) s t nodes → list-rows b s t nodes ≡ sound
-  unfolding list-rows list-row _then_
-  list-passes e = rw (← e) (all-columns-row (accepted-network b accepted) s t)
+  pub list-passes : none ≡ open-fault net s t nodes → list-row (open-fault net s t nodes) ≡ sound
+  unfolding list-row
+  list-passes e = rw (← e)

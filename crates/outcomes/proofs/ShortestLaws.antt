@@ -15,14 +15,14 @@ use Rattle.terms.proofs.PathLaws.{Within, column-within, path-listed, listed-pa
 use Rattle.image.specs.Outcome.{sound, fault, row, after}
 use Rattle.image.specs.Layout.{edition, netOf}
 use Rattle.image.specs.Calls.{image-fault}
-use Rattle.image.proofs.OutcomeLaws.{then-fault, then-next, then-sound, after-sound}
+use Rattle.image.proofs.OutcomeLaws.{then-sound, after-sound}
 use Rattle.branching.specs.Branches.{everything, First, In}
 use Rattle.branching.proofs.AllLaws.{first-ranked, cost-start}
 use Rattle.branching.proofs.BranchLaws.{in-everything}
 use Rattle.image.proofs.NetworkLaws.{accepted-network}
-use Rattle.outcomes.specs.Calls.{no-path-row, shortest-rows, path-rows, shortest-of, shortest-values}
+use Rattle.outcomes.specs.Calls.{no-path-row, shortest-rows, path-row, shortest-of, shortest-values}
 use Rattle.loading.specs.Accepted.{InColumn, Ends}
-use Rattle.outcomes.proofs.CostLaws.{dearest-row, column-cost-le}
+use Rattle.outcomes.proofs.CostLaws.{column-cost-le}
 use Rattle.outcomes.proofs.RowLaws.{SearchSound, search-sound, roomy}
 
 -- what rows that pass say
@@ -34,7 +34,7 @@ pub shortest-sound : (b : List ℕ) (u s t room : ℕ) → shortest-rows b u s t
 unfolding shortest-rows
 shortest-sound b u s t room e = let f = then-sound _ _ e in record { search = search-sound b u s t (f .0); room-for = roomy _ _ (f .1) }
 
--- ---- rows 15 and 16, and the path
+-- ---- row 15, and the path
 no-members : (l : List Route) → ((p : Route) → p ∈ l → ⊥) → length l ≡ 0
 no-members [] none = refl
 no-members (p ∷ l) none = absurd (none p (List·Memᴰ·head refl))
@@ -61,16 +61,16 @@ module _ {b : List ℕ} {u s t : ℕ} (accepted : image-fault b ≡ sound) (c : 
   net : Admitted (edition b) (netOf b)
   net = accepted-network b accepted
 
-  pub path-none : ((p : Route) → In (column (netOf b) u) s t (everything s) p → ⊥) → path-rows b u s t ≡ fault 15 0
-  unfolding path-rows
-  path-none none = then-fault _ (row-none (netOf b .nodes) (λ p h. none p (in-everything h)))
+  pub path-none : ((p : Route) → In (column (netOf b) u) s t (everything s) p → ⊥) → path-row b u s t ≡ fault 15 0
+  unfolding path-row
+  path-none none = row-none (netOf b .nodes) (λ p h. none p (in-everything h))
 
-  pub some-path : {p : Route} → Path (column (netOf b) u) s t p → path-rows b u s t ≡ sound
-  unfolding path-rows
-  some-path h = then-next _ (row-some (netOf b .nodes) (column-within net u) (ends .start-in .from) (ends .start-in .upto) h) ∙ dearest-row net u s t (c .from) (c .upto)
+  pub some-path : {p : Route} → Path (column (netOf b) u) s t p → path-row b u s t ≡ sound
+  unfolding path-row
+  some-path h = row-some (netOf b .nodes) (column-within net u) (ends .start-in .from) (ends .start-in .upto) h
 
   module _ {p : Route} (f : First (column (netOf b) u) s t (everything s) p) where
-    pub path-some : path-rows b u s t ≡ sound
+    pub path-some : path-row b u s t ≡ sound
     path-some = some-path (f .member .path)
 
     pub path-is : shortest-of b u s t ≡ p
@@ -92,5 +92,5 @@ module _ {b : List ℕ} {u s t : ℕ} (accepted : image-fault b ≡ sound) (c : 
       unfolding shortest-values
       values-are = ap₂ (λ (x y : ℕ). x ∷ y ∷ []) (sym length-is) (rest-is ∙ ap (cost (column (netOf b) u)) (sym path-is))
 
-      pub written-is : (old : List ℕ) → take len route ++ drop len old ≡ after (path-rows b u s t) (shortest-of b u s t) old
+      pub written-is : (old : List ℕ) → take len route ++ drop len old ≡ after (path-row b u s t) (shortest-of b u s t) old
       written-is old = ap₂ (λ (l : List ℕ) (i : ℕ). l ++ drop i old) (sym (path-is ∙ laid)) (sym length-is) ∙ sym (after-sound _ _ path-some)

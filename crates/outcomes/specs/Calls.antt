@@ -5,12 +5,11 @@ use mathlib.Core.List.{List, [], _∷_, map}
 use mathlib.Core.Option.{Option, none, some}
 use lib.Dec.{leb, ltb, eqb}
 use lib.ListN.{length, getD, take, replicate}
-use Rattle.terms.specs.Lists.{largest, numbers}
+use Rattle.terms.specs.Lists.{numbers}
 use Rattle.terms.specs.Network.{Graph, Net, column, common}
 use Rattle.terms.specs.Paths.{Route, cost, paths}
 use Rattle.terms.specs.Ranking.{ranked}
-use Rattle.terms.specs.Regret.{labels, figure, worst}
-use Rattle.terms.specs.Regret as regret
+use Rattle.terms.specs.Regret.{labels, figure, worst, open-fault}
 use Rattle.terms.specs.Robust.{Answer, settled, left-open, no-path, robust}
 use Rattle.listing.specs.Rows.{rows-of}
 use Rattle.image.specs.Outcome.{Fault, sound, fault, row, _then_, Outcome, outcome, after}
@@ -47,13 +46,6 @@ list-row (some place) = fault 14 place
 unfoldable pub no-path-row : ℕ → Graph → ℕ → ℕ → Fault
 no-path-row n g s t = row 15 0 (eqb (length (paths n g s t)) 0)
 
--- row 16: a path costs more than 4,000,000,000
-unfoldable pub dearest : ℕ → Graph → ℕ → ℕ → ℕ
-dearest n g s t = largest (map (cost g) (paths n g s t))
-
-unfoldable pub cost-row : ℕ → Fault
-cost-row c = row 16 0 (ltb 4000000000 c)
-
 -- the rows before 12 of a call with a column, a start and a goal
 unfoldable pub search-rows : List ℕ → ℕ → ℕ → ℕ → Fault
 search-rows b u s t = (image-fault b then ends-row (netOf b) s t) then column-row (netOf b) u
@@ -80,7 +72,6 @@ label-fault b u t room =
     then goal-row (netOf b) t
     then column-row (netOf b) u
     then room-row room (netOf b .nodes)
-    then cost-row (largest (map (λ v. dearest (netOf b .nodes) (column (netOf b) u) v t) (numbers 1 (netOf b .nodes))))
 
 unfoldable pub label-outcome : List ℕ → ℕ → ℕ → ℕ → Outcome
 label-outcome b u t room = outcome (label-fault b u t room) []
@@ -94,14 +85,12 @@ labels-of b u t = labels (netOf b .nodes) (column (netOf b) u) t
 unfoldable pub shortest-rows : List ℕ → ℕ → ℕ → ℕ → ℕ → Fault
 shortest-rows b u s t room = search-rows b u s t then room-row room (netOf b .nodes)
 
--- rows 15 and 16
-unfoldable pub path-rows : List ℕ → ℕ → ℕ → ℕ → Fault
-path-rows b u s t =
-    no-path-row (netOf b .nodes) (column (netOf b) u) s t
-    then cost-row (dearest (netOf b .nodes) (column (netOf b) u) s t)
+-- row 15: no path is open in column u
+unfoldable pub path-row : List ℕ → ℕ → ℕ → ℕ → Fault
+path-row b u s t = no-path-row (netOf b .nodes) (column (netOf b) u) s t
 
 unfoldable pub shortest-fault : List ℕ → ℕ → ℕ → ℕ → ℕ → Fault
-shortest-fault b u s t room = shortest-rows b u s t room then path-rows b u s t
+shortest-fault b u s t room = shortest-rows b u s t room then path-row b u s t
 
 -- the path that is written
 unfoldable pub shortest-of : List ℕ → ℕ → ℕ → ℕ → Route
@@ -115,16 +104,8 @@ unfoldable pub shortest-outcome : List ℕ → ℕ → ℕ → ℕ → ℕ → O
 shortest-outcome b u s t room = outcome (shortest-fault b u s t room) (shortest-values b u s t)
 
 -- ---- Regret: start s, goal t, a node list that is a path open in every column; gives its figure and worst column
--- the dearest path over all columns, which this call reads all
-unfoldable pub dearest-anywhere : Net → ℕ → ℕ → ℕ
-dearest-anywhere net s t = largest (map (λ u. dearest (net .nodes) (column net u) s t) (numbers 1 (length (net .columns))))
-
--- rows 14 and 16
-unfoldable pub list-rows : List ℕ → ℕ → ℕ → List ℕ → Fault
-list-rows b s t nodes = list-row (regret.open-fault (netOf b) s t nodes) then cost-row (dearest-anywhere (netOf b) s t)
-
 unfoldable pub regret-fault : List ℕ → ℕ → ℕ → List ℕ → Fault
-regret-fault b s t nodes = (image-fault b then ends-row (netOf b) s t) then list-rows b s t nodes
+regret-fault b s t nodes = (image-fault b then ends-row (netOf b) s t) then list-row (open-fault (netOf b) s t nodes)
 
 unfoldable pub regret-outcome : List ℕ → ℕ → ℕ → List ℕ → Outcome
 regret-outcome b s t nodes = outcome (regret-fault b s t nodes) (figure (netOf b) s t nodes ∷ worst (netOf b) s t nodes ∷ [])
@@ -138,7 +119,7 @@ rank-rows b u s t K rows costs work =
     then room-row costs K
 
 unfoldable pub rank-fault : List ℕ → ℕ → ℕ → ℕ → ℕ → ℕ → ℕ → ℕ → Fault
-rank-fault b u s t K rows costs work = rank-rows b u s t K rows costs work then path-rows b u s t
+rank-fault b u s t K rows costs work = rank-rows b u s t K rows costs work then path-row b u s t
 
 -- the first K paths of the ranked list, or all
 unfoldable pub rank-of : List ℕ → ℕ → ℕ → ℕ → ℕ → List Route
@@ -160,14 +141,12 @@ rank-outcome b u s t K rows costs work = outcome (rank-fault b u s t K rows cost
 unfoldable pub robust-rows : List ℕ → ℕ → ℕ → ℕ → ℕ → ℕ → ℕ → Fault
 robust-rows b r s t K path work = ranking-rows b r s t K work then room-row path (netOf b .nodes)
 
--- row 15 applies if the ranked list is empty: no path is open in every column; row 16 is about all columns, which this call reads
-unfoldable pub choice-rows : List ℕ → ℕ → ℕ → ℕ → Fault
-choice-rows b r s t =
-    no-path-row (netOf b .nodes) (column (common (netOf b)) r) s t
-    then cost-row (dearest-anywhere (netOf b) s t)
+-- row 15: the ranked list is empty, for no path is open in every column
+unfoldable pub choice-row : List ℕ → ℕ → ℕ → ℕ → Fault
+choice-row b r s t = no-path-row (netOf b .nodes) (column (common (netOf b)) r) s t
 
 unfoldable pub robust-fault : List ℕ → ℕ → ℕ → ℕ → ℕ → ℕ → ℕ → Fault
-robust-fault b r s t K path work = robust-rows b r s t K path work then choice-rows b r s t
+robust-fault b r s t K path work = robust-rows b r s t K path work then choice-row b r s t
 
 -- the answer of the stopping rule
 unfoldable pub robust-of : List ℕ → ℕ → ℕ → ℕ → ℕ → Answer

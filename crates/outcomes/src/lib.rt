@@ -3,7 +3,6 @@
 mod rows;
 mod writing;
 
-pub use rows::check_costs;
 pub use rows::check_ends;
 pub use rows::check_ranking;
 pub use rows::check_search;

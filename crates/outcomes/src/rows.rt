@@ -7,13 +7,13 @@ use image::check::check;
 use image::is_node;
 ghost use mathlib.Core.Path.{_≡_};
 ghost use mathlib.Core.Bool.{_&&_};
-ghost use Prim.Native.Nat.{_*_, _-_, _≤_};
+ghost use Prim.Native.Nat.{_*_, _≤_};
 ghost use lib.Dec.{leb};
 ghost use Rattle.image.specs.Outcome.{_then_, outcome};
 ghost use Rattle.image.specs.Layout.{netOf};
 ghost use Rattle.image.specs.Calls.{image-fault, sizes};
-ghost use Rattle.image.specs.Answers.{checked, size-list};
-ghost use Rattle.outcomes.specs.Calls.{ends-row, cost-row, search-rows, ranking-rows, workspace};
+ghost use Rattle.image.specs.Answers.{checked};
+ghost use Rattle.outcomes.specs.Calls.{ends-row, search-rows, ranking-rows, workspace};
 
 // Whether u is one of the columns 1 to k: row 11.
 pub fn is_column(k: u32, u: u32) -> bool
@@ -92,15 +92,4 @@ pub fn check_ranking(
         return Checked::Refused(Refusal::SliceTooShort);
     }
     answer
-}
-
-// Row 16, the last of every call: a path has at most n - 1 arcs, and each costs at most 1,000,000.
-pub fn check_costs(sizes: Sizes) -> Checked
-    requires { ⌜ (1 ≤ sizes .n) × (sizes .n ≤ 200) ⌝ }
-    ensures { λ r. ⌜ checked r ≡ outcome (cost-row ((sizes .n - 1) * 1000000)) (size-list sizes) ⌝ }
-{
-    if 4000000000 < (sizes.n - 1) * 1000000 {
-        return Checked::Refused(Refusal::CostOverflow);
-    }
-    Checked::Network(sizes)
 }

@@ -14,7 +14,7 @@ use Rattle.image.specs.Outcome.{sound, row, _then_}
 use Rattle.image.specs.Rows.{edition-row, in-range, is-node, pairs, arc-fault, arcs-fault, is-cost, costs-fault, lists-fault}
 use Rattle.image.specs.Layout.{edition, node-count, arc-count, column-count, costs-start, total, fields-right, nodes-in, costs-in, node-list, cost-list, netOf}
 use Rattle.image.specs.Calls.{header-fault, taken-fault, image-fault}
-use Rattle.outcomes.specs.Calls.{ends-row, column-row, count-row, room-row, no-path-row, dearest, cost-row, search-rows, ranking-rows, workspace, dearest-anywhere, robust-rows, choice-rows, robust-fault, robust-of}
+use Rattle.outcomes.specs.Calls.{ends-row, column-row, count-row, room-row, no-path-row, search-rows, ranking-rows, workspace, robust-rows, choice-row, robust-fault, robust-of}
 use Rattle.sheet.specs.Text.{digits, decimal}
 use Rattle.sheet.specs.Sheet.{node-text, nodes-text, two-numbers, route-line, regret-line, settled-line, choice-lines, answer-text, sheet-of, program-fault, program-answer, sheet}
 
@@ -36,7 +36,7 @@ sheet-of-S =
 
 -- ---- no row applies, and Robust's answer is 1 3 4, 3, worst column 2, count 2, settled
 passes : program-fault image-of-S ≡ sound
-unfolding elem keep pick flatMap largest numbers heads linked weight weigh open-arcs cost-column column restrict open-everywhere common cut below cost-from cost exits walks paths number field decode row _then_ edition-row in-range is-node pairs arc-fault arcs-fault is-cost costs-fault lists-fault edition node-count arc-count column-count costs-start total fields-right nodes-in costs-in node-list cost-list netOf header-fault taken-fault image-fault ends-row column-row count-row room-row no-path-row dearest cost-row search-rows ranking-rows workspace dearest-anywhere robust-rows choice-rows robust-fault program-fault
+unfolding elem keep pick flatMap largest numbers heads linked weight weigh open-arcs cost-column column restrict open-everywhere common cut below cost-from cost exits walks paths number field decode row _then_ edition-row in-range is-node pairs arc-fault arcs-fault is-cost costs-fault lists-fault edition node-count arc-count column-count costs-start total fields-right nodes-in costs-in node-list cost-list netOf header-fault taken-fault image-fault ends-row column-row count-row room-row no-path-row search-rows ranking-rows workspace robust-rows choice-row robust-fault program-fault
 passes = refl
 
 answers : program-answer image-of-S ≡ settled (1 ∷ 3 ∷ 4 ∷ []) 3 2 2

@@ -464,8 +464,8 @@ fn refusal(number: u32, place: u32) -> Refusal {
 
 #[test]
 fn each_row_has_its_number_its_place_and_its_words() {
-    for number in 1..=16 {
-        let named = if [6, 7, 8, 9, 14].contains(&number) {
+    for number in (1..=15).chain(17..=18) {
+        let named = if [6, 7, 8, 9, 14, 17, 18].contains(&number) {
             5
         } else {
             0
@@ -477,10 +477,6 @@ fn each_row_has_its_number_its_place_and_its_words() {
         "start or goal outside 1..n, or equal"
     );
     assert_eq!(refusal(15, 0).to_string(), "no path exists");
-    assert_eq!(
-        refusal(16, 0).to_string(),
-        "a path cost exceeds 4,000,000,000"
-    );
     assert_eq!(refusal(7, 3).to_string(), "tail equals head (at 3)");
     assert_eq!(
         refusal(14, 0).to_string(),

@@ -1,17 +1,16 @@
 -- `label::check_label`: each return is the first row of Label that applies. Assumes nothing.
-use mathlib.Core.Path.{_≡_, sym, _∙_, ap, ap₂}
+use mathlib.Core.Path.{_≡_, sym, _∙_, ap}
 use mathlib.Core.Bool.{true, _&&_}
 use lib.Dec.{leb}
 use borrow.Author.Tests.{not-true, not-false}
 use borrow.Author.Needs.{needs}
-use Rattle.image.specs.Outcome.{outcome}
+use Rattle.image.specs.Outcome.{gives}
 use Rattle.image.specs.Rows.{is-node}
 use Rattle.image.specs.Answers.{checked}
-use Rattle.image.proofs.OutcomeLaws.{outcome-fault}
+use Rattle.image.proofs.OutcomeLaws.{outcome-fault, outcome-sound}
 use Rattle.outcomes.specs.Calls.{label-fault}
 use Rattle.loading.specs.Accepted.{Accepted}
-use Rattle.outcomes.proofs.CostLaws.{bound-row-sound}
-use Rattle.outcomes.proofs.RowLaws.{refused-first, given-network, sizes-of, node-bounds, no-goal, no-column, no-room, label-passes}
+use Rattle.outcomes.proofs.RowLaws.{refused-first, given-network, sizes-of, no-goal, no-column, no-room, label-passes}
 use Rattle.column_calls.proofs.label.check_label.Statement.{statement}
 use Rattle.column_calls.proofs.label.check_label.Tie as tie
 
@@ -42,13 +41,10 @@ returns-4 : tie.Need-returns-4
 returns-4 c = let f = c .before .before in
     sym (outcome-fault _ (no-room (known (f .before .before .before .before .before)) _ _ _ (goal-right (f .before .before)) (column-right f) (c .if3 .taken)))
 
-check-costs-requires : tie.Need-check-costs-requires
-check-costs-requires c κs = node-bounds (known (c .before .before .before .before .before .before .before))
-
 returns-5 : tie.Need-returns-5
-returns-5 c = let f = c .before .before .before in
+returns-5 c = let f = c .before .before in
     let k = known (f .before .before .before .before .before) in
-    c .check-costs .ensures ∙ ap₂ outcome (bound-row-sound (node-bounds k .1) ∙ sym (label-passes k _ _ _ (goal-right (f .before .before)) (column-right f) (c .before .if3 .left))) (sizes-of k)
+    ap gives (sizes-of k) ∙ sym (outcome-sound _ (label-passes k _ _ _ (goal-right (f .before .before)) (column-right f) (c .if3 .left)))
 
 pub check-label-spec : {M : Type 1} → statement M
 check-label-spec =
@@ -64,5 +60,4 @@ check-label-spec =
     returns-3
     (λ c. search needs)
     returns-4
-    check-costs-requires
     returns-5)

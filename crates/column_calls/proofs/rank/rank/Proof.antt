@@ -6,7 +6,7 @@ use Rattle.image.specs.Answers.{checked, refused}
 use Rattle.image.specs.Outcome.{sound, outcome, after}
 use Rattle.image.specs.Calls.{sizes}
 use Rattle.image.proofs.OutcomeLaws.{then-fault, then-next, outcome-fault, after-fault, refuses-fault}
-use Rattle.outcomes.specs.Calls.{path-rows, rank-rows, rank-fault, rank-of, rank-rows-of, rank-costs-of, rank-outcome, cleared}
+use Rattle.outcomes.specs.Calls.{path-row, rank-rows, rank-fault, rank-of, rank-rows-of, rank-costs-of, rank-outcome, cleared}
 use Rattle.loading.specs.Accepted.{Accepted}
 use Rattle.outcomes.proofs.DemandLaws.{kept-2}
 use Rattle.outcomes.proofs.RowLaws.{given-sizes}
@@ -22,7 +22,7 @@ returns c = let t = c .before in
     let k = t .before .before in
     let a = k .before .before .before .before .before .args in
     let e = refuses-fault (rank-rows (a .image .now) (a .column) (a .start) (a .goal) (a .wanted) (length (a .rows .now)) (length (a .costs .now)) (length (a .work .now))) (sizes (a .image .now)) (sym (ap checked (t .enum-told .given .1)) ∙ k .check-rank .ensures) in
-    let f = then-fault (path-rows (a .image .now) (a .column) (a .start) (a .goal)) e in
+    let f = then-fault (path-row (a .image .now) (a .column) (a .start) (a .goal)) e in
     (ap refused (c .refusal .ensures _ (t .enum-told .given .1)) ∙ sym (outcome-fault _ f), (sym (after-fault _ _ f), (sym (after-fault _ _ f), (sym (cleared-not _ f), kept-2 (a .image .now) (a .column) (a .start) (a .goal) (a .wanted) (length (a .rows .now)) (length (a .costs .now)) (length (a .work .now))))))
 
 -- where the rows give sizes, none of them applies and they are the image's
@@ -45,7 +45,7 @@ unfolding rank-outcome rank-fault
 returns-2 c = let w = c .before .before .before .before .before .before in
     let a = w .before .before .before .before .before in
     let s = start a .args in
-    let e = sym (then-next (path-rows (s .image .now) (s .column) (s .start) (s .goal)) (passes a .0)) in
+    let e = sym (then-next (path-row (s .image .now) (s .column) (s .start) (s .goal)) (passes a .0)) in
     let r = w .write-ranked .ensures in (
       r .0 ∙ ap (λ f. outcome f (length (rank-of (s .image .now) (s .column) (s .start) (s .goal) (s .wanted)) ∷ [])) e,
       (

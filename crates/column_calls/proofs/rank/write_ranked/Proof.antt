@@ -4,30 +4,19 @@ use native.Mathlib.Omega.{arith}
 use mathlib.Core.Path.{sym, _∙_, ap}
 use mathlib.Core.List.{[], _∷_}
 use Rattle.image.specs.Outcome.{gives, after}
-use Rattle.image.specs.Answers.{checked}
 use Rattle.image.proofs.OutcomeLaws.{outcome-fault, outcome-sound, after-fault}
 use Rattle.outcomes.specs.Calls.{rank-rows-of, rank-costs-of, cleared}
-use Rattle.outcomes.proofs.CostLaws.{bound-row-sound}
-use Rattle.loading.proofs.DecodeLaws.{few-nodes}
 use Rattle.column_calls.proofs.RankLaws.{none-listed, some-listed, few-listed, no-rows, no-costs, work-unused, work-emptied}
 use Rattle.outcomes.proofs.WorkLaws.{cleared-is, cleared-not}
-use Rattle.outcomes.proofs.RowLaws.{never, node-bounds}
 use borrow.Author.Needs.{needs}
 use Rattle.column_calls.proofs.rank.write_ranked.Statement.{statement}
 use Rattle.column_calls.proofs.rank.write_ranked.Tie as tie
 
-check-costs-requires : tie.Need-check-costs-requires
-check-costs-requires c κs = node-bounds (c .before .before .before .before .pre .0 .0)
+abbrev start : tie.After-list → tie.Start
+start c = c .before .before .before .before .before .before .before .before
 
 returns : tie.Need-returns
-returns c = let k = c .before .before .before in
-    never (sym (ap checked (c .before .enum-told2 .given .1)) ∙ k .check-costs .ensures ∙ outcome-sound _ (bound-row-sound (few-nodes (k .before .before .before .before .before .pre .0 .0))))
-
-abbrev start : tie.After-list → tie.Start
-start c = c .before .before .before .before .before .before .before .before .before .before .before
-
-returns-2 : tie.Need-returns-2
-returns-2 c = let l = c .before .before .before .before .before .before .before in
+returns c = let l = c .before .before .before .before .before .before .before in
     let s = start l .args in
     let p = start l .pre in
     let z = none-listed (s .image .now) (s .column) (s .start) (s .goal) (s .wanted) (p .0 .0 .passes) (p .0 .1) (p .0 .2) (p .1 .wanted-from) (sym (l .list .ensures .0) ∙ c .if1 .taken) in (
@@ -41,13 +30,13 @@ returns-2 c = let l = c .before .before .before .before .before .before .before 
       ),
     )
 
-cast-t21 : tie.Need-cast-t21
-cast-t21 c = let l = c .before .before .before .before .before .before .before in
+cast-t19 : tie.Need-cast-t19
+cast-t19 c = let l = c .before .before .before .before .before .before .before in
     let s = start l .args in
     omega (arith, l .list .ensures .0, few-listed (s .image .now) (s .column) (s .start) (s .goal) (s .wanted), start l .pre .1 .wanted-to)
 
-returns-3 : tie.Need-returns-3
-returns-3 c = let l = c .before .before .before .before .before .before .before in
+returns-2 : tie.Need-returns-2
+returns-2 c = let l = c .before .before .before .before .before .before .before in
     let s = start l .args in
     let p = start l .pre in
     let one : 1 ≤ l .list .result = omega (arith, c .if1 .left) in
@@ -66,18 +55,13 @@ pub write-ranked-spec : {M : Type 1} → statement M
 write-ranked-spec =
     tie.close
     (tie.spec
-    check-costs-requires
-    (λ c. search needs)
-    (λ c. search needs)
     (λ c κs. search needs)
+    (λ c. search needs)
+    (λ c. search needs)
+    (λ c. search needs)
     returns
-    (λ c κs. search needs)
+    cast-t19
     (λ c. search needs)
     (λ c. search needs)
     (λ c. search needs)
-    returns-2
-    cast-t21
-    (λ c. search needs)
-    (λ c. search needs)
-    (λ c. search needs)
-    returns-3)
+    returns-2)

@@ -5,7 +5,7 @@ use Rattle.image.specs.Answers.{checked, refused}
 use Rattle.image.specs.Outcome.{sound, outcome, after}
 use Rattle.image.specs.Calls.{sizes}
 use Rattle.image.proofs.OutcomeLaws.{then-fault, then-next, outcome-fault, after-fault, refuses-fault}
-use Rattle.outcomes.specs.Calls.{shortest-rows, path-rows, shortest-fault, shortest-of, shortest-values, shortest-outcome}
+use Rattle.outcomes.specs.Calls.{shortest-rows, path-row, shortest-fault, shortest-of, shortest-values, shortest-outcome}
 use Rattle.loading.specs.Accepted.{Accepted}
 use Rattle.outcomes.proofs.RowLaws.{given-sizes}
 use Rattle.outcomes.proofs.ShortestLaws.{ShortestSound, shortest-sound}
@@ -43,7 +43,7 @@ unfolding shortest-outcome shortest-fault
 returns-2 c = let w = c .before .before in
     let a = w .before .before .before in
     let s = start a .args in
-    let e = sym (then-next (path-rows (s .image .now) (s .column) (s .start) (s .goal)) (passes a .0)) in
+    let e = sym (then-next (path-row (s .image .now) (s .column) (s .start) (s .goal)) (passes a .0)) in
     (w .write-shortest .ensures .0 ∙ ap (λ f. outcome f (shortest-values (s .image .now) (s .column) (s .start) (s .goal))) e, w .write-shortest .ensures .1 ∙ ap (λ f. after f (shortest-of (s .image .now) (s .column) (s .start) (s .goal)) (s .path .now)) e)
 
 pub shortest-spec : {M : Type 1} → statement M

@@ -10,12 +10,9 @@ use Rattle.branching.specs.Branches.{everything, First}
 use Rattle.branching.proofs.FirstLaws.{found-tail, found-empty, extent-tail}
 use Rattle.image.specs.Layout.{netOf}
 use Rattle.image.specs.Outcome.{gives}
-use Rattle.image.specs.Answers.{checked}
 use Rattle.image.proofs.OutcomeLaws.{outcome-fault, outcome-sound, after-fault}
-use Rattle.outcomes.proofs.CostLaws.{bound-row-sound}
 use Rattle.loading.proofs.DecodeLaws.{few-nodes}
 use Rattle.outcomes.proofs.ShortestLaws.{path-none, path-some, path-cost, rest-is, values-are, written-is}
-use Rattle.outcomes.proofs.RowLaws.{never, node-bounds}
 use borrow.Author.Needs.{needs}
 use Rattle.column_calls.proofs.shortest.write_first.Statement.{statement}
 use Rattle.column_calls.proofs.shortest.write_first.Tie as tie
@@ -40,30 +37,23 @@ returns c = let f = c .before .before .before .before in
     let e = path-none (p .0 .0 .passes) (p .0 .1) (p .0 .2) (found-empty (f .find .ensures .1) (c .enum-told .given .1)) in
     (sym (outcome-fault _ e), sym (after-fault _ _ e))
 
-check-costs-requires : tie.Need-check-costs-requires
-check-costs-requires c κs = node-bounds (start (c .before .before .before .before .before) .pre .0 .0)
-
-returns-2 : tie.Need-returns-2
-returns-2 c = let k = c .before .before .before in
-    never (sym (ap checked (c .before .enum-told3 .given .1)) ∙ k .check-costs .ensures ∙ outcome-sound _ (bound-row-sound (few-nodes (start (k .before .before .before .before .before .before) .pre .0 .0))))
-
 write-path-requires : tie.Need-write-path-requires
-write-path-requires c κs = let k = c .before .before .before .before .before .before in
+write-path-requires c κs = let k = c .before .before .before in
     let p = start (k .before .before .before .before) .pre in
     (reach k .1, omega (arith, reach k .1, k .before .before .before .before .find .kept, p .1))
 
-cast-t21 : tie.Need-cast-t21
-cast-t21 c = let k = c .before .before .before .before .before .before .before .before .before in
+cast-t19 : tie.Need-cast-t19
+cast-t19 c = let k = c .before .before .before .before .before .before in
     let p = start (k .before .before .before .before) .pre in
     omega (arith, reach k .1, k .before .before .before .before .find .kept, p .1 .0, p .0 .0 .nodes-are, few-nodes (p .0 .0))
 
-cast-t22 : tie.Need-cast-t22
-cast-t22 c = let k = c .before .before .before .before .before .before .before .before .before in
+cast-t20 : tie.Need-cast-t20
+cast-t20 c = let k = c .before .before .before .before .before .before in
     let p = start (k .before .before .before .before) .pre in
     omega (arith, rest-is (p .0 .0 .passes) (p .0 .1) (p .0 .2) (first k .0) _ _ refl (reach k .1) (first k .1), path-cost (p .0 .0 .passes) (p .0 .1) (p .0 .2) (first k .0))
 
-returns-3 : tie.Need-returns-3
-returns-3 c = let k = c .before .before .before .before .before .before .before .before .before in
+returns-2 : tie.Need-returns-2
+returns-2 c = let k = c .before .before .before .before .before .before in
     let p = start (k .before .before .before .before) .pre in
     let f = first k in
     (ap gives (values-are (p .0 .0 .passes) (p .0 .1) (p .0 .2) (f .0) _ _ refl (reach k .1) (f .1)) ∙ sym (outcome-sound _ (path-some (p .0 .0 .passes) (p .0 .1) (p .0 .2) (f .0))), c .before .before .write-path .ensures ∙ written-is (p .0 .0 .passes) (p .0 .1) (p .0 .2) (f .0) _ _ refl (reach k .1) (f .1) _)
@@ -77,15 +67,9 @@ write-first-spec =
     (λ c. search needs)
     (λ c. search needs)
     returns
-    check-costs-requires
-    (λ c. search needs)
-    (λ c. search needs)
-    (λ c κs. search needs)
-    (λ c. search needs)
-    returns-2
     write-path-requires
-    cast-t21
-    cast-t22
+    cast-t19
+    cast-t20
     (λ c. search needs)
     (λ c. search needs)
-    returns-3)
+    returns-2)

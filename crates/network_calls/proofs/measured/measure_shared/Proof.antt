@@ -1,4 +1,4 @@
--- `measured::measure_shared`: each return is the first of rows 14 and 16 that applies, or the measure. Assumes nothing.
+-- `measured::measure_shared`: row 14 if it applies, or the measure. Assumes nothing.
 use Prim.Native.Nat.{ℕ, _+_, _≤_}
 use mathlib.Core.Path.{_≡_, sym, _∙_, ap, ap₂, subst}
 use mathlib.Core.List.{[], _∷_}
@@ -9,13 +9,11 @@ use Rattle.terms.specs.Regret.{open-fault}
 use Rattle.terms.proofs.CommonLaws.{no-fault-open}
 use Rattle.image.specs.Outcome.{gives}
 use Rattle.image.specs.Layout.{netOf}
-use Rattle.image.specs.Answers.{checked}
 use Rattle.image.proofs.OutcomeLaws.{outcome-fault, outcome-sound}
 use Rattle.star.specs.Layout.{Network}
 use Rattle.loading.specs.Accepted.{Node}
 use Rattle.loading.proofs.DecodeLaws.{admitted}
-use Rattle.outcomes.proofs.CostLaws.{bound-row-sound}
-use Rattle.outcomes.proofs.RowLaws.{never, node-bounds, no-path-at, list-passes}
+use Rattle.outcomes.proofs.RowLaws.{no-path-at, list-passes}
 use Rattle.network_calls.specs.NodeLists.{list-fault}
 use Rattle.network_calls.proofs.SharedLaws.{first-lies, first-network, first-fault}
 use borrow.Author.Needs.{needs}
@@ -47,32 +45,24 @@ returns : tie.Need-returns
 returns c = let l = c .before .before .before in
     let s = start l in
     let p = s .pre in
-    sym (outcome-fault _ (no-path-at (s .args .image .now) (s .args .start) (s .args .goal) (s .args .nodes .now) (p .0 .0 .passes) (sym (ap list-fault (c .before .list .given .1)) ∙ listed l)))
+    sym (outcome-fault _ (no-path-at (netOf (s .args .image .now)) (s .args .start) (s .args .goal) (s .args .nodes .now) (sym (ap list-fault (c .before .list .given .1)) ∙ listed l)))
 
-check-costs-requires : tie.Need-check-costs-requires
-check-costs-requires c κs = node-bounds (start (c .before .before) .pre .0 .0)
-
-returns-2 : tie.Need-returns-2
-returns-2 c = let t = c .before in
-    let k = t .before .before in
-    never (sym (ap checked (t .enum-told3 .given .1)) ∙ k .check-costs .ensures ∙ outcome-sound _ (bound-row-sound (node-bounds (start (k .before .before .before) .pre .0 .0) .1)))
-
-passed : (c : tie.After-measure-path-arg) → let a = start (c .before .before .before .before .before .before) .args in none ≡ open-fault (netOf (a .image .now)) (a .start) (a .goal) (a .nodes .now)
-passed c = let t = c .before .before .before .before in sym (ap list-fault (t .enum-told .given .1)) ∙ listed (t .before .before)
+passed : (c : tie.After-measure-path-arg) → let a = start (c .before .before .before) .args in none ≡ open-fault (netOf (a .image .now)) (a .start) (a .goal) (a .nodes .now)
+passed c = let t = c .before in sym (ap list-fault (t .enum-told .given .1)) ∙ listed (t .before .before)
 
 measure-path-requires : tie.Need-measure-path-requires
-measure-path-requires c κs = let l = c .before .before .before .before .before .before in
+measure-path-requires c κs = let l = c .before .before .before in
     let s = start l in
     let p = s .pre in
     ((p .0 .0, p .0 .1, p .0 .2), (p .1, no-fault-open (admitted (p .0 .0)) (s .args .start) (s .args .goal) (s .args .nodes .now) (sym (passed c))))
 
-returns-3 : tie.Need-returns-3
-returns-3 c = let d = c .before .before in
+returns-2 : tie.Need-returns-2
+returns-2 c = let d = c .before .before in
     let a = d .before in
-    let l = a .before .before .before .before .before .before in
+    let l = a .before .before .before in
     let s = start l in
     let e = d .measure-path .ensures in
-    ap₂ (λ (f w : ℕ). gives (f ∷ w ∷ [])) (e .0) (e .1) ∙ sym (outcome-sound _ (list-passes (s .args .image .now) (s .args .start) (s .args .goal) (s .args .nodes .now) (s .pre .0 .0 .passes) (passed a)))
+    ap₂ (λ (f w : ℕ). gives (f ∷ w ∷ [])) (e .0) (e .1) ∙ sym (outcome-sound _ (list-passes (netOf (s .args .image .now)) (s .args .start) (s .args .goal) (s .args .nodes .now) (passed a)))
 
 pub measure-shared-spec : {M : Type 1} → statement M
 measure-shared-spec =
@@ -84,11 +74,6 @@ measure-shared-spec =
     (λ c. search needs)
     returns
     (λ c. search needs)
-    check-costs-requires
-    (λ c. search needs)
-    (λ c. search needs)
-    (λ c κs. search needs)
-    returns-2
     measure-path-requires
     (λ c. search needs)
-    returns-3)
+    returns-2)
