@@ -11,7 +11,6 @@
 #include <stdio.h>
 #include <stdlib.h>
 #include <string.h>
-#include <time.h>
 
 // Each line is over so many networks of a shape.
 enum { NETWORKS = 8, TURNS = 41, WANTED = VIHROLOM_MOST_PATHS };
@@ -71,12 +70,6 @@ __attribute__((noinline)) void counted(const struct library *lib, const struct l
 
 static void make(const struct line *line, unsigned number) {
     make_network(&net, line->shape, number, line->k, line->likeness, line->top);
-}
-
-static double now(void) {
-    struct timespec t;
-    clock_gettime(CLOCK_THREAD_CPUTIME_ID, &t);
-    return 1e6 * (double)t.tv_sec + 1e-3 * (double)t.tv_nsec;
 }
 
 // Adds each library's median time on the network at hand.

@@ -1,18 +1,11 @@
 #include "calls.h"
 
 #include "rank.h"
+#include "timing.h"
 #include "yen.h"
-
-#include <time.h>
 
 struct ranked by_library, by_plain;
 struct chosen by_robust;
-
-static double now(void) {
-    struct timespec t;
-    clock_gettime(CLOCK_THREAD_CPUTIME_ID, &t);
-    return 1e6 * (double)t.tv_sec + 1e-3 * (double)t.tv_nsec;
-}
 
 static double time_ranking(rank_call *rank, struct ranked *a, const struct question *q) {
     const struct network *net = q->net;

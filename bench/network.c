@@ -152,3 +152,19 @@ void make_network(struct network *net, enum shape shape, unsigned number, unsign
     draw_costs(net, likeness, top);
     write_image(net);
 }
+
+void leave_out(struct network *left, const struct network *whole, const uint64_t *closed) {
+    left->shape = whole->shape;
+    left->n = whole->n;
+    left->k = whole->k;
+    left->m = 0;
+    for (unsigned i = 0; i < whole->m; i++)
+        if ((closed[i / 64] >> (i % 64) & 1) == 0) {
+            left->tail[left->m] = whole->tail[i];
+            left->head[left->m] = whole->head[i];
+            for (unsigned u = 0; u < whole->k; u++)
+                left->cost[u][left->m] = whole->cost[u][i];
+            left->m++;
+        }
+    write_image(left);
+}

@@ -32,6 +32,9 @@ struct network {
 // smaller has the first columns of the other.
 void make_network(struct network *net, enum shape shape, unsigned number, unsigned k, enum likeness likeness, uint32_t top);
 
+// The network without its closed arcs: arc i is closed if bit i % 64 of word i / 64 is set.
+void leave_out(struct network *left, const struct network *whole, const uint64_t *closed);
+
 // The generator: where it begins, and its next number below the given one.
 void seed(uint32_t number);
 uint32_t draw(uint32_t below);

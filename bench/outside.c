@@ -48,10 +48,19 @@ double time_networkx(const struct question *q) {
     return time_and_sum[0];
 }
 
-double instructions(const struct question *q, uint32_t top, const char *engine) {
-    double count;
+double collected(const struct question *q, const char *words, double *number) {
+    double read[2];
     char command[300];
-    snprintf(command, sizeof command, "valgrind --tool=callgrind --callgrind-out-file=/dev/null --toggle-collect=counted target/bench/count %s %u %u %s 2>&1 | sed -n 's/.*Collected : //p'", shape_names[q->net->shape], top, q->wanted, engine);
-    ask(q, command, &count, 1);
-    return count;
+    snprintf(command, sizeof command, "valgrind --tool=callgrind --callgrind-out-file=/dev/null --toggle-collect=counted target/bench/%s 2>&1 | sed -n 's/^counted //p; s/.*Collected : //p'", words);
+    ask(q, command, read, number == NULL ? 1 : 2);
+    if (number == NULL)
+        return read[0];
+    *number = read[0];
+    return read[1];
+}
+
+double instructions(const struct question *q, uint32_t top, const char *engine) {
+    char words[100];
+    snprintf(words, sizeof words, "count %s %u %u %s", shape_names[q->net->shape], top, q->wanted, engine);
+    return collected(q, words, NULL);
 }

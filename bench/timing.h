@@ -11,6 +11,9 @@ struct effort {
     double budget;
 };
 
+// The processor time of the calling thread.
+double now(void);
+
 enum { MOST_TURNS = 301, MOST_BY_TURNS = 2 };
 
 // The median of the times, which are put in order.

@@ -26,9 +26,23 @@
 extern "C" {
 #endif
 
+// ---- the version
+
+// The version that this header belongs to. A program that loads the library may compare VIHROLOM_VERSION_NUMBER
+// with vihrolom_version(), which is the library's own.
+#define VIHROLOM_VERSION_MAJOR 0
+#define VIHROLOM_VERSION_MINOR 7
+#define VIHROLOM_VERSION_PATCH 0
+#define VIHROLOM_VERSION "0.7.0"
+#define VIHROLOM_VERSION_NUMBER \
+    (VIHROLOM_VERSION_MAJOR * UINT32_C(1000000) + VIHROLOM_VERSION_MINOR * UINT32_C(1000) + VIHROLOM_VERSION_PATCH)
+
+// The library's version: major times 1,000,000, plus minor times 1,000, plus patch.
+uint32_t vihrolom_version(void);
+
 // ---- answers
 
-// What every call returns. Numbers that a call does not use are 0.
+// What every call returns, but for those on a week. Numbers that a call does not use are 0.
 struct vihrolom_reply {
     uint32_t refusal;                // 0 for a result, else a number of the refusal table
     uint32_t place;                  // the place of the refusal, 0 where its row names none
@@ -55,16 +69,40 @@ enum vihrolom_refusal {
     VIHROLOM_WRONG_PATH_COUNT = 12, // K outside 1..256
     VIHROLOM_SLICE_TOO_SHORT = 13,  // a lent slice is too short
     VIHROLOM_NOT_A_PATH = 14,       // the node list is no path; place: see vihrolom_regret
-    VIHROLOM_NO_PATH = 15,          // no path exists: in the column (Shortest, Rank), or open in every column (Robust)
+    VIHROLOM_NO_PATH = 15,          // no path exists: in the column (Shortest, Rank), or open in every column (Robust, Search)
     // 16 is not given
     VIHROLOM_WRONG_RECORD_ARC = 17, // a record's arc index is m or more; place: the record's index
-    VIHROLOM_WRONG_RECORD_COLUMN = 18 // a record's column is outside 1..k; place: the record's index
+    VIHROLOM_WRONG_RECORD_COLUMN = 18, // a record's column is outside 1..k; place: the record's index
+    VIHROLOM_TOO_MANY_ARCS = 19,       // Search's rule tries more arcs than the limit; place: the limit
+    VIHROLOM_WRONG_EVENT_ARC = 20      // an event's arc index is m or more; place: that index
 };
 
 // The state of Robust's answer.
 enum vihrolom_state {
     VIHROLOM_SETTLED = 1, // no path has a smaller figure
     VIHROLOM_OPEN = 2     // more than K paths would have to be counted to tell
+};
+
+// The state of a week in which roads close and reopen: which are closed, and Robust's answer without them. It
+// belongs to one image, column, start, goal and K, and is passed and returned by value; save it and load it as
+// its numbers. What an answer has not got is 0.
+struct vihrolom_week {
+    uint64_t closed[16]; // arc i is closed if bit i % 64 of word i / 64 is set; bits from m on close nothing
+    uint16_t route[200]; // the nodes of the route, then 0
+    uint32_t state;      // VIHROLOM_SETTLED, VIHROLOM_OPEN, or VIHROLOM_NO_PATH if no path is left
+    uint32_t length;     // the route's length in nodes
+    uint32_t figure;     // its figure
+    uint32_t worst;      // its worst column
+    uint32_t count;      // how many paths the last full run counted
+    uint32_t floor;      // if open: the least figure of all paths lies between the floor and the figure
+};
+
+// What the calls on a week return.
+struct vihrolom_week_reply {
+    uint32_t refusal;          // 0 for a result, else a number of the refusal table
+    uint32_t place;            // the place of the refusal, 0 where its row names none
+    uint32_t closed_roads;     // how many of the m arcs the map closes; 0 beside a refusal
+    struct vihrolom_week week; // the state after the call
 };
 
 // ---- limits and lengths
@@ -92,7 +130,7 @@ enum vihrolom_limit {
 // The places of Rank's rows for n nodes and K paths.
 #define VIHROLOM_ROWS_LENGTH(n, K) ((size_t)(K) * (size_t)(n))
 
-// The places of the workspace of Rank and Robust for n nodes and K paths.
+// The places of the workspace of Rank, Robust, Fresh and Event for n nodes and K paths.
 #define VIHROLOM_WORK_LENGTH(n, K) (((size_t)(K) + 1) * ((size_t)(n) + 16) + 16 * (size_t)(n) + 64)
 
 // ---- the image layer
@@ -138,21 +176,21 @@ struct vihrolom_reply vihrolom_update(uint8_t *image, size_t image_length, const
 // Label: for each node, the least cost to the goal in a column, or VIHROLOM_UNREACHED.
 //   labels: at least n places, of which n are written; place i is node i + 1
 //   no values
-// Refuses by rows 1 to 9, 10 (goal only), 11, 13 and 16.
+// Refuses by rows 1 to 9, 10 (goal only), 11 and 13.
 struct vihrolom_reply vihrolom_label(const uint8_t *image, size_t image_length, uint32_t column, uint32_t goal,
                                      uint32_t *labels, size_t labels_length);
 
 // Shortest: the first path of the ranking order in a column.
 //   path: at least n places, of which as many are written as the path has nodes
 //   v0: the path's length in nodes   v1: its cost
-// Refuses by rows 1 to 9, 10, 11, 13, 15 and 16.
+// Refuses by rows 1 to 9, 10, 11, 13 and 15.
 struct vihrolom_reply vihrolom_shortest(const uint8_t *image, size_t image_length, uint32_t column,
                                         uint32_t start, uint32_t goal, uint16_t *path, size_t path_length);
 
 // Regret: the figure of a path that is open in every column.
 //   nodes: the path, of any length
 //   v0: the figure   v1: the worst column
-// Refuses by rows 1 to 9, 10, 14 and 16. The place of 14 is 0 if the list is empty or doesn't begin with
+// Refuses by rows 1 to 9, 10 and 14. The place of 14 is 0 if the list is empty or doesn't begin with
 // start; else the first position, from 0, whose node repeats or has no arc from the node before that is open
 // in every column; else the length, if the last node isn't the goal.
 struct vihrolom_reply vihrolom_regret(const uint8_t *image, size_t image_length, uint32_t start, uint32_t goal,
@@ -163,7 +201,7 @@ struct vihrolom_reply vihrolom_regret(const uint8_t *image, size_t image_length,
 //   costs: at least K places; the path's cost in the column is written for each path
 //   work:  at least VIHROLOM_WORK_LENGTH(n, K) places, whatever they hold; after a result all of it is 0
 //   v0: the number of paths; later rows and costs keep their content
-// Refuses by rows 1 to 9, 10 to 13, 15 and 16.
+// Refuses by rows 1 to 9, 10 to 13 and 15.
 struct vihrolom_reply vihrolom_rank(const uint8_t *image, size_t image_length, uint32_t column, uint32_t start,
                                     uint32_t goal, uint32_t wanted, uint16_t *rows, size_t rows_length,
                                     uint32_t *costs, size_t costs_length, uint32_t *work, size_t work_length);
@@ -176,7 +214,7 @@ struct vihrolom_reply vihrolom_rank(const uint8_t *image, size_t image_length, u
 //   v0: the path's length in nodes   v1: its figure   v2: its worst column   v3: how many paths were counted
 //   v4: VIHROLOM_SETTLED or VIHROLOM_OPEN
 //   v5: 0 if settled; if open the floor: the least figure of all paths lies between the floor and v1
-// Refuses by rows 1 to 9, 10 to 13, 15 and 16.
+// Refuses by rows 1 to 9, 10 to 13 and 15.
 struct vihrolom_reply vihrolom_robust(const uint8_t *image, size_t image_length, uint32_t column,
                                       uint32_t start, uint32_t goal, uint32_t wanted, uint16_t *path,
                                       size_t path_length, uint32_t *work, size_t work_length);
@@ -187,6 +225,45 @@ struct vihrolom_reply vihrolom_robust(const uint8_t *image, size_t image_length,
 //   v2: how many arcs were looked at, at most 10
 // Refuses by rows 1 to 9.
 struct vihrolom_reply vihrolom_find(const uint8_t *image, size_t image_length, uint32_t tail, uint32_t head);
+
+// Search: the path of least figure, found depth first; of paths with equal figures the first by node list. The
+// partial route is lengthened by its unused heads, the smallest node first, and never past the goal. A head is
+// dropped if an arc is closed or the goal out of reach from it in some column; or if the largest, over the columns,
+// of cost so far, arc and label of the head, less the column's best, is no smaller than the least figure so far. An
+// arc is tried each time its unused head comes up, dropped or not.
+//   limit: how many arcs may be tried
+//   path:  at least n places, of which as many are written as the path has nodes; no workspace is needed
+//   v0: the path's length in nodes   v1: its figure, which a settled Robust shows too   v2: its worst column
+//   v3: how many arcs were tried
+// Refuses by rows 1 to 9, 10, 13, 15 and 19.
+struct vihrolom_reply vihrolom_search(const uint8_t *image, size_t image_length, uint32_t start, uint32_t goal,
+                                      uint32_t limit, uint16_t *path, size_t path_length);
+
+// ---- a week in which roads close and reopen
+
+// Fresh: the state of a week in which every road is open yet, with Robust's answer, no path included.
+//   work: as in vihrolom_rank
+//   the week is that state, and closed_roads is 0; beside a refusal all of it is 0
+// Refuses by rows 1 to 9 and 10 to 13.
+struct vihrolom_week_reply vihrolom_week_fresh(const uint8_t *image, size_t image_length, uint32_t column,
+                                               uint32_t start, uint32_t goal, uint32_t wanted, uint32_t *work,
+                                               size_t work_length);
+
+// Event: an arc is closed or opened, in every column. To close a closed arc or to open an open one changes
+// nothing. A settled answer stands if an arc is closed that its route does not take and without which the best of
+// each column is the same; otherwise Robust is run again, on the image without the closed arcs. With the same image,
+// column, start, goal and K all week, whatever the events from a fresh state on, the state, route, length, figure,
+// worst column and floor are those of Robust on the image without the closed arcs.
+//   week:  the state before it; one that was made otherwise is read as it is, its length as at most 200
+//   arc:   the arc's index, from 0
+//   close: 0 opens the arc, any other number closes it
+//   work:  as in vihrolom_rank
+//   the week is the state after it; beside a refusal it is the state that was given
+// Refuses by rows 1 to 9, 10 to 13 and 20.
+struct vihrolom_week_reply vihrolom_week_event(const uint8_t *image, size_t image_length, uint32_t column,
+                                               uint32_t start, uint32_t goal, uint32_t wanted,
+                                               struct vihrolom_week week, uint32_t arc, uint32_t close,
+                                               uint32_t *work, size_t work_length);
 
 #ifdef __cplusplus
 }

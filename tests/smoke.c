@@ -1,4 +1,4 @@
-// Calls the ten C functions on the cases of docs/REFERENCE.md and on an example of each refusal. Every
+// Calls the C functions on the cases of docs/REFERENCE.md and on an example of each refusal. Every
 // lent list stands at the beginning of a longer buffer that holds a pattern, and after each call the whole
 // buffer is held to what it has to be: what is written, what is kept, and what lies behind the list.
 // Prints the number of checks; stops at the first that fails, with exit status 1. C99, and C++ as well.
@@ -23,6 +23,8 @@ struct list {
 };
 
 typedef struct vihrolom_reply reply;
+typedef struct vihrolom_week week;
+typedef struct vihrolom_week_reply week_reply;
 
 static const char *running = "";
 static unsigned checks;
@@ -46,6 +48,22 @@ static void expect_reply(reply is, reply due) {
     expect("v3", is.v3, due.v3);
     expect("v4", is.v4, due.v4);
     expect("v5", is.v5, due.v5);
+}
+
+// Its numbers and its state, in which there is no place between the fields.
+static void expect_week(week_reply is, week_reply due) {
+    expect("refusal", is.refusal, due.refusal);
+    expect("place", is.place, due.place);
+    expect("closed roads", is.closed_roads, due.closed_roads);
+    expect("the size of a state", sizeof is.week, 8 * 16 + 2 * 200 + 4 * 6);
+    expect("state", is.week.state, due.week.state);
+    expect("length", is.week.length, due.week.length);
+    expect("figure", is.week.figure, due.week.figure);
+    expect("worst column", is.week.worst, due.week.worst);
+    expect("count", is.week.count, due.week.count);
+    expect("floor", is.week.floor, due.week.floor);
+    expect("a difference in the map", memcmp(is.week.closed, due.week.closed, sizeof due.week.closed) != 0, 0);
+    expect("a difference in the route", memcmp(is.week.route, due.week.route, sizeof due.week.route) != 0, 0);
 }
 
 static void expect_list(const char *what, const struct list *list) {
@@ -201,6 +219,15 @@ static void find_case(const char *name, uint32_t tail, uint32_t head, reply due)
     expect_list("the image", &image);
 }
 
+static void search_case(const char *name, uint32_t start, uint32_t goal, uint32_t limit, size_t room, reply due, const uint16_t *result) {
+    running = name;
+    struct list path = places(room);
+    written(&path, result, 2 * due.v0);
+    expect_reply(vihrolom_search(image.is.bytes, image.length, start, goal, limit, path.is.nodes, path.length), due);
+    expect_list("the image", &image);
+    expect_list("the path", &path);
+}
+
 // The image is written; `result` is null if it must stay as it is.
 static void update_case(const char *name, struct list target, struct list records, reply due, const uint32_t *result) {
     running = name;
@@ -212,10 +239,37 @@ static void update_case(const char *name, struct list target, struct list record
     expect_list("the records", &records);
 }
 
+static week fresh_case(const char *name, uint32_t column, uint32_t start, uint32_t goal, uint32_t wanted, size_t room, week_reply due) {
+    running = name;
+    struct list work = workspace(room, due.refusal);
+    week_reply is = vihrolom_week_fresh(image.is.bytes, image.length, column, start, goal, wanted, work.is.numbers, work.length);
+    expect_week(is, due);
+    expect_list("the image", &image);
+    expect_list("the workspace", &work);
+    return is.week;
+}
+
+// From 1 to 4. Gives the state after the event, which is the one before it if it is refused.
+static week event_case(const char *name, uint32_t column, uint32_t wanted, week before, uint32_t arc, uint32_t close, size_t room, week_reply due) {
+    running = name;
+    struct list work = workspace(room, due.refusal);
+    week_reply is = vihrolom_week_event(image.is.bytes, image.length, column, 1, 4, wanted, before, arc, close, work.is.numbers, work.length);
+    expect_week(is, due);
+    expect_list("the image", &image);
+    expect_list("the workspace", &work);
+    return is.week;
+}
+
 // ---- replies
 
 static reply gives(uint32_t v0, uint32_t v1, uint32_t v2) {
     reply due = {0, 0, v0, v1, v2, 0, 0, 0};
+    return due;
+}
+
+// Search's: length, figure, worst column and the arcs tried.
+static reply finds(uint32_t length, uint32_t figure, uint32_t worst, uint32_t tried) {
+    reply due = {0, 0, length, figure, worst, tried, 0, 0};
     return due;
 }
 
@@ -381,6 +435,21 @@ static void find_cases(void) {
     image = bytes(S_image, sizeof S_image);
 }
 
+static void search_cases(void) {
+    search_case("Search with limit 5", 1, 4, 5, N + 2, finds(3, 3, 1, 5), by_2);
+    search_case("Search with the largest limit", 1, 4, UINT32_MAX, N, finds(3, 3, 1, 5), by_2);
+    search_case("Search from 2", 2, 4, 3, N, finds(2, 3, 1, 3), by_2 + 1);
+    search_case("Search with limit 4", 1, 4, 4, N + 2, refused(VIHROLOM_TOO_MANY_ARCS, 4), NULL);
+    search_case("Search with limit 0", 1, 4, 0, N, refused(VIHROLOM_TOO_MANY_ARCS, 0), NULL);
+    search_case("Search from 1 to 1", 1, 1, 5, N, refused(VIHROLOM_WRONG_ENDS, 0), NULL);
+    search_case("Search to 5", 1, 5, 5, 0, refused(VIHROLOM_WRONG_ENDS, 0), NULL);
+    search_case("Search into 3 places", 1, 4, 0, N - 1, refused(VIHROLOM_SLICE_TOO_SHORT, 0), NULL);
+    search_case("Search from 4 to 1 with limit 0", 4, 1, 0, N, refused(VIHROLOM_NO_PATH, 0), NULL);
+    image = damaged(0, 7);
+    search_case("Search in edition 7", 0, 0, 0, 0, refused(VIHROLOM_WRONG_EDITION, 0), NULL);
+    image = bytes(S_image, sizeof S_image);
+}
+
 // The image that Build makes of a network with one column.
 static struct list built(uint32_t n, struct list arcs, struct list costs) {
     struct list made = places(VIHROLOM_IMAGE_LENGTH(costs.length, 1));
@@ -397,12 +466,14 @@ static void other_networks(void) {
     running = "Build with all costs 0";
     image = built(N, nodes(ring, 10), numbers(nothing, 5));
     rank_case("Rank with all costs 0, K = 5", 1, 1, 4, 5, VIHROLOM_WORK_LENGTH(N, 5), gives(2, 0, 0), ranked, nothing);
+    search_case("Search with all costs 0", 1, 4, 4, N, finds(4, 0, 1, 4), ranked);
 
     running = "Build with n = 2, m = 0, k = 1";
     image = built(2, nodes(ring, 0), numbers(nothing, 0));
     expect("the length", image.length, 24);
     find_case("Find with n = 2, m = 0, k = 1", 1, 2, gives(0, 0, 0));
     robust_case("Robust with n = 2, m = 0, k = 1", 1, 1, 2, 1, 2, VIHROLOM_WORK_LENGTH(2, 1), refused(VIHROLOM_NO_PATH, 0), NULL);
+    search_case("Search with n = 2, m = 0, k = 1", 1, 2, 0, 2, refused(VIHROLOM_NO_PATH, 0), NULL);
 
     uint16_t line[2 * 199], path[200];
     uint32_t dear[199];
@@ -416,6 +487,8 @@ static void other_networks(void) {
     running = "Build 200 nodes in a line";
     image = built(200, nodes(line, 2 * 199), numbers(dear, 199));
     shortest_case("Shortest on 200 nodes in a line", 1, 1, 200, 200, gives(200, 199000000, 0), path);
+    search_case("Search on 200 nodes in a line", 1, 200, 199, 200, finds(200, 0, 1, 199), path);
+    search_case("Search on 200 nodes in a line with limit 198", 1, 200, 198, 200, refused(VIHROLOM_TOO_MANY_ARCS, 198), NULL);
 }
 
 // S in edition 2, with the arc 3 4 closed in column 2. There 1 2 4 alone is left, and it alone is open in both columns;
@@ -448,6 +521,118 @@ static void closed_arc(void) {
     const reply settled = {0, 0, 3, 3, 1, 1, VIHROLOM_SETTLED, 0};
     robust_case("Robust column 1 with a closed arc", 1, 1, 4, 5, N, work, settled, by_2);
     robust_case("Robust column 1, from 3 to 4 with a closed arc", 1, 3, 4, 5, N, work, refused(VIHROLOM_NO_PATH, 0), NULL);
+    search_case("Search with a closed arc", 1, 4, 4, N, finds(3, 3, 1, 4), by_2);
+    search_case("Search from 3 to 4 with a closed arc", 3, 4, 4, N, refused(VIHROLOM_NO_PATH, 0), NULL);
+}
+
+// ---- weeks
+
+// A state: the first word of its map, a settled answer with a route of so many nodes, its figure, worst column and count.
+static week settled_week(uint64_t closed, const uint16_t *route, uint32_t length, uint32_t figure, uint32_t worst, uint32_t count) {
+    week due;
+    memset(&due, 0, sizeof due);
+    due.closed[0] = closed;
+    memcpy(due.route, route, 2 * length);
+    due.state = VIHROLOM_SETTLED;
+    due.length = length;
+    due.figure = figure;
+    due.worst = worst;
+    due.count = count;
+    return due;
+}
+
+// A state in which no path is left.
+static week no_path(uint64_t closed) {
+    week due = settled_week(closed, by_2, 0, 0, 0, 0);
+    due.state = VIHROLOM_NO_PATH;
+    return due;
+}
+
+static week_reply current(week state, uint32_t closed_roads) {
+    week_reply due;
+    due.refusal = due.place = 0;
+    due.closed_roads = closed_roads;
+    due.week = state;
+    return due;
+}
+
+static week_reply refused_week(uint32_t row, uint32_t place, week state) {
+    week_reply due = current(state, 0);
+    due.refusal = row;
+    due.place = place;
+    return due;
+}
+
+// Roads of S that close and reopen, ranked in column 2: first 1 2 4 with the figure 3 in column 1.
+static void week_events(void) {
+    const size_t work = VIHROLOM_WORK_LENGTH(N, 5);
+    const week first = settled_week(0, by_2, 3, 3, 1, 1), second = settled_week(2, by_2, 3, 3, 1, 1);
+    week is = fresh_case("Fresh", 2, 1, 4, 5, work + 1, current(first, 0));
+    event_case("open an open arc", 2, 5, is, 3, 0, work, current(first, 0));
+    event_case("close an arc that a best takes", 2, 5, is, 2, 1, work, current(settled_week(4, by_2, 3, 1, 1, 1), 1));
+    is = event_case("close an arc beside the answer", 2, 5, is, 1, 1, work, current(second, 1));
+    event_case("close a closed arc", 2, 5, is, 1, 7, work, current(second, 1));
+    event_case("close arc 5 of 5", 2, 5, is, 5, 1, work, refused_week(VIHROLOM_WRONG_EVENT_ARC, 5, second));
+    event_case("open the arc of the largest index", 2, 5, is, UINT32_MAX, 0, work, refused_week(VIHROLOM_WRONG_EVENT_ARC, UINT32_MAX, second));
+    event_case("an event with K = 257", 2, 257, is, 5, 1, work, refused_week(VIHROLOM_WRONG_PATH_COUNT, 0, second));
+    event_case("an event in a short workspace", 2, 5, is, 5, 1, work - 1, refused_week(VIHROLOM_SLICE_TOO_SHORT, 0, second));
+    is = event_case("close an arc of the route", 2, 5, is, 3, 2, work, current(settled_week(2 + 8, by_2_and_3, 4, 0, 1, 1), 2));
+    is = event_case("close the last arc", 2, 5, is, 4, UINT32_MAX, work, current(no_path(2 + 8 + 16), 3));
+    is = event_case("close another one then", 2, 5, is, 0, 1, work, current(no_path(1 + 2 + 8 + 16), 4));
+    is = event_case("open it again", 2, 5, is, 0, 0, work, current(no_path(2 + 8 + 16), 3));
+    is = event_case("open an arc", 2, 5, is, 3, 0, work, current(settled_week(2 + 16, by_2, 3, 0, 1, 1), 2));
+    is = event_case("open the next", 2, 5, is, 4, 0, work, current(second, 1));
+    event_case("open the last", 2, 5, is, 1, 0, work, current(first, 0));
+}
+
+// An answer that is open is always found anew.
+static void open_weeks(void) {
+    const size_t work = VIHROLOM_WORK_LENGTH(N, 1);
+    week due = settled_week(0, by_2_and_3, 4, 8, 2, 1);
+    due.state = VIHROLOM_OPEN;
+    due.floor = 2;
+    const week first = fresh_case("Fresh with K = 1", 1, 1, 4, 1, work, current(due, 0));
+    due.closed[0] = 8;
+    due.figure = 5;
+    event_case("close an arc beside an open answer", 1, 1, first, 3, 1, work, current(due, 1));
+}
+
+static void refused_weeks(void) {
+    const size_t work = VIHROLOM_WORK_LENGTH(N, 5);
+    week nothing = no_path(0);
+    fresh_case("Fresh with no path", 1, 4, 1, 5, work, current(nothing, 0));
+    nothing.state = 0;
+    fresh_case("Fresh from 1 to 1", 0, 1, 1, 0, work, refused_week(VIHROLOM_WRONG_ENDS, 0, nothing));
+    fresh_case("Fresh in column 3", 3, 1, 4, 0, work, refused_week(VIHROLOM_WRONG_COLUMN, 0, nothing));
+    fresh_case("Fresh with K = 0", 1, 1, 4, 0, work, refused_week(VIHROLOM_WRONG_PATH_COUNT, 0, nothing));
+    fresh_case("Fresh in a short workspace", 1, 4, 1, 5, work - 1, refused_week(VIHROLOM_SLICE_TOO_SHORT, 0, nothing));
+    image = damaged(0, 7);
+    fresh_case("Fresh in edition 7", 1, 1, 4, 5, work, refused_week(VIHROLOM_WRONG_EDITION, 0, nothing));
+    event_case("an event in edition 7", 1, 5, nothing, 5, 1, work, refused_week(VIHROLOM_WRONG_EDITION, 0, nothing));
+    image = bytes(S_image, sizeof S_image);
+}
+
+// States that no call has made: read as they are. Bits from m on close nothing, and stay; a length is capped only to be read.
+static void weeks_made_otherwise(void) {
+    const size_t work = VIHROLOM_WORK_LENGTH(N, 5);
+    const uint64_t beyond = ~(uint64_t)31;
+    week odd = settled_week(beyond, by_2, 3, 77, 9, 1000), due;
+    memset(odd.route, 255, sizeof odd.route);
+    memset(odd.closed + 1, 255, 8 * 15);
+    odd.length = 300;
+    odd.floor = 5;
+    due = odd;
+    due.closed[0] |= 2;
+    event_case("a state of length 300 that stands", 2, 5, odd, 1, 1, work, current(due, 1));
+    odd.route[198] = 1;
+    odd.route[199] = 3;
+    due = settled_week(beyond + 2, by_2, 3, 3, 1, 1);
+    memset(due.closed + 1, 255, 8 * 15);
+    event_case("a state whose last places are the arc", 2, 5, odd, 1, 1, work, current(due, 1));
+    odd.state = 9;
+    event_case("a state with the number 9", 2, 5, odd, 1, 1, work, current(due, 1));
+    event_case("such a state that nothing changes", 2, 5, odd, 1, 0, work, current(odd, 0));
+    event_case("such a state and a refusal", 2, 5, odd, 999, 0, work, refused_week(VIHROLOM_WRONG_EVENT_ARC, 999, odd));
 }
 
 int main(void) {
@@ -461,8 +646,13 @@ int main(void) {
     regret_cases();
     rank_cases();
     robust_cases();
+    week_events();
+    open_weeks();
+    refused_weeks();
+    weeks_made_otherwise();
     closed_arc();
     find_cases();
+    search_cases();
     other_networks();
     printf("smoke: %u checks\n", checks);
     return 0;

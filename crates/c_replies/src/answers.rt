@@ -13,6 +13,7 @@ use network_calls::Regretted;
 use packing::Built;
 use packing::Unpacked;
 use record_calls::Updated;
+use search_calls::Searched;
 ghost use mathlib.Core.Path.{_≡_};
 ghost use mathlib.Core.List.{[], _∷_};
 ghost use Rattle.image.specs.Answers.{refused, checked};
@@ -21,6 +22,7 @@ ghost use Rattle.column_calls.specs.Answers.{labelled, routed, listed};
 ghost use Rattle.network_calls.specs.Answers.{regretted, decided};
 ghost use Rattle.arc_calls.specs.Answers.{found};
 ghost use Rattle.record_calls.specs.Answers.{updated};
+ghost use Rattle.search_calls.specs.Answers.{searched};
 ghost use Rattle.c_replies.specs.Replies.{numbers, reply-of};
 
 // refusal is 0 for a result, and v0 to v5 are then its values; it is else the number of the refusal, and
@@ -182,5 +184,22 @@ pub fn of_updated(answer: Updated) -> Reply
     match answer {
         Updated::Written => result(0, 0, 0, 0, 0, 0),
         Updated::Refused(refusal) => of_refusal(refusal),
+    }
+}
+
+// Search's answer.
+pub fn of_searched(answer: Searched) -> Reply
+    ensures { λ r. ⌜ numbers r ≡ reply-of (searched answer) ⌝ }
+{
+    match answer {
+        Searched::Found(found) => result(
+            found.length,
+            found.figure,
+            found.worst,
+            found.tried,
+            0,
+            0,
+        ),
+        Searched::Refused(refusal) => of_refusal(refusal),
     }
 }

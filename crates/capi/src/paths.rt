@@ -1,4 +1,4 @@
-// The calls of the path layer: Label, Shortest, Regret, Rank, Robust and Find.
+// The calls of the path layer: Label, Shortest, Regret, Rank, Robust, Find and Search.
 use arc_calls::find::find;
 use c_replies::Reply;
 use c_replies::of_decided;
@@ -7,11 +7,13 @@ use c_replies::of_labelled;
 use c_replies::of_listed;
 use c_replies::of_regretted;
 use c_replies::of_routed;
+use c_replies::of_searched;
 use column_calls::label::label;
 use column_calls::rank::rank;
 use column_calls::shortest::shortest;
 use network_calls::regret::regret;
 use network_calls::robust::robust;
+use search_calls::search::search;
 ghost use mathlib.Core.Path.{_≡_};
 ghost use lib.ListN.{length};
 ghost use Rattle.image.specs.Outcome.{sound, after};
@@ -20,6 +22,8 @@ ghost use Rattle.image.specs.Calls.{image-fault};
 ghost use Rattle.outcomes.specs.Calls.{cleared, label-fault, label-outcome, labels-of, shortest-fault, shortest-outcome, shortest-of, regret-outcome, rank-fault, rank-outcome, rank-rows-of, rank-costs-of, robust-fault, robust-outcome, robust-of, chosen};
 ghost use Rattle.outcomes.specs.Demands.{Kept2, Kept3};
 ghost use Rattle.arc_calls.specs.Calls.{FindsArc, find-of, find-outcome};
+ghost use Rattle.search_calls.specs.Calls.{search-fault, search-outcome, search-path};
+ghost use Rattle.search_calls.specs.Demands.{KeptSearch};
 ghost use Rattle.c_replies.specs.Replies.{numbers, reply-of};
 
 // REFERENCE, section 4.2. No values.
@@ -109,4 +113,21 @@ pub extern "C" fn vihrolom_find(image: &[u8], tail: u32, head: u32) -> Reply
 {
     let answer = find(image, tail, head);
     of_found(answer)
+}
+
+// REFERENCE, section 4.11. v0: the path's length; v1: its figure; v2: its worst column; v3: the arcs tried.
+#[no_mangle]
+pub extern "C" fn vihrolom_search(
+    image: &[u8],
+    start: u32,
+    goal: u32,
+    limit: u32,
+    path: &mut [u16],
+) -> Reply
+    ensures { λ r. ⌜ numbers r ≡ reply-of (search-outcome (now (image .entry)) start goal limit (length (now (path .entry)))) ⌝ }
+    ensures { λ _. ⌜ now (path .exit) ≡ after (search-fault (now (image .entry)) start goal limit (length (now (path .entry)))) (search-path (now (image .entry)) start goal) (now (path .entry)) ⌝ }
+    ensures { λ _. ⌜ KeptSearch (now (image .entry)) start goal limit (length (now (path .entry))) ⌝ }
+{
+    let answer = search(image, start, goal, limit, path);
+    of_searched(answer)
 }

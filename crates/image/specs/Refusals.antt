@@ -1,7 +1,7 @@
 -- docs/REFERENCE.md, section 6: the number and the place of each refusal. Assumes nothing.
 use Prim.Native.Nat.{ℕ}
 use Rattle.image.specs.declared.refusal.Refusal.{Refusal}
-use Rattle.image.specs.declared.refusal.Refusal.the-variants.{ImageTooShort, WrongEdition, SizeOutOfRange, WrongField, WrongLength, ArcOutOfRange, ArcToItself, ArcNotRising, CostTooLarge, WrongEnds, WrongColumn, WrongPathCount, SliceTooShort, NotAPath, NoPath, WrongRecordArc, WrongRecordColumn}
+use Rattle.image.specs.declared.refusal.Refusal.the-variants.{ImageTooShort, WrongEdition, SizeOutOfRange, WrongField, WrongLength, ArcOutOfRange, ArcToItself, ArcNotRising, CostTooLarge, WrongEnds, WrongColumn, WrongPathCount, SliceTooShort, NotAPath, NoPath, WrongRecordArc, WrongRecordColumn, TooManyArcs, WrongEventArc}
 use Rattle.image.specs.declared.refusal.Verdict.{Verdict}
 use Rattle.image.specs.declared.refusal.Verdict.the-variants.{Sound, Refused}
 use Rattle.image.specs.Outcome.{Fault, sound, fault}
@@ -25,6 +25,8 @@ numberOf (NotAPath position) = 14
 numberOf NoPath = 15
 numberOf (WrongRecordArc index) = 17
 numberOf (WrongRecordColumn index) = 18
+numberOf (TooManyArcs limit) = 19
+numberOf (WrongEventArc arc) = 20
 
 -- its place, which is 0 unless the row names one
 abbrev pub placeOf : Refusal → ℕ
@@ -45,6 +47,8 @@ placeOf (NotAPath position) = position
 placeOf NoPath = 0
 placeOf (WrongRecordArc index) = index
 placeOf (WrongRecordColumn index) = index
+placeOf (TooManyArcs limit) = limit
+placeOf (WrongEventArc arc) = arc
 
 -- what some rows come to
 abbrev pub verdict : Verdict → Fault

@@ -22,6 +22,8 @@ pub enum Refusal {
     NoPath,
     WrongRecordArc(u32),
     WrongRecordColumn(u32),
+    TooManyArcs(u32),
+    WrongEventArc(u32),
 }
 
 // What some rows of the table come to: none applies, or the first that does.
@@ -52,6 +54,8 @@ pub fn number(refusal: Refusal) -> u32
         Refusal::NoPath => 15,
         Refusal::WrongRecordArc(_) => 17,
         Refusal::WrongRecordColumn(_) => 18,
+        Refusal::TooManyArcs(_) => 19,
+        Refusal::WrongEventArc(_) => 20,
     }
 }
 
@@ -67,6 +71,8 @@ pub fn place(refusal: Refusal) -> u32
         Refusal::NotAPath(position) => position,
         Refusal::WrongRecordArc(index) => index,
         Refusal::WrongRecordColumn(index) => index,
+        Refusal::TooManyArcs(limit) => limit,
+        Refusal::WrongEventArc(arc) => arc,
         Refusal::ImageTooShort => 0,
         Refusal::WrongEdition => 0,
         Refusal::SizeOutOfRange => 0,

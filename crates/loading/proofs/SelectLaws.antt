@@ -16,6 +16,8 @@ use Rattle.terms.specs.Network.{Net, mark, cost-column, restrict, open-in, open
 use Rattle.terms.proofs.ListLaws.{split, clash, and-both, keep-mem, keep-all, keep-append, keep-keep, keep-length, keep-full, pick-all, map-same, getD-mem, length-numbers, numbers-mem, pick-places}
 use Rattle.terms.proofs.NetworkLaws.{costs-mem, costs-long, restrict-all}
 use Rattle.terms.proofs.CommonLaws.{not-marked, open-by, everywhere-unmarked, unmarked}
+use Rattle.closures.specs.Map.{left}
+use Rattle.closures.proofs.MapLaws.{short-open}
 use Rattle.loading.proofs.RowLaws.{getD-map-in}
 use Rattle.loading.specs.Selected.{passing, Indices, at-places, selected}
 
@@ -78,13 +80,13 @@ open-upto net zero i = true
 open-upto net (suc u) i = open-upto net u i && open-in net (suc u) i
 
 -- in none of no columns is an arc closed
-pub none-closed : (net : Net) (m : ℕ) → numbers 0 m ≡ passing (open-upto net 0) m
+pub none-closed : (net : Net) (l : List ℕ) → l ≡ keep (open-upto net 0) l
 unfolding open-upto
-none-closed net m = sym (keep-all (λ _. true) (numbers 0 m) (λ x h. refl))
+none-closed net l = sym (keep-all (λ _. true) l (λ x h. refl))
 
-pub one-column-more : (net : Net) (u m : ℕ) → keep (open-in net (u + 1)) (passing (open-upto net u) m) ≡ passing (open-upto net (u + 1)) m
+pub one-column-more : (net : Net) (u : ℕ) (l : List ℕ) → keep (open-in net (u + 1)) (keep (open-upto net u) l) ≡ keep (open-upto net (u + 1)) l
 unfolding open-upto
-one-column-more net u m = rw (add-one u) (keep-keep (open-upto net u) (open-in net (suc u)) (numbers 0 m))
+one-column-more net u l = rw (add-one u) (keep-keep (open-upto net u) (open-in net (suc u)) l)
 
 upto-each : (net : Net) (u i : ℕ) → open-upto net u i ≡ true → (v : ℕ) → 1 ≤ v → v ≤ u → open-in net v i ≡ true
 unfolding open-upto
@@ -110,20 +112,29 @@ module _ {e : ℕ} {net : Net} (ok : Admitted e net) where
       closed : open-upto net (length (net .columns)) i ≡ false → open-upto net (length (net .columns)) i ≡ open-everywhere net i
       closed n = ⊎-elim (λ t. clash (each-upto net (length (net .columns)) i (λ u lo hi. rw (ne-eqb _ mark (not-marked ok u i t lo hi)))) n) (λ t. n ∙ sym t) (split (open-everywhere net i))
 
-  pub open-in-all : {k : ℕ} (m : ℕ) → k ≡ length (net .columns) → passing (open-upto net k) m ≡ passing (open-everywhere net) m
-  open-in-all m count = ap (λ u. passing (open-upto net u) m) count ∙ ap (λ f. passing f m) (fun-ext all-columns)
+  pub open-in-all : {k : ℕ} (l : List ℕ) → k ≡ length (net .columns) → keep (open-upto net k) l ≡ keep (open-everywhere net) l
+  open-in-all l count = ap (λ u. keep (open-upto net u) l) count ∙ ap (λ f. keep f l) (fun-ext all-columns)
 
 -- in edition 1 all are
-module _ {net : Net} (ok : Admitted 1 net) {m : ℕ} (count : m ≡ length (net .arcs)) where
-  pub first-edition-open : (u : ℕ) → 1 ≤ u → u ≤ length (net .columns) → numbers 0 m ≡ passing (open-in net u) m
+module _ {net : Net} (ok : Admitted 1 net) where
+  pub first-edition-open : (u : ℕ) → 1 ≤ u → u ≤ length (net .columns) → (f : ℕ → Bool) {m : ℕ} → m ≡ length (net .arcs) → passing f m ≡ keep (open-in net u) (passing f m)
   unfolding open-in
-  first-edition-open u lo hi = sym (keep-all (open-in net u) (numbers 0 m) (λ i h. rw (ne-eqb _ mark (costs-in i (numbers-mem 0 m h .1)))))
+  first-edition-open u lo hi f {m} count = sym (keep-all (open-in net u) (passing f m) (λ i h. rw (ne-eqb _ mark (costs-in i (numbers-mem 0 m (keep-mem f (numbers 0 m) h .0) .1)))))
     where
       costs-in : (i : ℕ) → i < 0 + m → getD (cost-column net u) i 0 ≢ mark
       costs-in i h = unmarked ok (cost-column net u) (costs-mem ok u lo hi) _ (getD-mem (cost-column net u) 0 i (omega (arith, costs-long ok u lo hi)))
 
-  pub first-edition-common : numbers 0 m ≡ passing (open-everywhere net) m
-  first-edition-common = sym (keep-all (open-everywhere net) (numbers 0 m) (λ i h. everywhere-unmarked net (unmarked ok) i))
+  pub first-edition-common : (l : List ℕ) → l ≡ keep (open-everywhere net) l
+  first-edition-common l = sym (keep-all (open-everywhere net) l (λ i h. everywhere-unmarked net (unmarked ok) i))
+
+-- ---- those that the map leaves, and of these those that pass another test
+pub indices-of : (f g : ℕ → Bool) (m : ℕ) {ks : List ℕ} → ks ≡ keep g (passing f m) → Indices m ks
+indices-of f g m e = record { test = λ i. f i && g i; are = e ∙ keep-keep f g (numbers 0 m) }
+
+-- an empty map leaves all
+pub left-all : (words : List ℕ) → length words ≡ 0 → (m : ℕ) → numbers 0 m ≡ passing (left words) m
+unfolding left
+left-all words e m = sym (keep-all (left words) (numbers 0 m) (λ i h. ap not (short-open words i (omega arith))))
 
 -- ---- numbers in their places
 numbers-at : (i m j : ℕ) → j < m → i + j ≡ getD (numbers i m) j 0

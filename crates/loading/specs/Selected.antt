@@ -1,12 +1,12 @@
 -- Some of a network's arcs, by their indices. Assumes nothing.
 use Prim.Native.Nat.{ℕ}
 use mathlib.Core.Path.{_≡_}
-use mathlib.Core.Bool.{Bool, not}
+use mathlib.Core.Bool.{Bool, true, not}
 use mathlib.Core.List.{List, [], _∷_, _++_, map}
 use lib.Dec.{eqb}
 use lib.ListN.{getD}
 use Rattle.terms.specs.Lists.{keep, numbers}
-use Rattle.terms.specs.Network.{Net, mark}
+use Rattle.terms.specs.Network.{Net, mark, open-in}
 
 -- the indices of those of m arcs that pass a test, in their order
 abbrev pub passing : (ℕ → Bool) → ℕ → List ℕ
@@ -16,6 +16,12 @@ passing f m = keep f (numbers 0 m)
 pub record Indices (m : ℕ) (ks : List ℕ) : Type 0 where
   pub test : ℕ → Bool
   pub are : ks ≡ passing test m
+
+-- and each of these arcs is open in column u
+pub record OpenIndices (net : Net) (u m : ℕ) (ks : List ℕ) : Type 0 where
+  pub test : ℕ → Bool
+  pub are : ks ≡ passing test m
+  pub opened : (i : ℕ) → test i ≡ true → open-in net u i ≡ true
 
 -- what a list of costs has at these indices
 abbrev pub at-places : List ℕ → List ℕ → List ℕ

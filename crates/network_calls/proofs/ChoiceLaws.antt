@@ -21,7 +21,9 @@ use Rattle.choosing.specs.Answers.{chosen-length, answered}
 use Rattle.choosing.specs.declared.answering.Answer.{Answer}
 use Rattle.choosing.specs.declared.answering.Answer.the-variants.{Settled, Open}
 use Rattle.choosing.specs.declared.answering.Choice.{Choice}
-use Rattle.outcomes.specs.Calls.{no-path-row, choice-row, robust-rows, robust-fault, robust-of, chosen, robust-values}
+use Rattle.outcomes.specs.Calls.{no-path-row, choice-row, robust-rows, robust-fault, robust-of, chosen, robust-values, cleared}
+use Rattle.closures.specs.Map.{without}
+use Rattle.closures.proofs.WithoutLaws.{without-none}
 use Rattle.outcomes.specs.Demands.{Kept3}
 use Rattle.outcomes.proofs.RowLaws.{SearchSound, RankingSound, ranking-sound, roomy}
 use Rattle.outcomes.proofs.WorkLaws.{slots-fit}
@@ -32,7 +34,7 @@ use Rattle.loading.proofs.DecodeLaws.{few-columns}
 use Rattle.loading.proofs.RoomLaws.{star-fits, all-fit}
 use Rattle.image.specs.declared.check.Sizes.{Sizes}
 use Rattle.terms.proofs.RoomLaws.{part-long}
-use Rattle.network_calls.specs.Held.{ChoiceRoom, ChoiceSlices}
+use Rattle.network_calls.specs.Held.{no-open-path, ChoiceRoom, ChoiceSlices}
 
 -- ---- room in local arrays
 pub choice-room : {b : List ℕ} {z : Sizes} → Accepted b z → ChoiceRoom (z .n) (z .m) (z .k) (take (star-size (z .n) (z .m)) (replicate 3403 0)) (take (z .m * z .k) (replicate 8000 0)) (take (z .k) (replicate 8 0))
@@ -75,17 +77,25 @@ module _ (A : Answer) where
         w ∙ ap₂ (λ (p : Route) (k : ℕ). p ++ drop k old) p-is (sym chosen-long ∙ ap length p-is) ∙ sym (after-sound _ old refl)
 
 -- what is found where there is a path
-module _ (b : List ℕ) (r s t K : ℕ) {f : Fault} (e : f ≡ sound) where
-  pub values-in : {o : Outcome} → o ≡ gives (robust-values (robust-of b r s t K)) → o ≡ outcome f (robust-values (robust-of b r s t K))
+module _ (a : terms.Answer) {f : Fault} (e : f ≡ sound) where
+  pub values-in : {o : Outcome} → o ≡ gives (robust-values a) → o ≡ outcome f (robust-values a)
   values-in h = h ∙ sym (outcome-sound _ e)
 
-  pub path-in : (old : List ℕ) {new : List ℕ} → new ≡ after sound (chosen (robust-of b r s t K)) old → new ≡ after f (chosen (robust-of b r s t K)) old
-  path-in old h = h ∙ ap (λ f. after f (chosen (robust-of b r s t K)) old) (sym e)
+  pub path-in : (old : List ℕ) {new : List ℕ} → new ≡ after sound (chosen a) old → new ≡ after f (chosen a) old
+  path-in old h = h ∙ ap (λ f. after f (chosen a) old) (sym e)
 
--- an answer that is Robust's on the image
-pub answer-of : (b : List ℕ) (r s t K : ℕ) {ans : terms.Answer} → ans ≡ robust (netOf b) r s t K → ans ≡ robust-of b r s t K
-unfolding robust-of
-answer-of b r s t K e = e
+-- with an empty map what comes of the network without its closed arcs is Robust's on the image
+module _ (b : List ℕ) (r s t K : ℕ) where
+  pub whole-values : {o : Outcome} → o ≡ outcome (no-open-path (without [] (netOf b)) r s t) (robust-values (robust (without [] (netOf b)) r s t K)) → o ≡ outcome (no-open-path (netOf b) r s t) (robust-values (robust-of b r s t K))
+  unfolding robust-of
+  whole-values e = e ∙ ap (λ net. outcome (no-open-path net r s t) (robust-values (robust net r s t K))) (without-none (netOf b))
+
+  pub whole-path : (old : List ℕ) {new : List ℕ} → new ≡ after (no-open-path (without [] (netOf b)) r s t) (chosen (robust (without [] (netOf b)) r s t K)) old → new ≡ after (no-open-path (netOf b) r s t) (chosen (robust-of b r s t K)) old
+  unfolding robust-of
+  whole-path old e = e ∙ ap (λ net. after (no-open-path net r s t) (chosen (robust net r s t K)) old) (without-none (netOf b))
+
+  pub whole-work : (old : List ℕ) {new : List ℕ} → new ≡ cleared (no-open-path (without [] (netOf b)) r s t) old → new ≡ cleared (no-open-path (netOf b) r s t) old
+  whole-work old e = e ∙ ap (λ net. cleared (no-open-path net r s t) old) (without-none (netOf b))
 
 pub state-settled : (A : Answer) (c : Choice) (count : ℕ) → A ≡ Settled c count → (p : Route) → length p ≡ chosen-length A → gives (c .length ∷ c .figure ∷ c .worst ∷ count ∷ 1 ∷ 0 ∷ []) ≡ gives (robust-values (answered p A))
 unfolding robust-values

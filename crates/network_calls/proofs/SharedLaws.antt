@@ -1,5 +1,5 @@
--- The arcs of an accepted image that are open in every column, with all columns, in slices: the network that they hold, the paths in it, and
--- each column's best. Assumes nothing.
+-- The arcs of a network that are open in every column, with all columns, in slices: the network that they hold, the paths in it, and each
+-- column's best. The network is an image's without the closed arcs of a map. Assumes nothing.
 use Prim.Native.Nat.{ℕ, _+_, _*_, _-_, _≤_, _<_}
 use native.Mathlib.Omega.{arith}
 use native.Mathlib.Nat.{eq-or-lt-of-le}
@@ -20,11 +20,13 @@ use Rattle.terms.proofs.ColumnLaws.{cut-at}
 use Rattle.terms.proofs.ListLaws.{le-or-lt, getD-mem, mem-length, mem-place}
 use Rattle.terms.proofs.PathLaws.{Within, column-within, path-listed}
 use Rattle.terms.proofs.RankingLaws.{path-ranked}
-use Rattle.terms.proofs.RegretLaws.{best-le, label-reached}
+use Rattle.terms.proofs.RegretLaws.{best-le}
 use Rattle.terms.proofs.CommonLaws.{common-admitted, common-columns, common-nodes, common-path, path-common, common-cost, common-cost-to}
 use Rattle.terms.proofs.OverLaws.{bests-at, over-figure, over-worst, robust-common}
 use Rattle.image.specs.Outcome.{sound, fault}
 use Rattle.image.specs.Layout.{edition, netOf}
+use Rattle.closures.specs.Map.{without, closed-roads}
+use Rattle.closures.proofs.WithoutLaws.{without-columns, without-nodes, without-admitted, left-count}
 use Rattle.image.specs.declared.check.Sizes.{Sizes}
 use Rattle.star.specs.Layout.{tails-of, heads-of, graph-of, Network}
 use Rattle.labels.specs.Labels.{far, Least}
@@ -33,6 +35,7 @@ use Rattle.loading.specs.Loaded.{Loaded, Shared}
 use Rattle.loading.proofs.RowLaws.{row-length, row-cut, row-mem}
 use Rattle.loading.proofs.SelectLaws.{common-all}
 use Rattle.loading.proofs.DecodeLaws.{admitted}
+use Rattle.loading.proofs.LoadLaws.{loaded-least}
 use Rattle.loading.proofs.ShapeLaws.{shape-network, shape-graph}
 use Rattle.ranking.specs.Ranking.{Problem}
 use Rattle.ranking.proofs.ResultLaws.{problem-of}
@@ -40,10 +43,12 @@ use Rattle.measuring.specs.Bests.{Joined, Labelled}
 use Rattle.measuring.specs.Steps.{Measured}
 use Rattle.measuring.specs.Columns.{arc-pairs, network, column-costs, Columns}
 use Rattle.measuring.proofs.ColumnLaws.{column-part, column-inside, column-full}
-use Rattle.measuring.proofs.BestLaws.{start-best, filled-all}
+use Rattle.measuring.proofs.BestLaws.{filled-all}
 use Rattle.choosing.specs.Counting as counting
 use Rattle.choosing.proofs.PricedLaws.{figure-to}
 use Rattle.outcomes.specs.Calls.{no-path-row}
+use Rattle.outcomes.specs.Labels.{narrowed, Narrow}
+use Rattle.outcomes.proofs.LabelLaws.{label-narrowed, narrow-at}
 use Rattle.outcomes.proofs.ShortestLaws.{row-none, row-some}
 use Rattle.network_calls.specs.Held.{Reached, Held}
 
@@ -55,24 +60,42 @@ unfolding arc-pairs
 pairs-of [] = refl
 pairs-of (a ∷ l) = ap (λ x. a ∷ x) (pairs-of l)
 
-module _ {b : List ℕ} {sizes : Sizes} (a : Accepted b sizes) {m : ℕ} {star costs : List ℕ} (S : Shared (netOf b) m star costs) where
-  abbrev net : Net
-  net = netOf b
+-- ---- an image's network without the closed arcs of a map
+module _ {b : List ℕ} {sizes : Sizes} (a : Accepted b sizes) (words : List ℕ) where
+  pub rest-admitted : Admitted (edition b) (without words (netOf b))
+  rest-admitted = without-admitted (admitted a) words
 
+  pub rest-columns : sizes .k ≡ length (without words (netOf b) .columns)
+  rest-columns = a .columns-are ∙ sym (without-columns words (netOf b))
+
+  pub rest-nodes : netOf b .nodes ≡ without words (netOf b) .nodes
+  rest-nodes = sym (without-nodes words (netOf b))
+
+  pub rest-ends : {s t : ℕ} → Ends (netOf b .nodes) s t → Ends (without words (netOf b) .nodes) s t
+  rest-ends {s} {t} h = subst (λ n. Ends n s t) rest-nodes h
+
+  pub image-ends : {s t : ℕ} → Ends (without words (netOf b) .nodes) s t → Ends (netOf b .nodes) s t
+  image-ends {s} {t} h = subst (λ n. Ends n s t) (sym rest-nodes) h
+
+  -- how many arcs are left
+  pub rest-arcs : {gone : ℕ} → gone ≡ closed-roads words (sizes .m) → length (without words (netOf b) .arcs) ≡ sizes .m - gone
+  rest-arcs e = omega (arith, e, left-count words (netOf b) (a .arcs-are))
+
+module _ {e : ℕ} {net : Net} (ok₀ : Admitted e net) {cols : ℕ} (cols-are : cols ≡ length (net .columns)) {m : ℕ} {star costs : List ℕ} (S : Shared net m star costs) where
   abbrev N : ℕ
-  N = netOf b .nodes
+  N = net .nodes
 
-  ok : Admitted (edition b) (common net)
-  ok = common-admitted (admitted a)
+  ok : Admitted e (common net)
+  ok = common-admitted ok₀
 
   -- ---- the network that the slices hold
-  count : sizes .k ≡ length (common net .columns)
-  count = a .columns-are ∙ sym (common-columns net)
+  count : cols ≡ length (common net .columns)
+  count = cols-are ∙ sym (common-columns net)
 
   full : (c : List ℕ) → c ∈ common net .columns → length c ≡ m
   full c h = ok .full c h ∙ sym (S .arcs-are)
 
-  columns-same : cut (sizes .k) m costs ≡ common net .columns
+  columns-same : cut (cols) m costs ≡ common net .columns
   columns-same = ap₂ (λ k l. cut k m l) count (S .costs-are) ∙ row-cut m (common net .columns) full
 
   arcs-same : arc-pairs (tails-of m star) (heads-of m star) ≡ common net .arcs
@@ -80,26 +103,26 @@ module _ {b : List ℕ} {sizes : Sizes} (a : Accepted b sizes) {m : ℕ} {star c
       ap (λ (x : ℕ). arc-pairs (tails-of x star) (heads-of x star)) (S .arcs-are)
       ∙ ap₂ arc-pairs (S .shape .tails-are) (S .shape .heads-are) ∙ pairs-of (common net .arcs)
 
-  pub held-network : network N m (sizes .k) star costs ≡ common net
+  pub held-network : network N m (cols) star costs ≡ common net
   unfolding network common restrict
   held-network = net-of (common net) arcs-same columns-same
 
-  costs-long : length costs ≡ sizes .k * m
+  costs-long : length costs ≡ cols * m
   costs-long = ap length (S .costs-are) ∙ row-length m (common net .columns) full ∙ ap (λ (x : ℕ). x * m) (sym count)
 
-  module _ {u : ℕ} (from : 1 ≤ u) (upto : u ≤ sizes .k) where
+  module _ {u : ℕ} (from : 1 ≤ u) (upto : u ≤ cols) where
     upto-common : u ≤ length (common net .columns)
     upto-common = omega (arith, count)
 
     upto-net : u ≤ length (net .columns)
-    upto-net = omega (arith, a .columns-are)
+    upto-net = omega (arith, cols-are)
 
     own-costs : column-costs m costs u ≡ cost-column (common net) u
     unfolding cost-column
-    own-costs = sym (cut-at (sizes .k) m costs (u - 1) (omega arith)) ∙ ap (λ l. getD l (u - 1) []) columns-same
+    own-costs = sym (cut-at (cols) m costs (u - 1) (omega arith)) ∙ ap (λ l. getD l (u - 1) []) columns-same
 
     light : (w : ℕ) → w ∈ cost-column (common net) u → w ≤ 1000000
-    light w h = common-cost-to (admitted a) u from upto-net w h
+    light w h = common-cost-to ok₀ u from upto-net w h
 
     pub shared-network : Network (N + 1) star (column-costs m costs u)
     shared-network = subst (λ k. Network (k + 1) star (column-costs m costs u)) (common-nodes net) (subst (Network (common net .nodes + 1) star) (sym own-costs) (shape-network ok from upto-common light (S .shape)))
@@ -110,10 +133,10 @@ module _ {b : List ℕ} {sizes : Sizes} (a : Accepted b sizes) {m : ℕ} {star c
     within : Within N (column (common net) u)
     within = subst (λ n. Within n (column (common net) u)) (common-nodes net) (column-within ok u)
 
-  columns-from : 1 ≤ sizes .k
-  columns-from = omega (arith, a .columns-are, admitted a .columns-from)
+  columns-from : 1 ≤ cols
+  columns-from = omega (arith, cols-are, ok₀ .columns-from)
 
-  light-at : (j : ℕ) → j < sizes .k → {w : ℕ} → w ∈ getD (common net .columns) j [] → w ≤ 1000000
+  light-at : (j : ℕ) → j < cols → {w : ℕ} → w ∈ getD (common net .columns) j [] → w ≤ 1000000
   unfolding cost-column
   light-at j h {w} k = let at : j + 1 - 1 ≡ j = omega arith in light {u = j + 1} (omega arith) (omega arith) w (subst (λ (x : ℕ). w ∈ getD (common net .columns) x []) (sym at) k)
 
@@ -123,17 +146,17 @@ module _ {b : List ℕ} {sizes : Sizes} (a : Accepted b sizes) {m : ℕ} {star c
       let j = mem-place (length (common net .columns)) (common net .columns) [] {x = o .0} (rw (take-length (common net .columns)) (o .1)) in
       light-at (j .0) (omega (arith, j .1, count)) (subst (λ l. getD costs i 0 ∈ l) (j .3) (o .2))
 
-  pub held-columns : Columns N m (sizes .k) star costs
+  pub held-columns : Columns N m (cols) star costs
   held-columns = record {
     columns-from = columns-from;
-    columns-to = omega (arith, a .columns-are, admitted a .columns-to);
+    columns-to = omega (arith, cols-are, ok₀ .columns-to);
     costs-long = costs-long;
     networks = λ u from upto. shared-network from upto;
     costs-to = small;
   }
 
   -- the part of the costs that is lent for column u
-  module _ {u : ℕ} (from : 1 ≤ u) (upto : u ≤ sizes .k) where
+  module _ {u : ℕ} (from : 1 ≤ u) (upto : u ≤ cols) where
     pub part-lies : ((u - 1) * m + m ≤ length costs) × (length costs ≤ 8000)
     part-lies = column-inside costs (held-columns .columns-to) (omega (arith, S .arcs-are, ok .arcs-to)) costs-long from upto
 
@@ -158,8 +181,8 @@ module _ {b : List ℕ} {sizes : Sizes} (a : Accepted b sizes) {m : ℕ} {star c
   first-fault s t nodes = ap (λ g. regret.fault g s t nodes) (ap (graph-of star) first-costs ∙ shared-graph (omega arith) columns-from)
 
   -- ---- each column's best can be searched for
-  pub held-joined : {s t n k : ℕ} → n ≡ N → k ≡ sizes .k → Reached net s t → Joined n m k star costs s t
-  held-joined {s} {t} {n} {k} n-is k-is R = subst (λ x. Joined n m x star costs s t) (sym k-is) (subst (λ x. Joined x m (sizes .k) star costs s t) (sym n-is) (record {
+  pub held-joined : {s t n k : ℕ} → n ≡ N → k ≡ cols → Reached net s t → Joined n m k star costs s t
+  held-joined {s} {t} {n} {k} n-is k-is R = subst (λ x. Joined n m x star costs s t) (sym k-is) (subst (λ x. Joined x m (cols) star costs s t) (sym n-is) (record {
     columns = held-columns;
     start-from = R .ends .start-in .from;
     start-to = R .ends .start-in .upto;
@@ -168,11 +191,11 @@ module _ {b : List ℕ} {sizes : Sizes} (a : Accepted b sizes) {m : ℕ} {star c
     from = omega arith;
     upto = columns-from;
     route = R .route;
-    path = subst (λ x. Path (column x 1) s t (R .route)) (sym held-network) (path-common (admitted a) 1 (omega arith) (admitted a .columns-from) (R .path));
+    path = subst (λ x. Path (column x 1) s t (R .route)) (sym held-network) (path-common ok₀ 1 (omega arith) (ok₀ .columns-from) (R .path));
   }))
 
   -- and with the bests found, all is held
-  pub held : {s t : ℕ} → Ends N s t → {bests : List ℕ} → length bests ≡ sizes .k → bests ≡ regret.bests net s t → Held net m s t star costs bests
+  pub held : {s t : ℕ} → Ends N s t → {bests : List ℕ} → length bests ≡ cols → bests ≡ regret.bests net s t → Held net m s t star costs bests
   held {s} {t} ends {bests} k-is are = record {
     network-is = same;
     costs-of = λ u from upto. own-costs from (omega (arith, k-is));
@@ -186,20 +209,20 @@ module _ {b : List ℕ} {sizes : Sizes} (a : Accepted b sizes) {m : ℕ} {star c
       same : network N m (length bests) star costs ≡ common net
       same = ap (λ k. network N m k star costs) k-is ∙ held-network
 
-      low : (u : ℕ) → 1 ≤ u → u ≤ sizes .k → {p : Route} → Path (column (common net) u) s t p → getD bests (u - 1) 0 ≤ cost (column (common net) u) p
+      low : (u : ℕ) → 1 ≤ u → u ≤ cols → {p : Route} → Path (column (common net) u) s t p → getD bests (u - 1) 0 ≤ cost (column (common net) u) p
       low u from upto q =
-          let o = common-path (admitted a) u q in
+          let o = common-path ok₀ u q in
           let hi = upto-net from upto in
-          let listed = path-listed N (column-within (admitted a) u) (ends .start-in .from) (ends .start-in .upto) (o .in-column u from hi) in
-          omega (arith, ap (λ l. getD l (u - 1) 0) are, bests-at (admitted a) s t (ends .start-in .from) (ends .start-in .upto) o u from hi, best-le N (column net u) s t listed, common-cost (admitted a) u q)
+          let listed = path-listed N (column-within ok₀ u) (ends .start-in .from) (ends .start-in .upto) (o .in-column u from hi) in
+          omega (arith, ap (λ l. getD l (u - 1) 0) are, bests-at ok₀ s t (ends .start-in .from) (ends .start-in .upto) o u from hi, best-le N (column net u) s t listed, common-cost ok₀ u q)
 
-  -- where no arc is closed anywhere, the bests of the slices' network are the image's
-  pub bests-all : (s t : ℕ) {n k : ℕ} {bests : List ℕ} → n ≡ N → k ≡ sizes .k → m ≡ sizes .m → bests ≡ regret.bests (network n m k star costs) s t → bests ≡ regret.bests net s t
+  -- where every arc is open in every column, the bests of the slices' network are the network's
+  pub bests-all : (s t : ℕ) {n k : ℕ} {bests : List ℕ} → n ≡ N → k ≡ cols → m ≡ length (net .arcs) → bests ≡ regret.bests (network n m k star costs) s t → bests ≡ regret.bests net s t
   bests-all s t n-is k-is all e =
-      e ∙ ap₂ (λ n k. regret.bests (network n m k star costs) s t) n-is k-is ∙ ap (λ x. regret.bests x s t) (held-network ∙ common-all (admitted a) (sym (S .arcs-are) ∙ all ∙ a .arcs-are))
+      e ∙ ap₂ (λ n k. regret.bests (network n m k star costs) s t) n-is k-is ∙ ap (λ x. regret.bests x s t) (held-network ∙ common-all ok₀ (sym (S .arcs-are) ∙ all))
 
   -- ---- a labelled column
-  module _ {n s t r : ℕ} {overall : List ℕ} (n-is : n ≡ N) (ends : Ends N s t) (from : 1 ≤ r) (upto : r ≤ sizes .k) (L : Labelled n m star costs t r overall) where
+  module _ {n s t r : ℕ} {overall : List ℕ} (n-is : n ≡ N) (ends : Ends N s t) (from : 1 ≤ r) (upto : r ≤ cols) (L : Labelled n m star costs t r overall) where
     labels : Least (column (common net) r) [] t overall
     labels = subst (λ g. Least g [] t overall) (shared-graph from upto) (L .least)
 
@@ -210,7 +233,7 @@ module _ {b : List ℕ} {sizes : Sizes} (a : Accepted b sizes) {m : ℕ} {star c
           (x .0, x .1 .path)
 
       pub reached : Reached net s t
-      reached = record { ends = ends; route = found .0; path = common-path (admitted a) r (found .1) }
+      reached = record { ends = ends; route = found .0; path = common-path ok₀ r (found .1) }
 
       pub some-ranked : 1 ≤ length (ranked n (graph-of star (take ((r - 1) * m + m - (r - 1) * m) (drop ((r - 1) * m) costs))) s t)
       some-ranked =
@@ -240,12 +263,12 @@ module _ {b : List ℕ} {sizes : Sizes} (a : Accepted b sizes) {m : ℕ} {star c
     -- a path that is open in every column
     module _ {p : Route} (q : OpenPath net s t p) where
       pub path-for : Path (column (network n m (length bests) star costs) 1) s t p
-      path-for = subst (λ x. Path (column x 1) s t p) (sym network-for) (path-common (admitted a) 1 (omega arith) (admitted a .columns-from) q)
+      path-for = subst (λ x. Path (column x 1) s t p) (sym network-for) (path-common ok₀ 1 (omega arith) (ok₀ .columns-from) q)
 
       measured-for : {f w : ℕ} → f ≡ figure-over (network n m (length bests) star costs) bests p → w ≡ worst-over (network n m (length bests) star costs) bests p → (f ≡ figure net s t p) × (w ≡ worst net s t p)
       measured-for e g = (
-        e ∙ ap₂ (λ x l. figure-over x l p) network-for (H .bests-are) ∙ sym (over-figure (admitted a) s t (ends .start-in .from) (ends .start-in .upto) q),
-        g ∙ ap₂ (λ x l. worst-over x l p) network-for (H .bests-are) ∙ sym (over-worst (admitted a) s t (ends .start-in .from) (ends .start-in .upto) q),
+        e ∙ ap₂ (λ x l. figure-over x l p) network-for (H .bests-are) ∙ sym (over-figure ok₀ s t (ends .start-in .from) (ends .start-in .upto) q),
+        g ∙ ap₂ (λ x l. worst-over x l p) network-for (H .bests-are) ∙ sym (over-worst ok₀ s t (ends .start-in .from) (ends .start-in .upto) q),
       )
 
       -- no figure reaches a limit above 199,000,000
@@ -259,7 +282,7 @@ module _ {b : List ℕ} {sizes : Sizes} (a : Accepted b sizes) {m : ℕ} {star c
           is = r .exact (⊎-elim (λ h. absurd (omega (arith, r .beyond h, small))) (λ h. h) (le-or-lt limit f))
 
     -- what the search is given: the part of the costs that is lent for column r
-    module _ {r : ℕ} (from : 1 ≤ r) (upto : r ≤ sizes .k) (k-is : length bests ≡ sizes .k) where
+    module _ {r : ℕ} (from : 1 ≤ r) (upto : r ≤ cols) (k-is : length bests ≡ cols) where
       abbrev weights : List ℕ
       weights = take ((r - 1) * m + m - (r - 1) * m) (drop ((r - 1) * m) costs)
 
@@ -273,18 +296,18 @@ module _ {b : List ℕ} {sizes : Sizes} (a : Accepted b sizes) {m : ℕ} {star c
       search-robust K some =
           ap (λ x. terms.robust-over (network n x (length bests) star costs) bests r s t K) (part-length from upto)
           ∙ ap₂ (λ x l. terms.robust-over x l r s t K) network-for (H .bests-are)
-          ∙ sym (robust-common (admitted a) s t (ends .start-in .from) (ends .start-in .upto) r K from (upto-net from upto) some)
+          ∙ sym (robust-common ok₀ s t (ends .start-in .from) (ends .start-in .upto) r K from (upto-net from upto) some)
 
 -- the part of the costs that is lent for column r
 pub labelled-part : {n m t r : ℕ} {star costs overall : List ℕ} → length overall ≡ n + 1 → Least (graph-of star (take ((r - 1) * m + m - (r - 1) * m) (drop ((r - 1) * m) costs))) [] t overall → Labelled n m star costs t r overall
 labelled-part {m = m} {t} {r} {star} {costs} {overall} long L = record { long = long; least = subst (λ l. Least (graph-of star l) [] t overall) (column-part m costs r) L }
 
--- ---- the best of a column by itself: the start's label, where a path is open in the column
-pub own-label : {e : ℕ} {net : Net} → Admitted e net → {u s t : ℕ} {star ws labels : List ℕ} → Loaded net u t star ws labels → 1 ≤ s → s ≤ net .nodes → {p : Route} → Path (column net u) s t p → getD labels s 0 ≡ regret.label (net .nodes) (column net u) t s
-own-label {net = net} ok {u} {s} {t} l lo hi {p} r =
-    start-best (l .network (net .nodes + 1) refl) lo hi (l .labels-long) (l .least) (subst (λ g. Path g s t p) (sym (l .graph-is)) r)
-    ∙ ap (λ g. regret.best (net .nodes) g s t) (l .graph-is)
-    ∙ sym (label-reached (net .nodes) (column net u) s t (path-listed (net .nodes) (column-within ok u) lo hi r))
+-- ---- the best of a column by itself: the start's label, or the mark where no path is open in the column
+pub own-label : {e : ℕ} {net : Net} → Admitted e net → {u s t : ℕ} {star ws labels : List ℕ} → Loaded net u t star ws labels → 1 ≤ u → u ≤ length (net .columns) → 1 ≤ s → s ≤ net .nodes → narrowed (getD labels s 0) ≡ regret.label (net .nodes) (column net u) t s
+own-label ok l from upto lo hi = sym (label-narrowed ok from upto (l .labels-long) (loaded-least l) _ lo hi)
+
+pub own-narrow : {e : ℕ} {net : Net} → Admitted e net → {u s t : ℕ} {star ws labels : List ℕ} → Loaded net u t star ws labels → 1 ≤ u → u ≤ length (net .columns) → s < length labels → Narrow (getD labels s 0)
+own-narrow ok l from upto h = narrow-at ok from upto (l .labels-long) (loaded-least l) _ h
 
 pub own-bests : (net : Net) (s t : ℕ) {bests : List ℕ} → length bests ≡ length (net .columns) → ((j : ℕ) → 1 + j < length (net .columns) + 1 → getD bests j 0 ≡ regret.label (net .nodes) (column net (1 + j)) t s) → bests ≡ regret.bests net s t
 unfolding regret.bests

@@ -4,15 +4,17 @@ use Prim.Native.Nat.{ℕ, _+_, _*_, _≤_}
 use mathlib.Core.Path.{_≡_}
 use mathlib.Core.List.{List}
 use lib.ListN.{length}
-use Rattle.terms.specs.Network.{Net, cost-column, common}
+use Rattle.terms.specs.Network.{Net, cost-column, column, common}
 use Rattle.terms.specs.Paths.{Route, OpenPath}
 use Rattle.terms.specs.Regret as terms
+use Rattle.image.specs.Outcome.{Fault}
 use Rattle.image.specs.Layout.{netOf}
 use Rattle.image.specs.declared.check.Sizes.{Sizes}
 use Rattle.loading.specs.Accepted.{Accepted, InColumn, Ends}
 use Rattle.loading.specs.Loaded.{star-size}
 use Rattle.measuring.specs.Columns.{network, column-costs}
 use Rattle.choosing.specs.Counting.{Priced}
+use Rattle.outcomes.specs.Calls.{no-path-row}
 use Rattle.choosing.specs.declared.task.Task.{Task}
 
 -- ---- what is asked
@@ -22,6 +24,10 @@ pub record Asked (b : List ℕ) (sizes : Sizes) (task : Task) : Type 0 where
   pub in-column : InColumn b (task .column)
   pub ends : Ends (netOf b .nodes) (task .start) (task .goal)
   pub nodes-are : task .n ≡ netOf b .nodes
+
+-- row 15 for a network: no path from s to t is open in every column
+abbrev pub no-open-path : Net → ℕ → ℕ → ℕ → Fault
+no-open-path net r s t = no-path-row (net .nodes) (column (common net) r) s t
 
 -- ---- what is held
 -- a path that is open in every column goes from s to t

@@ -1,4 +1,6 @@
 // The path whose greatest regret is least, of an accepted image.
+use super::pricing::Extent;
+use super::pricing::Trip;
 use super::pricing::price;
 use choosing::Answer;
 use choosing::Task;
@@ -8,29 +10,29 @@ use image::Sizes;
 use labels::FAR;
 use listing::clear;
 use loading::label_nodes;
-use loading::load_common;
+use loading::load_common_left;
 ghost use mathlib.Core.Path.{_≡_};
 ghost use Prim.Native.Nat.{_+_, _≤_};
 ghost use lib.ListN.{length, getD, replicate};
-ghost use Rattle.terms.specs.Network.{column, common};
 ghost use Rattle.terms.specs.Paths.{Route};
 ghost use Rattle.terms.specs.Ranking.{ranked};
-ghost use Rattle.terms.specs.Robust.{robust-over};
+ghost use Rattle.terms.specs.Robust.{robust, robust-over};
+ghost use Rattle.closures.specs.Map.{without};
 ghost use Rattle.star.specs.Layout.{graph-of};
 ghost use Rattle.labels.specs.Labels.{far};
 ghost use Rattle.ranking.specs.Ranking.{Problem, Space};
 ghost use Rattle.measuring.specs.Columns.{network};
 ghost use Rattle.choosing.specs.Answers.{chosen-length, answered};
 ghost use Rattle.choosing.specs.Counting.{Priced};
-ghost use Rattle.choosing.specs.Counting as robust;
+ghost use Rattle.choosing.specs.Counting as counting;
 ghost use Rattle.image.specs.Outcome.{gives, sound, outcome, after};
 ghost use Rattle.image.specs.Layout.{netOf};
 ghost use Rattle.network_calls.specs.Answers.{decided};
-ghost use Rattle.outcomes.specs.Calls.{no-path-row, robust-of, chosen, robust-values, cleared};
+ghost use Rattle.outcomes.specs.Calls.{robust-of, chosen, robust-values, cleared};
 ghost use Rattle.loading.specs.Accepted.{Accepted, InColumn, Ends};
 ghost use Rattle.loading.specs.Loaded.{Shared};
 ghost use Rattle.measuring.specs.Bests.{Labelled};
-ghost use Rattle.network_calls.specs.Held.{Asked, ChoiceRoom, ChoiceSlices};
+ghost use Rattle.network_calls.specs.Held.{Asked, no-open-path, ChoiceRoom, ChoiceSlices};
 
 // A path with the least figure among those counted.
 pub struct Decision {
@@ -85,7 +87,7 @@ fn choose_priced(
 ) -> Decided
     requires { ⌜ Problem (task .n) (task .start) (task .goal) (now star) (now weights) (now overall) × Space (task .n) (task .wanted + 1) (now work) ⌝ }
     requires { ⌜ Priced (task .n) (length (now weights)) (task .start) (task .goal) (now star) (now costs) (now bests) ⌝ }
-    requires { ⌜ robust.InColumn (task .column) (length (now weights)) (length (now bests)) (now weights) (now costs) ⌝ }
+    requires { ⌜ counting.InColumn (task .column) (length (now weights)) (length (now bests)) (now weights) (now costs) ⌝ }
     requires { ⌜ (1 ≤ task .wanted) × (1 ≤ length (ranked (task .n) (graph-of (now star) (now weights)) (task .start) (task .goal))) ⌝ }
     requires { ⌜ task .n ≤ length (now path) ⌝ }
     ensures { λ r. ⌜ decided r ≡ gives (robust-values (robust-over (network (task .n) (length (now (weights .entry))) (length (now (bests .entry))) (now (star .entry)) (now (costs .entry))) (now (bests .entry)) (task .column) (task .start) (task .goal) (task .wanted))) ⌝ }
@@ -97,13 +99,12 @@ fn choose_priced(
     state(answer)
 }
 
-// The same where there is a path: the column's labels are at hand, and the bests are searched for. m is the
-// number of arcs that are open in every column.
+// The same where there is a path: the column's labels are at hand, and the bests are searched for.
 fn choose_reached(
     image: &[u8],
-    sizes: Sizes,
+    closed: &[u64],
+    extent: Extent,
     task: Task,
-    m: usize,
     star: &[u16],
     costs: &[u32],
     overall: &[u64],
@@ -111,17 +112,21 @@ fn choose_reached(
     work: &mut [u32],
     path: &mut [u16],
 ) -> Decided
-    requires { ⌜ Asked (now image) sizes task × Shared (netOf (now image)) m (now star) (now costs) ⌝ }
-    requires { ⌜ Labelled (task .n) m (now star) (now costs) (task .goal) (task .column) (now overall) × (getD (now overall) (task .start) 0 ≡ far → ⊥) ⌝ }
-    requires { ⌜ (length (now bests) ≡ sizes .k) × ChoiceSlices (netOf (now image) .nodes) (task .wanted) (now path) (now work) ⌝ }
-    ensures { λ d. ⌜ decided d ≡ gives (robust-values (robust-of (now (image .entry)) (task .column) (task .start) (task .goal) (task .wanted))) ⌝ }
-    ensures { λ _. ⌜ now (path .exit) ≡ after sound (chosen (robust-of (now (image .entry)) (task .column) (task .start) (task .goal) (task .wanted))) (now (path .entry)) ⌝ }
+    requires { ⌜ Asked (now image) (extent .sizes) task × Shared (without (now closed) (netOf (now image))) (extent .m) (now star) (now costs) ⌝ }
+    requires { ⌜ Labelled (task .n) (extent .m) (now star) (now costs) (task .goal) (task .column) (now overall) × (getD (now overall) (task .start) 0 ≡ far → ⊥) ⌝ }
+    requires { ⌜ (length (now bests) ≡ extent .sizes .k) × ChoiceSlices (netOf (now image) .nodes) (task .wanted) (now path) (now work) ⌝ }
+    ensures { λ d. ⌜ decided d ≡ gives (robust-values (robust (without (now (closed .entry)) (netOf (now (image .entry)))) (task .column) (task .start) (task .goal) (task .wanted))) ⌝ }
+    ensures { λ _. ⌜ now (path .exit) ≡ after sound (chosen (robust (without (now (closed .entry)) (netOf (now (image .entry)))) (task .column) (task .start) (task .goal) (task .wanted))) (now (path .entry)) ⌝ }
     ensures { λ _. ⌜ now (work .exit) ≡ replicate (length (now (work .entry))) 0 ⌝ }
 {
-    let start = task.start as usize;
-    let goal = task.goal;
+    let m = extent.m;
     let r = task.column;
-    price(image, sizes, m, star, costs, overall, start, goal, r, bests);
+    let trip = Trip {
+        start: task.start as usize,
+        goal: task.goal,
+        labelled: r,
+    };
+    price(image, closed, extent, trip, star, costs, overall, bests);
     let from = (r - 1) * m;
     let to = from + m;
     choose_priced(
@@ -140,9 +145,9 @@ fn choose_reached(
 // if there is no path.
 fn choose_shared(
     image: &[u8],
-    sizes: Sizes,
+    closed: &[u64],
+    extent: Extent,
     task: Task,
-    m: usize,
     star: &[u16],
     costs: &[u32],
     overall: &mut [u64],
@@ -150,12 +155,13 @@ fn choose_shared(
     work: &mut [u32],
     path: &mut [u16],
 ) -> Decided
-    requires { ⌜ Asked (now image) sizes task × Shared (netOf (now image)) m (now star) (now costs) ⌝ }
-    requires { ⌜ (length (now overall) ≡ sizes .n + 1) × (length (now bests) ≡ sizes .k) × ChoiceSlices (netOf (now image) .nodes) (task .wanted) (now path) (now work) ⌝ }
-    ensures { λ d. ⌜ decided d ≡ outcome (no-path-row (netOf (now (image .entry)) .nodes) (column (common (netOf (now (image .entry)))) (task .column)) (task .start) (task .goal)) (robust-values (robust-of (now (image .entry)) (task .column) (task .start) (task .goal) (task .wanted))) ⌝ }
-    ensures { λ _. ⌜ now (path .exit) ≡ after (no-path-row (netOf (now (image .entry)) .nodes) (column (common (netOf (now (image .entry)))) (task .column)) (task .start) (task .goal)) (chosen (robust-of (now (image .entry)) (task .column) (task .start) (task .goal) (task .wanted))) (now (path .entry)) ⌝ }
-    ensures { λ _. ⌜ now (work .exit) ≡ cleared (no-path-row (netOf (now (image .entry)) .nodes) (column (common (netOf (now (image .entry)))) (task .column)) (task .start) (task .goal)) (now (work .entry)) ⌝ }
+    requires { ⌜ Asked (now image) (extent .sizes) task × Shared (without (now closed) (netOf (now image))) (extent .m) (now star) (now costs) ⌝ }
+    requires { ⌜ (length (now overall) ≡ extent .sizes .n + 1) × (length (now bests) ≡ extent .sizes .k) × ChoiceSlices (netOf (now image) .nodes) (task .wanted) (now path) (now work) ⌝ }
+    ensures { λ d. ⌜ decided d ≡ outcome (no-open-path (without (now (closed .entry)) (netOf (now (image .entry)))) (task .column) (task .start) (task .goal)) (robust-values (robust (without (now (closed .entry)) (netOf (now (image .entry)))) (task .column) (task .start) (task .goal) (task .wanted))) ⌝ }
+    ensures { λ _. ⌜ now (path .exit) ≡ after (no-open-path (without (now (closed .entry)) (netOf (now (image .entry)))) (task .column) (task .start) (task .goal)) (chosen (robust (without (now (closed .entry)) (netOf (now (image .entry)))) (task .column) (task .start) (task .goal) (task .wanted))) (now (path .entry)) ⌝ }
+    ensures { λ _. ⌜ now (work .exit) ≡ cleared (no-open-path (without (now (closed .entry)) (netOf (now (image .entry)))) (task .column) (task .start) (task .goal)) (now (work .entry)) ⌝ }
 {
+    let m = extent.m;
     let r = task.column;
     let start = task.start as usize;
     let from = (r - 1) * m;
@@ -166,9 +172,9 @@ fn choose_shared(
     }
     choose_reached(
         image,
-        sizes,
+        closed,
+        extent,
         task,
-        m,
         star,
         costs,
         overall,
@@ -181,6 +187,7 @@ fn choose_shared(
 // The same from the image on, with room for all that the search needs.
 fn choose_in(
     image: &[u8],
+    closed: &[u64],
     sizes: Sizes,
     task: Task,
     star: &mut [u16],
@@ -192,19 +199,20 @@ fn choose_in(
 ) -> Decided
     requires { ⌜ Asked (now image) sizes task × ChoiceRoom (sizes .n) (sizes .m) (sizes .k) (now star) (now costs) (now bests) ⌝ }
     requires { ⌜ (length (now overall) ≡ sizes .n + 1) × ChoiceSlices (netOf (now image) .nodes) (task .wanted) (now path) (now work) ⌝ }
-    ensures { λ d. ⌜ decided d ≡ outcome (no-path-row (netOf (now (image .entry)) .nodes) (column (common (netOf (now (image .entry)))) (task .column)) (task .start) (task .goal)) (robust-values (robust-of (now (image .entry)) (task .column) (task .start) (task .goal) (task .wanted))) ⌝ }
-    ensures { λ _. ⌜ now (path .exit) ≡ after (no-path-row (netOf (now (image .entry)) .nodes) (column (common (netOf (now (image .entry)))) (task .column)) (task .start) (task .goal)) (chosen (robust-of (now (image .entry)) (task .column) (task .start) (task .goal) (task .wanted))) (now (path .entry)) ⌝ }
-    ensures { λ _. ⌜ now (work .exit) ≡ cleared (no-path-row (netOf (now (image .entry)) .nodes) (column (common (netOf (now (image .entry)))) (task .column)) (task .start) (task .goal)) (now (work .entry)) ⌝ }
+    ensures { λ d. ⌜ decided d ≡ outcome (no-open-path (without (now (closed .entry)) (netOf (now (image .entry)))) (task .column) (task .start) (task .goal)) (robust-values (robust (without (now (closed .entry)) (netOf (now (image .entry)))) (task .column) (task .start) (task .goal) (task .wanted))) ⌝ }
+    ensures { λ _. ⌜ now (path .exit) ≡ after (no-open-path (without (now (closed .entry)) (netOf (now (image .entry)))) (task .column) (task .start) (task .goal)) (chosen (robust (without (now (closed .entry)) (netOf (now (image .entry)))) (task .column) (task .start) (task .goal) (task .wanted))) (now (path .entry)) ⌝ }
+    ensures { λ _. ⌜ now (work .exit) ≡ cleared (no-open-path (without (now (closed .entry)) (netOf (now (image .entry)))) (task .column) (task .start) (task .goal)) (now (work .entry)) ⌝ }
 {
-    let m = load_common(image, sizes, star, costs);
+    let m = load_common_left(image, sizes, closed, star, costs);
+    let extent = Extent { sizes, m };
     let places = overall.len();
     let size = 3 * m + places + 1 + places;
     let all = m * bests.len();
     choose_shared(
         image,
-        sizes,
+        closed,
+        extent,
         task,
-        m,
         &star[..size],
         &costs[..all],
         overall,
@@ -215,9 +223,10 @@ fn choose_in(
 }
 
 // The same, with room made for it.
-pub fn choose(
+pub fn choose_left(
     image: &[u8],
     sizes: Sizes,
+    closed: &[u64],
     r: u32,
     start: u32,
     goal: u32,
@@ -227,9 +236,9 @@ pub fn choose(
 ) -> Decided
     requires { ⌜ Accepted (now image) sizes × InColumn (now image) r × Ends (netOf (now image) .nodes) start goal ⌝ }
     requires { ⌜ ChoiceSlices (netOf (now image) .nodes) wanted (now path) (now work) ⌝ }
-    ensures { λ d. ⌜ decided d ≡ outcome (no-path-row (netOf (now (image .entry)) .nodes) (column (common (netOf (now (image .entry)))) r) start goal) (robust-values (robust-of (now (image .entry)) r start goal wanted)) ⌝ }
-    ensures { λ _. ⌜ now (path .exit) ≡ after (no-path-row (netOf (now (image .entry)) .nodes) (column (common (netOf (now (image .entry)))) r) start goal) (chosen (robust-of (now (image .entry)) r start goal wanted)) (now (path .entry)) ⌝ }
-    ensures { λ _. ⌜ now (work .exit) ≡ cleared (no-path-row (netOf (now (image .entry)) .nodes) (column (common (netOf (now (image .entry)))) r) start goal) (now (work .entry)) ⌝ }
+    ensures { λ d. ⌜ decided d ≡ outcome (no-open-path (without (now (closed .entry)) (netOf (now (image .entry)))) r start goal) (robust-values (robust (without (now (closed .entry)) (netOf (now (image .entry)))) r start goal wanted)) ⌝ }
+    ensures { λ _. ⌜ now (path .exit) ≡ after (no-open-path (without (now (closed .entry)) (netOf (now (image .entry)))) r start goal) (chosen (robust (without (now (closed .entry)) (netOf (now (image .entry)))) r start goal wanted)) (now (path .entry)) ⌝ }
+    ensures { λ _. ⌜ now (work .exit) ≡ cleared (no-open-path (without (now (closed .entry)) (netOf (now (image .entry)))) r start goal) (now (work .entry)) ⌝ }
 {
     let mut star = [0u16; 3403];
     let mut costs = [0u32; 8000];
@@ -250,6 +259,7 @@ pub fn choose(
     };
     choose_in(
         image,
+        closed,
         sizes,
         task,
         &mut star[..size],
@@ -259,4 +269,25 @@ pub fn choose(
         work,
         path,
     )
+}
+
+// The same of the whole image: no arc is closed beside it.
+pub fn choose(
+    image: &[u8],
+    sizes: Sizes,
+    r: u32,
+    start: u32,
+    goal: u32,
+    wanted: u32,
+    path: &mut [u16],
+    work: &mut [u32],
+) -> Decided
+    requires { ⌜ Accepted (now image) sizes × InColumn (now image) r × Ends (netOf (now image) .nodes) start goal ⌝ }
+    requires { ⌜ ChoiceSlices (netOf (now image) .nodes) wanted (now path) (now work) ⌝ }
+    ensures { λ d. ⌜ decided d ≡ outcome (no-open-path (netOf (now (image .entry))) r start goal) (robust-values (robust-of (now (image .entry)) r start goal wanted)) ⌝ }
+    ensures { λ _. ⌜ now (path .exit) ≡ after (no-open-path (netOf (now (image .entry))) r start goal) (chosen (robust-of (now (image .entry)) r start goal wanted)) (now (path .entry)) ⌝ }
+    ensures { λ _. ⌜ now (work .exit) ≡ cleared (no-open-path (netOf (now (image .entry))) r start goal) (now (work .entry)) ⌝ }
+{
+    let none = [0u64; 0];
+    choose_left(image, sizes, &none, r, start, goal, wanted, path, work)
 }

@@ -9,5 +9,8 @@ pub mod robust;
 
 pub use chosen::Decided;
 pub use chosen::Decision;
+pub use chosen::choose_left;
 pub use measured::Measure;
 pub use measured::Regretted;
+pub use measured::measure_path;
+pub use pricing::own_bests;

@@ -1,6 +1,8 @@
 // A node list held to the paths that are open in every column of an accepted image, and measured.
 use super::node_list::NodeList;
 use super::node_list::check_list;
+use super::pricing::Extent;
+use super::pricing::Trip;
 use super::pricing::price;
 use image::Checked;
 use image::Refusal;
@@ -35,7 +37,7 @@ pub enum Regretted {
 }
 
 // Measures a path that is open in every column, with the m arcs that are so at hand, and all columns for them.
-fn measure_path(
+pub fn measure_path(
     image: &[u8],
     sizes: Sizes,
     m: usize,
@@ -50,9 +52,15 @@ fn measure_path(
     requires { ⌜ Ends (netOf (now image) .nodes) start goal × OpenPath (netOf (now image)) start goal (now nodes) ⌝ }
     ensures { λ r. ⌜ (r .figure ≡ terms.figure (netOf (now (image .entry))) start goal (now (nodes .entry))) × (r .worst ≡ terms.worst (netOf (now (image .entry))) start goal (now (nodes .entry))) ⌝ }
 {
+    let none = [0u64; 0];
+    let extent = Extent { sizes, m };
     // no column is labelled
-    let none = [0u64; 1];
-    price(image, sizes, m, star, costs, &none, start, goal, 0, bests);
+    let trip = Trip {
+        start,
+        goal,
+        labelled: 0,
+    };
+    price(image, &none, extent, trip, star, costs, &none, bests);
     let n = sizes.n as usize;
     // no figure comes near to it
     let found = measure(star, m, costs, bests, n, nodes, FAR);

@@ -64,8 +64,8 @@ module _ {e : ℕ} {net : Net} {u t : ℕ} {ls : List ℕ} (ok : Admitted e net)
       by-case (yes k) = let held = column-held ok from upto in is-small (omega (arith, laws.label-le (held .arcs) (rw (← held .graph-is) at l) 1000000 (held .light) v h k))
       by-case (no k) = is-far (omega (arith, l .at-most v))
 
-  in-column : (v : ℕ) → 1 ≤ v → v ≤ net .nodes → label (net .nodes) (column net u) t v ≡ narrowed (getD ls v 0)
-  in-column v lo hi = let held = column-held ok from upto in rw (← held .graph-is) (exact-at (held .arcs) (rw (← held .graph-is) at l) long v lo hi)
+  pub label-narrowed : (v : ℕ) → 1 ≤ v → v ≤ net .nodes → label (net .nodes) (column net u) t v ≡ narrowed (getD ls v 0)
+  label-narrowed v lo hi = let held = column-held ok from upto in rw (← held .graph-is) (exact-at (held .arcs) (rw (← held .graph-is) at l) long v lo hi)
 
   -- the labels of the nodes 1 to n are those of REFERENCE, section 4.2
   pub labels-are : map narrowed (drop 1 ls) ≡ labels (net .nodes) (column net u) t
@@ -76,4 +76,4 @@ module _ {e : ℕ} {net : Net} {u t : ℕ} {ls : List ℕ} (ok : Admitted e net)
       lengths = simp (length-map, length-drop, length-numbers) (omega arith)
 
       at-place : (i : ℕ) → i < net .nodes → getD (map narrowed (drop 1 ls)) i 0 ≡ getD (map (label (net .nodes) (column net u) t) (numbers 1 (net .nodes))) i 0
-      at-place i h = let e : i + 1 ≡ 1 + i = omega arith in narrowed-at ls i ∙ sym (in-column (i + 1) (omega arith) (omega arith)) ∙ ap (label (net .nodes) (column net u) t) e ∙ sym (getD-map-numbers (label (net .nodes) (column net u) t) 1 (net .nodes) i 0 h)
+      at-place i h = let e : i + 1 ≡ 1 + i = omega arith in narrowed-at ls i ∙ sym (label-narrowed (i + 1) (omega arith) (omega arith)) ∙ ap (label (net .nodes) (column net u) t) e ∙ sym (getD-map-numbers (label (net .nodes) (column net u) t) 1 (net .nodes) i 0 h)

@@ -7,5 +7,6 @@ pub use rows::check_ends;
 pub use rows::check_ranking;
 pub use rows::check_search;
 pub use rows::is_column;
+pub use writing::narrow;
 pub use writing::write_narrow;
 pub use writing::write_path;

@@ -7,7 +7,7 @@ ghost use lib.ListN.{length, getD, take, drop};
 ghost use Rattle.outcomes.specs.Labels.{Narrow, narrowed};
 
 // A label in 32 bits: Label's mark in the place of FAR.
-fn narrow(label: u64) -> u32
+pub fn narrow(label: u64) -> u32
     requires { ⌜ Narrow label ⌝ }
     ensures { λ r. ⌜ r ≡ narrowed label ⌝ }
 {

@@ -13,6 +13,7 @@ use network_calls::Decision;
 use network_calls::Regretted;
 use packing::Built;
 use packing::Unpacked;
+use search_calls::Searched;
 use test_fixtures::plain_image::Header;
 use test_fixtures::slices::holds_numbers;
 
@@ -32,7 +33,7 @@ pub fn refusal(number: u32, place: u32) -> Answer {
     }
 }
 
-// Build's result, a length in bytes, or Rank's, a number of paths.
+// Build's result, a length in bytes, Rank's, a number of paths, or an event's, a number of closed roads.
 pub fn single(value: u32) -> Answer {
     Answer {
         number: 0,
@@ -59,7 +60,8 @@ pub fn pair(first: u32, second: u32) -> Answer {
     }
 }
 
-// Robust's result where it is settled: the length, the figure, the worst column and the count.
+// Robust's result where it is settled, or Search's: the length, the figure, the worst column, and the count of
+// paths or of arcs tried.
 pub fn settled(length: u32, figure: u32, worst: u32, count: u32) -> Answer {
     Answer {
         number: 0,
@@ -83,7 +85,7 @@ pub fn written() -> Answer {
 }
 
 // The number of a row of the refusal table, and the place that it names.
-fn of_refusal(row: Refusal) -> Answer {
+pub fn of_refusal(row: Refusal) -> Answer {
     refusal(number(row), place(row))
 }
 
@@ -179,6 +181,13 @@ pub fn of_find(answer: Found) -> Answer {
         Found::At(index, looks) => found(1, index, looks),
         Found::Nothing(looks) => found(0, 0, looks),
         Found::Refused(row) => of_refusal(row),
+    }
+}
+
+pub fn of_search(answer: Searched) -> Answer {
+    match answer {
+        Searched::Found(given) => settled(given.length, given.figure, given.worst, given.tried),
+        Searched::Refused(row) => of_refusal(row),
     }
 }
 

@@ -7,3 +7,4 @@ pub mod path_calls;
 pub mod rank_calls;
 pub mod refused_images;
 pub mod robust_calls;
+pub mod searches;

@@ -11,6 +11,8 @@ use super::rank_calls::rank_agrees;
 use super::robust_calls::RouteRooms;
 use super::robust_calls::needed_route_rooms;
 use super::robust_calls::robust_agrees;
+use super::searches::Quest;
+use super::searches::note_refused;
 use test_fixtures::report::FIND;
 use test_fixtures::report::LABEL;
 use test_fixtures::report::RANK;
@@ -57,6 +59,23 @@ fn note_refused_robusts(report: Report, image: &[u8], expected: Answer) -> Repor
     report.note(ROBUST, asked).note(ROBUST, not_asked)
 }
 
+fn note_refused_searches(report: Report, image: &[u8], expected: Answer) -> Report {
+    let number = expected.number;
+    let place = expected.place;
+    let asked = Quest {
+        start: 1,
+        goal: 4,
+        limit: 100,
+    };
+    let not_asked = Quest {
+        start: 0,
+        goal: 0,
+        limit: 0,
+    };
+    let noted = note_refused(report, image, asked, 12, number, place);
+    note_refused(noted, image, not_asked, 0, number, place)
+}
+
 // Every call of the path layer refuses the image with this answer and writes nothing, whatever else
 // it is given.
 pub fn note_refused_paths(mut report: Report, image: &[u8], expected: Answer) -> Report {
@@ -68,6 +87,7 @@ pub fn note_refused_paths(mut report: Report, image: &[u8], expected: Answer) ->
     report = report.note(REGRET, regret_agrees(image, 0, 0, &[], expected));
     report = report.note(FIND, find_agrees(image, 1, 2, expected));
     report = report.note(FIND, find_agrees(image, 0, 0, expected));
+    report = note_refused_searches(report, image, expected);
     report = note_refused_ranks(report, image, expected);
     note_refused_robusts(report, image, expected)
 }

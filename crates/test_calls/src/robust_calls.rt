@@ -42,6 +42,19 @@ pub fn longer_rooms(given: RouteRooms) -> RouteRooms {
     }
 }
 
+// Robust's answer to a request.
+pub fn robust_answer(image: &[u8], request: Request, path: &mut [u16], work: &mut [u32]) -> Answer {
+    of_robust(network_calls::robust::robust(
+        image,
+        request.column,
+        request.start,
+        request.goal,
+        request.wanted,
+        path,
+        work,
+    ))
+}
+
 // Whether Robust gives the answer, and writes these nodes and no others, with slices that hold the
 // pattern. After a result the workspace is 0.
 pub fn robust_into(
@@ -52,15 +65,7 @@ pub fn robust_into(
     expected: Answer,
     written: &[u16],
 ) -> bool {
-    let answer = of_robust(network_calls::robust::robust(
-        image,
-        request.column,
-        request.start,
-        request.goal,
-        request.wanted,
-        path,
-        work,
-    ));
+    let answer = robust_answer(image, request, path, work);
     if !same_answer(answer, expected) {
         return false;
     }

@@ -1,6 +1,7 @@
 // What paths cost.
 use super::arcs::arc_index;
 use super::paths::Row;
+use super::paths::all_paths;
 ghost use Prim.Native.Nat.{_≤_};
 
 // A number for each column, from column 1 on, filled up with 0.
@@ -87,8 +88,25 @@ pub fn path_costs(arcs: &[u16], costs: &[u32], row: Row) -> Costs {
 }
 
 // The cost of each path in each column, for as many paths as there is room.
-pub fn all_costs(arcs: &[u16], costs: &[u32], rows: &[Row], table: &mut [Costs]) {
+fn all_costs(arcs: &[u16], costs: &[u32], rows: &[Row], table: &mut [Costs]) {
     for i in 0..rows.len() {
         put_costs(table, i, path_costs(arcs, costs, rows[i]));
     }
+}
+
+// All loopless paths from start to goal with their costs, in any order, and their number.
+pub fn priced_paths(
+    arcs: &[u16],
+    costs: &[u32],
+    start: u16,
+    goal: u16,
+    rows: &mut [Row],
+    table: &mut [Costs],
+) -> usize {
+    let paths = all_paths(arcs, start, goal, rows);
+    if rows.len() < paths {
+        return paths;
+    }
+    all_costs(arcs, costs, &rows[0..paths], table);
+    paths
 }

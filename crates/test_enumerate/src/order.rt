@@ -5,6 +5,7 @@ use super::costs::Costs;
 use super::costs::costs_at;
 use super::costs::in_column;
 use super::costs::put_costs;
+use super::deviations::regret;
 use super::paths::Row;
 
 // The label of a node from which the goal cannot be reached: no path from it is open.
@@ -67,6 +68,28 @@ pub fn rank(u: u32, count: usize, rows: &mut [Row], costs: &mut [Costs]) {
         let next = first(u, rows, costs, i);
         swap(rows, costs, i, next);
     }
+}
+
+// Whether the path at i has a smaller figure than the path at j, or as large a one and comes before it in
+// node order.
+fn less_regret(rows: &[Row], costs: &[Costs], bests: Costs, i: usize, j: usize) -> bool {
+    let a = regret(costs_at(costs, i), bests).figure;
+    let b = regret(costs_at(costs, j), bests).figure;
+    if a != b {
+        return a < b;
+    }
+    list_before(row_at(rows, i), row_at(rows, j))
+}
+
+// The index of the first in node order of all paths with the least figure.
+pub fn first_least(rows: &[Row], costs: &[Costs], bests: Costs) -> usize {
+    let mut least = 0;
+    for i in 0..rows.len() {
+        if less_regret(rows, costs, bests, i, least) {
+            least = i;
+        }
+    }
+    least
 }
 
 // best(u) for each of the columns 1 to k, from all paths from start to goal: the cost of the first

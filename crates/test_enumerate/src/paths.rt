@@ -17,7 +17,7 @@ pub fn length(row: Row) -> usize
 }
 
 // The last node, or 0 if there is none.
-fn last(row: Row) -> u16 {
+pub fn last(row: Row) -> u16 {
     let count = length(row);
     if count == 0 {
         return 0;
@@ -25,7 +25,7 @@ fn last(row: Row) -> u16 {
     row[count - 1]
 }
 
-fn has(row: Row, node: u16) -> bool {
+pub fn has(row: Row, node: u16) -> bool {
     for i in 0..8usize {
         if row[i] == node {
             return true;
@@ -35,7 +35,7 @@ fn has(row: Row, node: u16) -> bool {
 }
 
 // The path with one node more. Eight nodes are all that there are.
-fn with(mut row: Row, node: u16) -> Row {
+pub fn with(mut row: Row, node: u16) -> Row {
     let count = length(row);
     if count < 8 {
         row[count] = node;

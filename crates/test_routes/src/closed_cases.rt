@@ -1,6 +1,4 @@
 // Networks of edition 2, in which an arc may be closed in a column: all calls of the path layer.
-use super::case_images::closed_network;
-use super::case_images::second_s;
 use super::path_cases;
 use super::path_cases::list_refused;
 use super::path_cases::regret_is;
@@ -14,7 +12,11 @@ use test_calls::path_calls::note_label;
 use test_calls::path_calls::note_shortest;
 use test_calls::rank_calls::Request;
 use test_calls::robust_calls::note_robust;
-use test_fixtures::closing::CLOSED;
+use test_fixtures::case_images::apart;
+use test_fixtures::case_images::cut_off;
+use test_fixtures::case_images::detour;
+use test_fixtures::case_images::ferry;
+use test_fixtures::case_images::second_s;
 use test_fixtures::report::Report;
 
 // The label of a node that cannot reach the goal.
@@ -26,15 +28,6 @@ fn open_everywhere() -> Report {
     let mut report = path_cases::note_s(Report::new(), &image);
     report = rank_cases::note_s(report, &image);
     robust_cases::note_s(report, &image)
-}
-
-// The arcs 1→2, 1→3, 1→4, 2→4 and 3→4, of which 1→4, the ferry, is closed in column 2. The paths 1 4,
-// 1 2 4 and 1 3 4 cost 1, 5 and 6 in column 1; in column 2 the last two cost 12 and 2.
-fn ferry() -> [u8; 84] {
-    closed_network(
-        [1, 2, 1, 3, 1, 4, 2, 4, 3, 4],
-        [2, 3, 1, 3, 3, 4, 1, CLOSED, 8, 1],
-    )
 }
 
 fn ferry_in_columns(mut report: Report, image: &[u8]) -> Report {
@@ -66,15 +59,6 @@ fn ferry_in_all(mut report: Report, image: &[u8]) -> Report {
 fn note_ferry() -> Report {
     let image = ferry();
     ferry_in_all(ferry_in_columns(Report::new(), &image), &image)
-}
-
-// The arcs 1→2, 1→3, 2→3, 2→4 and 3→4: 1→3 is closed in column 1, and 1→2 in column 2. So each column
-// has a path from 1 to 4, and none is open in both.
-fn apart() -> [u8; 84] {
-    closed_network(
-        [1, 2, 1, 3, 2, 3, 2, 4, 3, 4],
-        [1, CLOSED, 1, 2, 5, CLOSED, 3, 0, 4, 1],
-    )
 }
 
 fn apart_in_columns(mut report: Report, image: &[u8]) -> Report {
@@ -112,14 +96,6 @@ fn note_apart() -> Report {
     apart_in_all(apart_in_columns(Report::new(), &image), &image)
 }
 
-// The arcs 1→2, 1→4, 2→3, 2→4 and 3→4. All arcs into 4 are closed in column 2.
-fn cut_off() -> [u8; 84] {
-    closed_network(
-        [1, 2, 1, 4, 2, 3, 2, 4, 3, 4],
-        [1, 4, 1, 5, 1, 1, CLOSED, 1, CLOSED, CLOSED],
-    )
-}
-
 fn cut_off_in_columns(mut report: Report, image: &[u8]) -> Report {
     report = note_label(report, image, 1, 4, &[3, 2, 1, 0]);
     report = note_label(report, image, 2, 4, &[UNREACHED, UNREACHED, UNREACHED, 0]);
@@ -149,14 +125,6 @@ fn cut_off_in_all(mut report: Report, image: &[u8]) -> Report {
 fn note_cut_off() -> Report {
     let image = cut_off();
     cut_off_in_all(cut_off_in_columns(Report::new(), &image), &image)
-}
-
-// Network S with 2→3 and 2→4 closed in column 2: node 2 is cut off from 4 in that column alone.
-fn detour() -> [u8; 84] {
-    closed_network(
-        [1, 2, 1, 3, 2, 3, 2, 4, 3, 4],
-        [2, 5, 1, 6, 2, 4, 1, CLOSED, CLOSED, 7],
-    )
 }
 
 // 1 3 4 is the one path that is open in both columns.

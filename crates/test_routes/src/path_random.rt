@@ -35,23 +35,6 @@ fn put_labels(labels: &mut [u32], start: u32, of_node: Costs) {
     }
 }
 
-// All paths from a start to a goal with their costs, and their number.
-fn lay_out_paths(
-    start: u32,
-    goal: u32,
-    arcs: &[u16],
-    costs: &[u32],
-    rows: &mut [Row],
-    prices: &mut [Costs],
-) -> usize {
-    let paths = test_enumerate::all_paths(arcs, node(start), node(goal), rows);
-    if rows.len() < paths {
-        return paths;
-    }
-    test_enumerate::all_costs(arcs, costs, &rows[0..paths], prices);
-    paths
-}
-
 // Shortest in column u, by all paths with their costs. The slice is exactly long enough or longer.
 fn note_first(
     report: Report,
@@ -195,7 +178,7 @@ fn note_code(
     if header.n < start || header.n < goal {
         return report;
     }
-    let paths = lay_out_paths(start, goal, arcs, costs, rows, prices);
+    let paths = test_enumerate::priced_paths(arcs, costs, node(start), node(goal), rows, prices);
     if rows.len() < paths {
         return report.note(LABEL, false);
     }

@@ -1,10 +1,5 @@
 // The cases of Rank (REFERENCE, section 8): network S, the network of zero costs, the network without
 // arcs and the line of 200 nodes.
-use super::case_images::line;
-use super::case_images::line_path;
-use super::case_images::network_s;
-use super::case_images::no_arcs;
-use super::case_images::zero_costs;
 use test_calls::answers::refusal;
 use test_calls::answers::single;
 use test_calls::rank_calls::Request;
@@ -13,6 +8,11 @@ use test_calls::rank_calls::needed_rooms;
 use test_calls::rank_calls::note_rank;
 use test_calls::rank_calls::rank_agrees;
 use test_calls::rank_calls::rank_into;
+use test_fixtures::case_images::line;
+use test_fixtures::case_images::line_path;
+use test_fixtures::case_images::network_s;
+use test_fixtures::case_images::no_arcs;
+use test_fixtures::case_images::zero_costs;
 use test_fixtures::report::RANK;
 use test_fixtures::report::Report;
 use test_fixtures::slices::NODE_PATTERN;

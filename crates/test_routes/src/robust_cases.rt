@@ -1,10 +1,5 @@
 // The cases of Robust (REFERENCE, section 8): network S, the network of zero costs, the network without
 // arcs and the line of 200 nodes.
-use super::case_images::line;
-use super::case_images::line_path;
-use super::case_images::network_s;
-use super::case_images::no_arcs;
-use super::case_images::zero_costs;
 use test_calls::answers::Answer;
 use test_calls::answers::left_open;
 use test_calls::answers::refusal;
@@ -15,6 +10,11 @@ use test_calls::robust_calls::needed_route_rooms;
 use test_calls::robust_calls::note_robust;
 use test_calls::robust_calls::robust_agrees;
 use test_calls::robust_calls::robust_into;
+use test_fixtures::case_images::line;
+use test_fixtures::case_images::line_path;
+use test_fixtures::case_images::network_s;
+use test_fixtures::case_images::no_arcs;
+use test_fixtures::case_images::zero_costs;
 use test_fixtures::report::ROBUST;
 use test_fixtures::report::Report;
 use test_fixtures::slices::NODE_PATTERN;

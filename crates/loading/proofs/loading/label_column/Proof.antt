@@ -2,11 +2,12 @@
 use Prim.Native.Nat.{ℕ, _+_}
 use native.Mathlib.Omega.{arith}
 use mathlib.Core.Path.{_≡_, sym, _∙_, ap, subst}
-use Rattle.terms.specs.Network.{cost-column, open-in, restrict}
+use mathlib.Core.Bool.{Bool}
+use Rattle.terms.specs.Network.{cost-column, restrict}
 use Rattle.image.specs.Layout.{netOf}
 use Rattle.star.specs.Layout.{Network}
 use Rattle.loading.specs.Selected.{selected}
-use Rattle.loading.specs.Loaded.{Shape}
+use Rattle.loading.specs.Loaded.{Shape, Loaded}
 use Rattle.loading.proofs.SelectLaws.{selected-restrict, selected-costs}
 use Rattle.loading.proofs.LoadLaws.{network-of, loaded}
 use Rattle.loading.proofs.DecodeLaws.{admitted}
@@ -21,22 +22,25 @@ start c = c .before .before .before .before .before .before .before
 abbrev filled : tie.After-read-column → tie.After-fill-star
 filled c = c .before .before .before .before
 
--- the arcs that are read are those that are open in the column
-opened : (f : tie.After-fill-star) → let s = start f in selected (s .args .kept .now) (netOf (s .args .image .now)) ≡ restrict (open-in (netOf (s .args .image .now)) (s .args .u)) (netOf (s .args .image .now))
-opened f = let p = start f .pre in selected-restrict (admitted (p .0 .0)) _ (p .0 .0 .arcs-are) (p .1 .0)
+abbrev test : tie.After-fill-star → ℕ → Bool
+test f = start f .pre .1 .0 .test
 
-shape : (f : tie.After-fill-star) → let s = start f in Shape (restrict (open-in (netOf (s .args .image .now)) (s .args .u)) (netOf (s .args .image .now))) (f .fill-star .last .1 .1 .1 .0)
-shape f = subst (λ net. Shape net (f .fill-star .last .1 .1 .1 .0)) (opened f) (f .fill-star .ensures)
+-- the arcs that are read are those that pass the test
+some : (f : tie.After-fill-star) → let s = start f in selected (s .args .kept .now) (netOf (s .args .image .now)) ≡ restrict (test f) (netOf (s .args .image .now))
+some f = let p = start f .pre in selected-restrict (admitted (p .0 .0)) (test f) (p .0 .0 .arcs-are) (p .1 .0 .are)
 
-weights : (w : tie.After-read-column) → let s = start (filled w) in w .read-column .last .1 .1 .1 .1 .0 ≡ cost-column (restrict (open-in (netOf (s .args .image .now)) (s .args .u)) (netOf (s .args .image .now))) (s .args .u)
+shape : (f : tie.After-fill-star) → let s = start f in Shape (restrict (test f) (netOf (s .args .image .now))) (f .fill-star .last .1 .1 .1 .0)
+shape f = subst (λ net. Shape net (f .fill-star .last .1 .1 .1 .0)) (some f) (f .fill-star .ensures)
+
+weights : (w : tie.After-read-column) → let s = start (filled w) in w .read-column .last .1 .1 .1 .1 .0 ≡ cost-column (restrict (test (filled w)) (netOf (s .args .image .now))) (s .args .u)
 weights w = let s = start (filled w) in
     let p = s .pre in
-    w .read-column .ensures ∙ sym (selected-costs (s .args .kept .now) (netOf (s .args .image .now)) (s .args .u) (p .0 .1 .from) (p .0 .1 .upto)) ∙ ap (λ net. cost-column net (s .args .u)) (opened (filled w))
+    w .read-column .ensures ∙ sym (selected-costs (s .args .kept .now) (netOf (s .args .image .now)) (s .args .u) (p .0 .1 .from) (p .0 .1 .upto)) ∙ ap (λ net. cost-column net (s .args .u)) (some (filled w))
 
--- so they make the column's graph
+-- so they make a graph
 network : (w : tie.After-read-column) (k : ℕ) → k ≡ start (filled w) .args .sizes .n + 1 → Network k (filled w .fill-star .last .1 .1 .1 .0) (w .read-column .last .1 .1 .1 .1 .0)
-network w k e = let p = start (filled w) .pre .0 in
-    network-of (admitted (p .0)) (p .1 .from) (p .1 .upto) (shape (filled w)) (weights w) k (e ∙ ap (λ (x : ℕ). x + 1) (p .0 .nodes-are))
+network w k e = let p = start (filled w) .pre in
+    network-of (admitted (p .0 .0)) (p .0 .1 .from) (p .0 .1 .upto) (test (filled w)) (p .1 .0 .opened) (shape (filled w)) (weights w) k (e ∙ ap (λ (x : ℕ). x + 1) (p .0 .0 .nodes-are))
 
 label-nodes-requires : tie.Need-label-nodes-requires
 label-nodes-requires c κs =
@@ -48,8 +52,10 @@ returns : tie.Need-returns
 returns c =
     let l = c .before .before in
     let w = l .before .before .before .before .before .before in
-    let p = start (filled w) .pre in
-    loaded (admitted (p .0 .0)) (p .0 .1 .from) (p .0 .1 .upto) (shape (filled w)) (weights w) (l .label-nodes .ensures) (l .label-nodes .kept .1 .1 .1 .0 ∙ p .1 .1 .labels-long ∙ ap (λ (x : ℕ). x + 1) (p .0 .0 .nodes-are))
+    let f = filled w in
+    let p = start f .pre in
+    subst (λ net. Loaded net (start f .args .u) (start f .args .goal) (f .fill-star .last .1 .1 .1 .0) (w .read-column .last .1 .1 .1 .1 .0) (l .label-nodes .last .1 .1 .1 .0)) (sym (some f))
+    (loaded (admitted (p .0 .0)) (p .0 .1 .from) (p .0 .1 .upto) (test f) (p .1 .0 .opened) (shape f) (weights w) (l .label-nodes .ensures) (l .label-nodes .kept .1 .1 .1 .0 ∙ p .1 .1 .labels-long ∙ ap (λ (x : ℕ). x + 1) (p .0 .0 .nodes-are)))
 
 pub label-column-spec : {M : Type 1} → statement M
 label-column-spec =

@@ -1,28 +1,19 @@
--- `loading::load_common` makes room for the indices. Assumes nothing.
-use mathlib.Core.Path.{sym}
-use Rattle.terms.proofs.RoomLaws.{part-long}
-use Rattle.loading.proofs.DecodeLaws.{few-arcs}
+-- `loading::load_common`: an empty map closes nothing. Assumes nothing.
+use Rattle.loading.proofs.LoadLaws.{shared-all}
 use borrow.Author.Needs.{needs}
 use Rattle.loading.proofs.loading.load_common.Statement.{statement}
 use Rattle.loading.proofs.loading.load_common.Tie as tie
 
-array-borrow-prefix-kept : tie.Need-array-borrow-prefix-kept
-array-borrow-prefix-kept c = few-arcs (c .before .before .before .before .pre .0)
-
-slice-aggregate-load-common-in : tie.Need-slice-aggregate-load-common-in
-slice-aggregate-load-common-in c = sym (part-long 1000 _ (few-arcs (c .before .before .before .before .before .pre .0)))
-
-load-common-in-requires : tie.Need-load-common-in-requires
-load-common-in-requires c κs = let p = c .before .before .before .before .before .before .before .pre in ((p .0, part-long 1000 _ (few-arcs (p .0))), p .1)
+returns : tie.Need-returns
+returns c = let l = c .before .before .before .before in
+    (l .load-common-left .ensures .0, shared-all (l .load-common-left .ensures .1))
 
 pub load-common-spec : {M : Type 1} → statement M
 load-common-spec =
     tie.close
     (tie.spec
     (λ c. search needs)
-    array-borrow-prefix-kept
-    slice-aggregate-load-common-in
-    load-common-in-requires
+    (λ c κs. search needs)
     (λ c. search needs)
     (λ c. search needs)
-    (λ c. search needs))
+    returns)

@@ -6,19 +6,23 @@ use mathlib.Core.Path.{sym, _∙_, ap, subst, subst₂}
 use mathlib.Core.List.{List}
 use lib.ListN.{length, drop}
 use lib.Seq.{length-take-le, take-at}
+use mathlib.Core.Bool.{_&&_}
+use Rattle.terms.specs.Network.{open-everywhere}
 use Rattle.image.specs.Layout.{netOf}
+use Rattle.closures.specs.Map.{left, without}
 use Rattle.loading.specs.Loaded.{star-size, Shared}
-use Rattle.loading.proofs.DecodeLaws.{few-arcs, few-columns}
+use Rattle.loading.proofs.DecodeLaws.{admitted, few-arcs, few-columns}
+use Rattle.loading.proofs.LoadLaws.{shared-left}
 use borrow.Author.Needs.{needs}
 use Rattle.loading.proofs.loading.load_common_in.Statement.{statement}
 use Rattle.loading.proofs.loading.load_common_in.Tie as tie
 
 -- these arcs are no more than there are places
 abbrev start : tie.After-select-common → tie.Start
-start s = s .before .before .before .before .before .before
+start s = s .before .before .before .before .before .before .before
 
-few : (s : tie.After-select-common) → s .select-common .result ≤ length (s .select-common .last .1 .1 .0)
-few s = omega (arith, s .select-common .ensures .0, s .select-common .kept .1 .1 .0, start s .pre .0 .1)
+few : (s : tie.After-select-common) → s .select-common .result ≤ length (s .select-common .last .1 .1 .1 .0)
+few s = omega (arith, s .select-common .ensures .0, s .select-common .kept .1 .1 .1 .0, start s .pre .0 .1)
 
 star-fits : (s : tie.After-select-common) → star-size (start s .args .sizes .n) (s .select-common .result) ≤ length (start s .args .star .now)
 star-fits s = omega (arith, s .select-common .ensures .0, start s .pre .1 .0)
@@ -50,7 +54,7 @@ fill-common-requires : tie.Need-fill-common-requires
 fill-common-requires c κs = let s = c .before .before .before .before .before .before .before in
     let p = start s .pre in
     let m = length-take-le _ _ (few s) in
-    ((p .0 .0, s .select-common .ensures .1), (length-take-le _ _ (star-fits s) ∙ ap (star-size (start s .args .sizes .n)) (sym m), length-take-le _ _ (costs-fit s) ∙ ap (λ (x : ℕ). x * start s .args .sizes .k) (sym m)))
+    ((p .0 .0, record { test = λ i. left (start s .args .closed .now) i && open-everywhere (netOf (start s .args .image .now)) i; are = s .select-common .ensures .1 }), (length-take-le _ _ (star-fits s) ∙ ap (star-size (start s .args .sizes .n)) (sym m), length-take-le _ _ (costs-fit s) ∙ ap (λ (x : ℕ). x * start s .args .sizes .k) (sym m)))
 
 returns : tie.Need-returns
 returns c = let l = c .before .before .before .before in
@@ -58,12 +62,13 @@ returns c = let l = c .before .before .before .before in
     let star = l .fill-common .last .1 .1 .1 .0 in
     let costs = l .fill-common .last .1 .1 .1 .1 .0 in
     let a = start s .args in
+    let p = start s .pre .0 .0 in
     let m = s .select-common .result in
     let z = star-size (a .sizes .n) m in
     let all = m * a .sizes .k in
     let e = take-at star (drop z (a .star .now)) z (l .fill-common .kept .1 .1 .1 .0 ∙ length-take-le _ _ (star-fits s)) in
     let f = take-at costs (drop all (a .costs .now)) all (l .fill-common .kept .1 .1 .1 .1 .0 ∙ length-take-le _ _ (costs-fit s)) in
-    (s .select-common .ensures .0, subst₂ (λ (x y : List ℕ). Shared (netOf (a .image .now)) m x y) (sym e) (sym f) (subst (λ (x : ℕ). Shared (netOf (a .image .now)) x star costs) (length-take-le _ _ (few s)) (l .fill-common .ensures)))
+    (s .select-common .ensures .0, subst₂ (λ (x y : List ℕ). Shared (without (a .closed .now) (netOf (a .image .now))) m x y) (sym e) (sym f) (subst (λ (x : ℕ). Shared (without (a .closed .now) (netOf (a .image .now))) x star costs) (length-take-le _ _ (few s)) (shared-left (admitted p) (a .closed .now) (p .arcs-are) (s .select-common .ensures .1) (l .fill-common .ensures .0) (l .fill-common .ensures .1))))
 
 pub load-common-in-spec : {M : Type 1} → statement M
 load-common-in-spec =

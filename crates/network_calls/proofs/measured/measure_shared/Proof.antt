@@ -22,7 +22,7 @@ use Rattle.network_calls.proofs.measured.measure_shared.Tie as tie
 
 -- column 1 stands at the beginning of the costs
 first-fits : (s : tie.Start) → s .args .m ≤ length (s .args .costs .now)
-first-fits s = let p = s .pre .0 in first-lies (p .0) (p .1)
+first-fits s = let p = s .pre .0 in first-lies (admitted (p .0)) (p .0 .columns-are) (p .1)
 
 slice-aggregate-check-list : tie.Need-slice-aggregate-check-list
 slice-aggregate-check-list c = sym (length-take-le _ _ (first-fits (c .before .before .before .before .before .before)))
@@ -31,7 +31,7 @@ check-list-requires : tie.Need-check-list-requires
 check-list-requires c κs = let s = c .before .before .before .before .before .before .before in
     let p = s .pre in
     let n = p .0 .0 .nodes-are in
-    (subst (λ x. Network (x + 1) (s .args .star .now) (take (s .args .m) (s .args .costs .now))) (sym n) (first-network (p .0 .0) (p .0 .1)), subst (λ x. Node x (s .args .start)) (sym n) (p .1 .start-in))
+    (subst (λ x. Network (x + 1) (s .args .star .now) (take (s .args .m) (s .args .costs .now))) (sym n) (first-network (admitted (p .0 .0)) (p .0 .0 .columns-are) (p .0 .1)), subst (λ x. Node x (s .args .start)) (sym n) (p .1 .start-in))
 
 -- the list is held to the paths that are open in every column
 abbrev start : tie.After-check-list → tie.Start
@@ -39,7 +39,7 @@ start l = l .before .before .before .before .before .before .before .before
 
 listed : (l : tie.After-check-list) → let a = start l .args in list-fault (l .check-list .result) ≡ open-fault (netOf (a .image .now)) (a .start) (a .goal) (a .nodes .now)
 listed l = let s = start l in
-    l .check-list .ensures ∙ first-fault (s .pre .0 .0) (s .pre .0 .1) (s .args .start) (s .args .goal) (s .args .nodes .now)
+    l .check-list .ensures ∙ first-fault (admitted (s .pre .0 .0)) (s .pre .0 .0 .columns-are) (s .pre .0 .1) (s .args .start) (s .args .goal) (s .args .nodes .now)
 
 returns : tie.Need-returns
 returns c = let l = c .before .before .before in

@@ -9,7 +9,7 @@ use Rattle.network_calls.proofs.pricing.own_bests.Statement.{statement}
 use Rattle.network_calls.proofs.pricing.own_bests.Tie as tie
 
 abbrev entry : tie.After-struct-known2 → tie.Start
-entry c = c .before .before .before .before
+entry c = c .before .before .before .before .before
 
 ready : (c : tie.After-struct-known2) → Accepted (entry c .args .image .now) (entry c .args .sizes)
 ready c = entry c .pre .0

@@ -1,0 +1,4 @@
+pub mod LabelLaws
+pub mod TableLaws
+pub mod SharedLaws
+pub mod AnswerLaws

@@ -1,0 +1,4 @@
+pub mod Calls
+pub mod Demands
+pub mod Answers
+pub mod Labelled

@@ -1,0 +1,4 @@
+pub mod Weeks
+pub mod Asked
+pub mod Answers
+pub mod Promise
