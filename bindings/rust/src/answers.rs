@@ -46,6 +46,26 @@ pub struct Choice {
     pub state: State,
 }
 
+impl Choice {
+    /// The choice that the core tells by its route and by figure, worst column, count, state and floor.
+    pub(crate) fn of(route: &[u16], numbers: [u32; 5]) -> Choice {
+        let [figure, worst_column, count, state, floor] = numbers;
+        Choice {
+            route: route.iter().copied().map(u32::from).collect(),
+            regret: Regret {
+                figure,
+                worst_column,
+            },
+            count,
+            state: if state == 1 {
+                State::Settled
+            } else {
+                State::Open { floor }
+            },
+        }
+    }
+}
+
 /// `settled`, or `open floor F`.
 impl fmt::Display for State {
     fn fmt(&self, f: &mut fmt::Formatter<'_>) -> fmt::Result {
@@ -70,6 +90,17 @@ impl fmt::Display for Choice {
         write!(f, "\nregret {figure} column {worst_column}")?;
         write!(f, "\nranked {} {}", self.count, self.state)
     }
+}
+
+/// The route of least greatest regret of all, found depth first.
+#[derive(Clone, Debug, PartialEq, Eq, Hash)]
+pub struct Search {
+    /// The nodes of the route, from start to goal: of routes with equal figures the first by node list.
+    pub route: Vec<u32>,
+    /// Its greatest regret, which is that of every settled [`Choice`] between the same nodes.
+    pub regret: Regret,
+    /// How many arcs were tried.
+    pub tried: u32,
 }
 
 /// What a search for an arc found.

@@ -4,11 +4,17 @@
 //! A call that is refused changes no slice. Places beyond those that a call is said to write keep their
 //! content. A workspace needs (K+1)(n+16) + 16n + 64 places, and all of it is 0 after a result.
 
-use crate::raw::{self, Reply};
+use crate::raw::{self, Reply, WeekReply, WeekState};
 
 /// The mark. In the place of a cost, which it may have in edition 2 only: the arc is closed in that
 /// column. In the place of a label: the goal can't be reached from the node.
 pub const MARK: u32 = u32::MAX;
+
+/// The version of the library that is linked: major times 1,000,000, plus minor times 1,000, plus patch.
+pub fn version() -> u32 {
+    // SAFETY: the function takes nothing and gives a number.
+    unsafe { raw::vihrolom_version() }
+}
 
 /// Check: is this an image? Values: n, m, k, edition.
 pub fn check(image: &[u8]) -> Reply {
@@ -126,6 +132,24 @@ pub fn robust(
     }
 }
 
+/// Search: writes the first by node list of all paths with the least greatest regret; needs n places. Values:
+/// length, figure, worst column, arcs tried, which are at most `limit`.
+pub fn search(image: &[u8], start: u32, goal: u32, limit: u32, path: &mut [u16]) -> Reply {
+    // SAFETY: each pointer and length are those of a slice that is borrowed for the call; the one that
+    // is written is borrowed mutably, so that it overlaps no other.
+    unsafe {
+        raw::vihrolom_search(
+            image.as_ptr(),
+            image.len(),
+            start,
+            goal,
+            limit,
+            path.as_mut_ptr(),
+            path.len(),
+        )
+    }
+}
+
 /// Build: writes the image, of edition 1 or 2, of a network of n nodes and k columns, from 2m node
 /// numbers and mk costs; needs 24 + 4m + 4mk bytes. Value: length.
 pub fn build(
@@ -187,6 +211,63 @@ pub fn update(image: &mut [u8], records: &[u32]) -> Reply {
             image.len(),
             records.as_ptr(),
             records.len(),
+        )
+    }
+}
+
+/// Fresh: the state of a week in which every road is open, with Robust's answer.
+pub fn week_fresh(
+    image: &[u8],
+    column: u32,
+    start: u32,
+    goal: u32,
+    k: u32,
+    work: &mut [u32],
+) -> WeekReply {
+    // SAFETY: each pointer and length are those of a slice that is borrowed for the call; the one that
+    // is written is borrowed mutably, so that it overlaps no other.
+    unsafe {
+        raw::vihrolom_week_fresh(
+            image.as_ptr(),
+            image.len(),
+            column,
+            start,
+            goal,
+            k,
+            work.as_mut_ptr(),
+            work.len(),
+        )
+    }
+}
+
+/// Event: the state after an arc is closed, or opened, in every column. Any state may be given.
+#[allow(clippy::too_many_arguments)] // they are those of the C function
+pub fn week_event(
+    image: &[u8],
+    column: u32,
+    start: u32,
+    goal: u32,
+    k: u32,
+    week: WeekState,
+    arc: u32,
+    close: bool,
+    work: &mut [u32],
+) -> WeekReply {
+    // SAFETY: each pointer and length are those of a slice that is borrowed for the call; the one that
+    // is written is borrowed mutably, so that it overlaps no other.
+    unsafe {
+        raw::vihrolom_week_event(
+            image.as_ptr(),
+            image.len(),
+            column,
+            start,
+            goal,
+            k,
+            week,
+            arc,
+            close.into(),
+            work.as_mut_ptr(),
+            work.len(),
         )
     }
 }

@@ -8,7 +8,9 @@ pub mod calls;
 mod network;
 pub mod raw;
 mod refusal;
+mod week;
 
-pub use answers::{Choice, Found, Path, Record, Regret, State};
+pub use answers::{Choice, Found, Path, Record, Regret, Search, State};
 pub use network::Network;
 pub use refusal::Refusal;
+pub use week::Week;

@@ -1,6 +1,6 @@
 //! An accepted network, and the calls on it.
 
-use crate::{calls, Choice, Found, Path, Record, Refusal, Regret, State};
+use crate::{calls, Choice, Found, Path, Record, Refusal, Regret, Search, Week};
 
 /// The length of the longest image: 1,000 arcs and 8 columns.
 const LONGEST_IMAGE: usize = 24 + 4 * 1_000 * (1 + 8);
@@ -11,8 +11,9 @@ const MOST_PATHS: u32 = 256;
 /// A network whose image the core has accepted: 2 to 200 nodes, up to 1,000 arcs, 1 to 8 columns,
 /// costs up to 1,000,000; in edition 2 an arc may be closed in a column.
 ///
-/// Paths of a column use arcs that are open in it. [`Network::regret`] and [`Network::robust`] are about
-/// paths that are open in every column, and hold them in each against the best path of that column.
+/// Paths of a column use arcs that are open in it. [`Network::regret`], [`Network::robust`] and
+/// [`Network::search`] are about paths that are open in every column, and hold them in each against the best
+/// path of that column.
 ///
 /// Nodes and columns are numbered from 1. Any number may be given to a call; what is not
 /// admitted is refused.
@@ -140,7 +141,7 @@ impl Network {
         let room = room_for(k);
         let mut rows = vec![0; room * n];
         let mut costs = vec![0; room];
-        let mut work = vec![0; self.workspace(room)];
+        let mut work = self.workspace(k);
         let image = &self.image;
         let reply = calls::rank(
             image, column, start, goal, k, &mut rows, &mut costs, &mut work,
@@ -159,21 +160,30 @@ impl Network {
     /// counted until the stopping rule holds, at most `k` of them. `k` is 1 to 256.
     pub fn robust(&self, column: u32, start: u32, goal: u32, k: u32) -> Result<Choice, Refusal> {
         let mut path = vec![0; self.nodes as usize];
-        let mut work = vec![0; self.workspace(room_for(k))];
+        let mut work = self.workspace(k);
         let reply = calls::robust(&self.image, column, start, goal, k, &mut path, &mut work);
-        let [length, figure, worst_column, count, state, floor] = reply.values()?;
-        Ok(Choice {
+        let [length, numbers @ ..] = reply.values()?;
+        Ok(Choice::of(&path[..length as usize], numbers))
+    }
+
+    /// The week of the route from start to goal, with every road open yet; `k` is 1 to 256.
+    pub fn week(&self, column: u32, start: u32, goal: u32, k: u32) -> Result<Week<'_>, Refusal> {
+        Week::new(self, column, start, goal, k)
+    }
+
+    /// The route of least greatest regret of all that are open in every column, found depth first; it tries at
+    /// most `limit` arcs, or is refused.
+    pub fn search(&self, start: u32, goal: u32, limit: u32) -> Result<Search, Refusal> {
+        let mut path = vec![0; self.nodes as usize];
+        let [length, figure, worst_column, tried, ..] =
+            calls::search(&self.image, start, goal, limit, &mut path).values()?;
+        Ok(Search {
             route: in_32_bits(&path[..length as usize]),
             regret: Regret {
                 figure,
                 worst_column,
             },
-            count,
-            state: if state == 1 {
-                State::Settled
-            } else {
-                State::Open { floor }
-            },
+            tried,
         })
     }
 
@@ -198,15 +208,15 @@ impl Network {
         Network::from_image(image)
     }
 
-    /// The size of the workspace for this many paths.
-    fn workspace(&self, paths: usize) -> usize {
+    /// A workspace for `k` paths. A K above the most is refused as row 12 whatever the slices' lengths
+    /// are, for row 13 stands later.
+    pub(crate) fn workspace(&self, k: u32) -> Vec<u32> {
         let n = self.nodes as usize;
-        (paths + 1) * (n + 16) + 16 * n + 64
+        vec![0; (room_for(k) + 1) * (n + 16) + 16 * n + 64]
     }
 }
 
-/// The number of paths to make room for. A K above the most is refused as row 12 whatever the slices'
-/// lengths are, for row 13 stands later.
+/// The number of paths to make room for.
 fn room_for(k: u32) -> usize {
     k.min(MOST_PATHS) as usize
 }

@@ -35,20 +35,74 @@ impl Reply {
     /// # Panics
     /// If the refusal has a number that the table hasn't got: then library and crate don't belong together.
     pub fn values(self) -> Result<[u32; 6], Refusal> {
-        if self.refusal == 0 {
-            return Ok([self.v0, self.v1, self.v2, self.v3, self.v4, self.v5]);
-        }
-        match Refusal::from_numbers(self.refusal, self.place) {
-            Some(refusal) => Err(refusal),
-            None => panic!(
-                "libcapi.a gave refusal {}, which this crate doesn't know",
-                self.refusal
-            ),
-        }
+        result(self.refusal, self.place)?;
+        Ok([self.v0, self.v1, self.v2, self.v3, self.v4, self.v5])
+    }
+}
+
+/// The state of a week in which roads close and reopen, passed and returned by value. What an answer
+/// hasn't got is 0.
+#[repr(C)]
+#[derive(Clone, Copy, Debug, PartialEq, Eq, Hash)]
+pub struct WeekState {
+    /// Arc i is closed if bit i % 64 of word i / 64 is set; bits from m on close nothing.
+    pub closed: [u64; 16],
+    /// The nodes of the route, then 0.
+    pub route: [u16; 200],
+    /// 1 settled, 2 open, 15 no path is left.
+    pub state: u32,
+    /// The route's length in nodes.
+    pub length: u32,
+    /// Its figure.
+    pub figure: u32,
+    /// Its worst column.
+    pub worst: u32,
+    /// How many paths the last full run counted.
+    pub count: u32,
+    /// The floor, if the answer is open.
+    pub floor: u32,
+}
+
+/// The answer of a call on a week, returned by value.
+#[repr(C)]
+#[derive(Clone, Copy, Debug, PartialEq, Eq)]
+pub struct WeekReply {
+    /// 0 for a result, else the number of the refusal.
+    pub refusal: u32,
+    /// The place of the refusal, 0 if it names none.
+    pub place: u32,
+    /// How many roads are closed, 0 beside a refusal.
+    pub closed_roads: u32,
+    /// The state after the call: beside a refusal the one that was given, or all 0 if it was Fresh.
+    pub week: WeekState,
+}
+
+impl WeekReply {
+    /// The state and the number of closed roads of a result, or the refusal.
+    ///
+    /// # Panics
+    /// As [`Reply::values`] does.
+    pub fn values(self) -> Result<(WeekState, u32), Refusal> {
+        result(self.refusal, self.place)?;
+        Ok((self.week, self.closed_roads))
+    }
+}
+
+/// The refusal of a reply, if it has one.
+fn result(number: u32, place: u32) -> Result<(), Refusal> {
+    if number == 0 {
+        return Ok(());
+    }
+    match Refusal::from_numbers(number, place) {
+        Some(refusal) => Err(refusal),
+        None => panic!("the library gave refusal {number}, which this crate doesn't know"),
     }
 }
 
 extern "C" {
+    /// The library's version: major times 1,000,000, plus minor times 1,000, plus patch.
+    pub fn vihrolom_version() -> u32;
+
     /// Check. v: n, m, k, edition.
     pub fn vihrolom_check(image: *const u8, image_length: usize) -> Reply;
 
@@ -114,6 +168,17 @@ extern "C" {
         work_length: usize,
     ) -> Reply;
 
+    /// Search: writes the path. v: length, figure, worst column, arcs tried.
+    pub fn vihrolom_search(
+        image: *const u8,
+        image_length: usize,
+        start: u32,
+        goal: u32,
+        limit: u32,
+        path: *mut u16,
+        path_length: usize,
+    ) -> Reply;
+
     /// Build: writes an image of an edition, of n nodes and k columns. v: length.
     pub fn vihrolom_build(
         edition: u32,
@@ -147,4 +212,31 @@ extern "C" {
 
     /// Find. v: found (1 or 0), index (0 if there is none), looks.
     pub fn vihrolom_find(image: *const u8, image_length: usize, tail: u32, head: u32) -> Reply;
+
+    /// Fresh: the state of a week in which every road is open; clears the workspace.
+    pub fn vihrolom_week_fresh(
+        image: *const u8,
+        image_length: usize,
+        column: u32,
+        start: u32,
+        goal: u32,
+        k: u32,
+        work: *mut u32,
+        work_length: usize,
+    ) -> WeekReply;
+
+    /// Event: the state after an arc is closed, or opened if `close` is 0; clears the workspace.
+    pub fn vihrolom_week_event(
+        image: *const u8,
+        image_length: usize,
+        column: u32,
+        start: u32,
+        goal: u32,
+        k: u32,
+        week: WeekState,
+        arc: u32,
+        close: u32,
+        work: *mut u32,
+        work_length: usize,
+    ) -> WeekReply;
 }

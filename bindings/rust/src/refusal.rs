@@ -40,12 +40,16 @@ pub enum Refusal {
     /// else the first position whose node repeats or has no arc from the node before that is open in
     /// every column, else the list's length.
     NotAPath(u32),
-    /// 15: no path exists in the column, or, in Robust, none that is open in every column.
+    /// 15: no path exists in the column, or, in Robust and Search, none that is open in every column.
     NoPath,
     /// 17: arc index of m or more, at this record, from 0.
     WrongRecordArc(u32),
     /// 18: column outside 1..k, at this record, from 0.
     WrongRecordColumn(u32),
+    /// 19: Search's rule tries more arcs than this limit.
+    TooManyArcs(u32),
+    /// 20: arc index of m or more in an event, which is the place.
+    WrongEventArc(u32),
 }
 
 impl Refusal {
@@ -69,6 +73,8 @@ impl Refusal {
             15 => Refusal::NoPath,
             17 => Refusal::WrongRecordArc(place),
             18 => Refusal::WrongRecordColumn(place),
+            19 => Refusal::TooManyArcs(place),
+            20 => Refusal::WrongEventArc(place),
             _ => return None,
         })
     }
@@ -93,6 +99,8 @@ impl Refusal {
             Refusal::NoPath => 15,
             Refusal::WrongRecordArc(_) => 17,
             Refusal::WrongRecordColumn(_) => 18,
+            Refusal::TooManyArcs(_) => 19,
+            Refusal::WrongEventArc(_) => 20,
         }
     }
 
@@ -123,6 +131,8 @@ impl Refusal {
             Refusal::NoPath => "no path exists",
             Refusal::WrongRecordArc(_) => "a record's arc index is m or more",
             Refusal::WrongRecordColumn(_) => "a record's column is outside 1..k",
+            Refusal::TooManyArcs(_) => "Search's rule tries more arcs than the limit",
+            Refusal::WrongEventArc(_) => "an event's arc index is m or more",
         }
     }
 
@@ -131,10 +141,12 @@ impl Refusal {
         match self {
             Refusal::ArcOutOfRange(arc)
             | Refusal::ArcToItself(arc)
-            | Refusal::ArcNotRising(arc) => Some(arc),
+            | Refusal::ArcNotRising(arc)
+            | Refusal::WrongEventArc(arc) => Some(arc),
             Refusal::CostTooLarge(index) => Some(index),
             Refusal::NotAPath(position) => Some(position),
             Refusal::WrongRecordArc(index) | Refusal::WrongRecordColumn(index) => Some(index),
+            Refusal::TooManyArcs(limit) => Some(limit),
             _ => None,
         }
     }

@@ -3,7 +3,7 @@
 use crate::tally::numbers;
 use std::path::Path as FilePath;
 use vihrolom::raw::Reply;
-use vihrolom::{calls, Choice, Found, Network, Path, Record, Refusal, Regret, State};
+use vihrolom::{calls, Choice, Found, Network, Path, Record, Refusal, Regret, Search, State, Week};
 
 const S_ARCS: [(u32, u32); 5] = [(1, 2), (1, 3), (2, 3), (2, 4), (3, 4)];
 const S_COLUMNS: [[u32; 5]; 2] = [[2, 5, 1, 6, 2], [4, 1, 2, 1, 7]];
@@ -122,6 +122,32 @@ fn robust_routes_of_s() {
     );
 }
 
+fn search(route: &[u32], figure: u32, worst_column: u32, tried: u32) -> Result<Search, Refusal> {
+    Ok(Search {
+        route: route.to_vec(),
+        regret: Regret {
+            figure,
+            worst_column,
+        },
+        tried,
+    })
+}
+
+#[test]
+fn searches_of_s() {
+    let s = network_s();
+    assert_eq!(s.search(1, 4, 5), search(&[1, 2, 4], 3, 1, 5));
+    assert_eq!(s.search(1, 4, u32::MAX), search(&[1, 2, 4], 3, 1, 5));
+    assert_eq!(s.search(2, 4, 3), search(&[2, 4], 3, 1, 3));
+    assert_eq!(s.search(1, 4, 4), Err(Refusal::TooManyArcs(4)));
+    assert_eq!(s.search(1, 4, 0), Err(Refusal::TooManyArcs(0)));
+    assert_eq!(s.search(4, 1, 0), Err(Refusal::NoPath));
+    assert_eq!(s.search(1, 1, 0), Err(Refusal::WrongEnds));
+    let closed = network_s_closed();
+    assert_eq!(closed.search(1, 4, 4), search(&[1, 2, 4], 3, 1, 4));
+    assert_eq!(closed.search(3, 4, 4), Err(Refusal::NoPath));
+}
+
 fn found(index: Option<u32>, looks: u32) -> Result<Found, Refusal> {
     Ok(Found { index, looks })
 }
@@ -202,6 +228,122 @@ fn refusals_of_s() {
     assert_eq!(s.regret(1, 4, &[]), Err(Refusal::NotAPath(0)));
     assert_eq!(s.regret(1, 4, &[2, 4]), Err(Refusal::NotAPath(0)));
     assert_eq!(s.regret(4, 1, &[4, 1]), Err(Refusal::NotAPath(1)));
+}
+
+/// What a week has: its answer, the closed ones among the five arcs of S, and their number.
+fn shown(week: &Week) -> (Option<Choice>, Vec<u32>, u32) {
+    let closed = (0..5).filter(|&arc| week.is_closed(arc)).collect();
+    (week.answer(), closed, week.closed_roads())
+}
+
+#[test]
+fn a_week_of_s() {
+    let s = network_s();
+    let by_2 = |figure| Some(choice(&[1, 2, 4], figure, 1, 1, State::Settled));
+    let mut week = s.week(2, 1, 4, 5).expect("a week");
+    assert_eq!(shown(&week), (by_2(3), vec![], 0));
+    // Beside the route, and no best changes.
+    assert_eq!(week.close(1), Ok(()));
+    assert_eq!(shown(&week), (by_2(3), vec![1], 1));
+    // Nothing changes.
+    assert_eq!((week.close(1), week.reopen(0)), (Ok(()), Ok(())));
+    assert_eq!(shown(&week), (by_2(3), vec![1], 1));
+    // On the route.
+    assert_eq!(week.close(3), Ok(()));
+    let by_2_and_3 = choice(&[1, 2, 3, 4], 0, 1, 1, State::Settled);
+    assert_eq!(shown(&week), (Some(by_2_and_3), vec![1, 3], 2));
+    assert_eq!(week.close(4), Ok(()));
+    assert_eq!(shown(&week), (None, vec![1, 3, 4], 3));
+    assert_eq!(week.reopen(3), Ok(()));
+    assert_eq!(shown(&week), (by_2(0), vec![1, 4], 2));
+    assert_eq!((week.reopen(4), week.reopen(1)), (Ok(()), Ok(())));
+    assert_eq!(week, s.week(2, 1, 4, 5).expect("a week"));
+    // Beside the route, and the best of column 1 changes.
+    assert_eq!(week.close(2), Ok(()));
+    assert_eq!(shown(&week), (by_2(1), vec![2], 1));
+}
+
+#[test]
+fn weeks_without_a_settled_answer() {
+    let s = network_s();
+    let mut week = s.week(1, 1, 4, 1).expect("a week");
+    let open = |figure| {
+        Some(choice(
+            &[1, 2, 3, 4],
+            figure,
+            2,
+            1,
+            State::Open { floor: 2 },
+        ))
+    };
+    assert_eq!(shown(&week), (open(8), vec![], 0));
+    assert_eq!(week.close(3), Ok(()));
+    assert_eq!(shown(&week), (open(5), vec![3], 1));
+    let mut week = s.week(1, 4, 1, 5).expect("a week");
+    assert_eq!(week.close(0), Ok(()));
+    assert_eq!(shown(&week), (None, vec![0], 1));
+}
+
+#[test]
+fn refusals_in_a_week() {
+    let s = network_s();
+    let refused = |column, start, goal, k| s.week(column, start, goal, k).map(|_| ());
+    assert_eq!(refused(0, 1, 1, 0), Err(Refusal::WrongEnds));
+    assert_eq!(refused(3, 4, 1, 0), Err(Refusal::WrongColumn));
+    assert_eq!(refused(1, 4, 1, 0), Err(Refusal::WrongPathCount));
+    assert_eq!(refused(1, 1, 4, u32::MAX), Err(Refusal::WrongPathCount));
+    let mut week = s.week(2, 1, 4, 5).expect("a week");
+    assert_eq!(week.close(1), Ok(()));
+    let before = week.clone();
+    for arc in [5, 1_000, u32::MAX] {
+        assert_eq!(week.close(arc), Err(Refusal::WrongEventArc(arc)));
+        assert_eq!(week.reopen(arc), Err(Refusal::WrongEventArc(arc)));
+        assert!(!week.is_closed(arc));
+    }
+    assert_eq!(week, before);
+    let no_arcs = Network::build(1, 2, &[], &[[0; 0]]).expect("a network");
+    let mut week = no_arcs.week(1, 1, 2, 1).expect("a week");
+    assert_eq!(week.close(0), Err(Refusal::WrongEventArc(0)));
+    assert_eq!(
+        Week::from_bytes(&[255; Week::BYTES], &no_arcs, 1, 1, 2, 1).map(|week| week.closed_roads()),
+        Ok(0)
+    );
+}
+
+#[test]
+fn a_week_is_saved_and_loaded() {
+    let s = network_s();
+    let mut week = s.week(2, 1, 4, 5).expect("a week");
+    assert_eq!((week.close(1), week.close(0)), (Ok(()), Ok(())));
+    let bytes = week.to_bytes();
+    assert_eq!((bytes[0], bytes[528]), (3, 15));
+    assert_eq!(Week::from_bytes(&bytes, &s, 2, 1, 4, 5), Ok(week));
+    assert_eq!(
+        Week::from_bytes(&bytes, &s, 3, 1, 4, 5),
+        Err(Refusal::WrongColumn)
+    );
+    // A state that no call has made is read as it is: bits from m on close nothing, and the length is capped.
+    let odd = Week::from_bytes(&[255; Week::BYTES], &s, 2, 1, 4, 5).expect("a week");
+    assert_eq!(shown(&odd), (None, vec![0, 1, 2, 3, 4], 5));
+    assert_eq!(odd.to_bytes(), [255; Week::BYTES]);
+    let mut bytes = [255; Week::BYTES];
+    (bytes[0], bytes[528]) = (0b1110_0000, 1);
+    bytes[529..532].fill(0);
+    let mut odd = Week::from_bytes(&bytes, &s, 2, 1, 4, 5).expect("a week");
+    let answer = odd.answer().expect("a settled answer");
+    assert_eq!((answer.route, answer.count), (vec![65_535; 200], u32::MAX));
+    assert_eq!((odd.close(1), odd.closed_roads()), (Ok(()), 1));
+    bytes[0] |= 2;
+    assert_eq!(odd.to_bytes(), bytes);
+    assert_eq!((odd.close(3), odd.closed_roads()), (Ok(()), 2));
+    assert_eq!(
+        odd.answer().map(|answer| answer.route),
+        Some(vec![1, 2, 3, 4])
+    );
+    assert_eq!(
+        odd.to_bytes()[..128],
+        [&[0b1110_1010][..], &[255; 127]].concat()
+    );
 }
 
 /// S in edition 2, with the arc 3→4 closed in column 2.
@@ -300,6 +442,7 @@ fn two_hundred_nodes_in_a_line() {
         network.robust(1, 1, 200, 256),
         Ok(choice(&line, 0, 1, 1, State::Settled))
     );
+    assert_eq!(network.search(1, 200, 199), search(&line, 0, 1, 199));
     assert_eq!(
         network.label(1, 200).map(|labels| labels[0]),
         Ok(Some(199_000_000))
@@ -477,7 +620,16 @@ fn each_row_has_its_number_its_place_and_its_words() {
         "start or goal outside 1..n, or equal"
     );
     assert_eq!(refusal(15, 0).to_string(), "no path exists");
+    assert_eq!(numbers(refusal(20, 5)), (20, 5));
+    assert_eq!(
+        refusal(20, 5).to_string(),
+        "an event's arc index is m or more (at 5)"
+    );
     assert_eq!(refusal(7, 3).to_string(), "tail equals head (at 3)");
+    assert_eq!(
+        refusal(19, 7).to_string(),
+        "Search's rule tries more arcs than the limit (at 7)"
+    );
     assert_eq!(
         refusal(14, 0).to_string(),
         "the node list is no path (at 0)"
@@ -489,7 +641,7 @@ fn each_row_has_its_number_its_place_and_its_words() {
 }
 
 #[test]
-#[should_panic(expected = "refusal 19, which this crate doesn't know")]
+#[should_panic(expected = "refusal 99, which this crate doesn't know")]
 fn a_library_with_other_rows_is_not_trusted() {
-    refusal(19, 0);
+    refusal(99, 0);
 }

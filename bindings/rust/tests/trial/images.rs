@@ -87,6 +87,7 @@ fn hold_refused(image: &[u8], refused: Refused) {
     assert_eq!(calls::label(image, 0, 1, costs.slice()), expected);
     assert_eq!(calls::shortest(image, 1, 0, 2, nodes.slice()), expected);
     assert_eq!(calls::regret(image, 1, 1, &[1, 2]), expected);
+    assert_eq!(calls::search(image, 1, 2, 0, nodes.slice()), expected);
     let (rows, in_costs, in_work) = (nodes.slice(), costs.slice(), work.slice());
     assert_eq!(
         calls::rank(image, 1, 1, 2, 3, rows, in_costs, in_work),

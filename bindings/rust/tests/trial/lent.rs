@@ -2,7 +2,7 @@
 //! beside a slice is touched.
 
 use crate::draw::{self, Asked, Draw};
-use crate::plain::{Net, Query, Refused};
+use crate::plain::{limits, within, Net, Query, Refused};
 use std::fmt::Debug;
 use std::io::Write;
 use vihrolom::calls;
@@ -174,6 +174,24 @@ impl Trial<'_> {
         self.calls += 1;
     }
 
+    fn search(&mut self, length: usize) {
+        let Asked { start, goal, .. } = self.asked;
+        let expected = self.query.search();
+        for limit in limits(&expected) {
+            let mut path = Lent::new(length);
+            let reply = calls::search(&self.image, start, goal, limit, path.slice());
+            let answer = unless_short(within(limit, &expected), length < self.sizes().0);
+            let values = answer.as_ref().map(|found| {
+                let length = found.route.len() as u32;
+                vec![length, found.figure, found.worst, found.tried]
+            });
+            assert_eq!(reply, reply_of(values));
+            let nodes = answer.map_or(vec![], |found| found.route);
+            path.assert_holds(&in_16_bits(&nodes));
+            self.calls += 1;
+        }
+    }
+
     /// The list that Regret reads may have any length, and stays as it is.
     fn regret(&mut self, nodes: &[u32]) {
         let Asked { start, goal, .. } = self.asked;
@@ -308,6 +326,7 @@ impl Trial<'_> {
         for length in lengths(self.net.n as usize) {
             self.label(length);
             self.shortest(length);
+            self.search(length);
         }
         for length in lengths(self.image.len()) {
             self.build(length);

@@ -21,7 +21,7 @@ struct Route {
 }
 
 /// Robust's answer; there is a floor exactly if it is open.
-#[derive(Debug, PartialEq)]
+#[derive(Clone, Debug, PartialEq)]
 pub struct Chosen {
     pub route: Vec<u32>,
     pub figure: u32,
@@ -30,7 +30,32 @@ pub struct Chosen {
     pub floor: Option<u32>,
 }
 
+/// Search's answer.
+#[derive(Clone, Debug, PartialEq)]
+pub struct Sought {
+    pub route: Vec<u32>,
+    pub figure: u32,
+    pub worst: u32,
+    pub tried: u32,
+}
+
 impl Net {
+    /// The network without some of its arcs.
+    pub fn without(&self, closed: &[bool]) -> Net {
+        let kept = |arc: &usize| !closed[*arc];
+        let column =
+            |costs: &Vec<Option<u32>>| (0..costs.len()).filter(kept).map(|i| costs[i]).collect();
+        Net {
+            edition: self.edition,
+            n: self.n,
+            arcs: (0..self.arcs.len())
+                .filter(kept)
+                .map(|i| self.arcs[i])
+                .collect(),
+            columns: self.columns.iter().map(column).collect(),
+        }
+    }
+
     /// The image of these lists.
     pub fn image(&self) -> Vec<u8> {
         let (m, k) = (self.arcs.len() as u32, self.columns.len() as u32);
@@ -237,7 +262,7 @@ impl Query<'_> {
     }
 
     /// For each column the least cost of all paths that are open in it.
-    fn bests(&self) -> Vec<Option<u32>> {
+    pub fn bests(&self) -> Vec<Option<u32>> {
         let columns = 1..=self.net.columns.len() as u32;
         columns
             .map(|column| self.net.least(column, &self.routes))
@@ -312,6 +337,108 @@ impl Query<'_> {
             floor: (needed > k as usize).then(|| in_column(k as usize + 1)),
         })
     }
+
+    /// Search by its rule, with no limit.
+    pub fn search(&self) -> Result<Sought, Refused> {
+        self.check_ends()?;
+        let open = |route: &Route| route.arcs.iter().all(|&arc| self.net.open(arc));
+        if !self.routes.iter().any(open) {
+            return Err((15, 0));
+        }
+        let columns = 1..=self.net.columns.len() as u32;
+        let labels = |node| {
+            let routes = self.net.routes(node, self.goal);
+            let least = |column| self.net.least(column, &routes);
+            columns.clone().map(least).collect()
+        };
+        let mut rule = Rule {
+            net: self.net,
+            goal: self.goal,
+            bests: self.bests(),
+            labels: (1..=self.net.n).map(labels).collect(),
+            best: None,
+            tried: 0,
+        };
+        let mut route = Route::default();
+        route.nodes.push(self.start);
+        rule.descend(&mut route);
+        let (_, best) = rule.best.expect("there is an open path");
+        let (figure, worst) = greatest(&self.deviations(&rule.bests, &best));
+        Ok(Sought {
+            route: best.nodes,
+            figure,
+            worst,
+            tried: rule.tried,
+        })
+    }
+}
+
+/// Search's rule: the best of each column, the labels of each node in all columns, and what it has found.
+struct Rule<'a> {
+    net: &'a Net,
+    goal: u32,
+    bests: Vec<Option<u32>>,
+    labels: Vec<Vec<Option<u32>>>,
+    best: Option<(u32, Route)>,
+    tried: u32,
+}
+
+impl Rule<'_> {
+    /// The largest, over the columns, of the cost of a partial route and the label of its last node, less the
+    /// column's best; `None` if an arc is closed or the goal out of reach in one.
+    fn outlook(&self, route: &Route) -> Option<u32> {
+        let labels = &self.labels[route.nodes[route.nodes.len() - 1] as usize - 1];
+        let ahead = |(index, &best): (usize, &Option<u32>)| {
+            Some(self.net.cost(index as u32 + 1, route)? + labels[index]? - best?)
+        };
+        let all: Option<Vec<u32>> = self.bests.iter().enumerate().map(ahead).collect();
+        Some(greatest(&all?).0)
+    }
+
+    /// Whether this is no smaller than the best figure, once there is one.
+    fn too_large(&self, figure: u32) -> bool {
+        self.best.as_ref().is_some_and(|(best, _)| figure >= *best)
+    }
+
+    /// Lengthens a partial route by its unused heads, the smallest first: arcs rise.
+    fn descend(&mut self, route: &mut Route) {
+        let last = route.nodes[route.nodes.len() - 1];
+        if last == self.goal {
+            let figure = self.outlook(route).expect("an open path");
+            if !self.too_large(figure) {
+                self.best = Some((figure, route.clone()));
+            }
+            return;
+        }
+        for (arc, &(tail, head)) in self.net.arcs.iter().enumerate() {
+            if tail != last || route.nodes.contains(&head) {
+                continue;
+            }
+            self.tried += 1;
+            route.nodes.push(head);
+            route.arcs.push(arc);
+            let figure = self.outlook(route);
+            if figure.is_some_and(|figure| !self.too_large(figure)) {
+                self.descend(route);
+            }
+            route.nodes.pop();
+            route.arcs.pop();
+        }
+    }
+}
+
+/// Search's answer with a limit: row 19 if the rule tries more arcs.
+pub fn within(limit: u32, answer: &Result<Sought, Refused>) -> Result<Sought, Refused> {
+    match answer {
+        Ok(found) if found.tried > limit => Err((19, limit)),
+        _ => answer.clone(),
+    }
+}
+
+/// Limits to try where the rule comes to this answer: below its count of arcs, at it and above it.
+pub fn limits(answer: &Result<Sought, Refused>) -> [u32; 4] {
+    let tried = answer.as_ref().map_or(1, |found| found.tried);
+    [0, tried - 1, tried, u32::MAX]
 }
 
 /// The largest deviation, and the lowest-numbered column that has it.

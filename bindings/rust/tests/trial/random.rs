@@ -1,9 +1,9 @@
 //! Every call on drawn networks, held to the enumeration.
 
 use crate::draw::{self, Draw};
-use crate::plain::{Chosen, Net, Query};
+use crate::plain::{limits, within, Chosen, Net, Query, Sought};
 use crate::tally::Tally;
-use vihrolom::{Choice, Network, Path, State};
+use vihrolom::{Choice, Network, Path, Search, State};
 
 const NETWORKS: u32 = 50_000;
 
@@ -30,8 +30,9 @@ fn calls_agree_with_the_enumeration_on_random_networks() {
         "refusal 12",
         "refusal 14",
         "refusal 15",
+        "refusal 19",
     ];
-    tally.report("random networks", 14 * NETWORKS, &kinds);
+    tally.report("random networks", 22 * NETWORKS, &kinds);
 }
 
 /// Holds each call on a network to the enumeration, with drawn numbers.
@@ -74,6 +75,12 @@ pub fn hold_calls(net: &Net, network: &Network, draw: &mut Draw, tally: &mut Tal
     }
     tally.hold("robust", got, expected, &about);
 
+    let expected = query.search();
+    for limit in limits(&expected) {
+        let got = network.search(start, goal, limit).map(sought);
+        tally.hold("search", got, within(limit, &expected), &(about, limit));
+    }
+
     let got = network.find(start, goal);
     let got = got.map(|found| (found.index, found.looks));
     tally.hold("find", got, Ok(net.find(start, goal)), &about);
@@ -91,7 +98,7 @@ fn nodes_and_cost(path: Path) -> (Vec<u32>, u32) {
     (path.nodes, path.cost)
 }
 
-fn chosen(choice: Choice) -> Chosen {
+pub fn chosen(choice: Choice) -> Chosen {
     Chosen {
         route: choice.route,
         figure: choice.regret.figure,
@@ -101,5 +108,14 @@ fn chosen(choice: Choice) -> Chosen {
             State::Settled => None,
             State::Open { floor } => Some(floor),
         },
+    }
+}
+
+fn sought(search: Search) -> Sought {
+    Sought {
+        route: search.route,
+        figure: search.regret.figure,
+        worst: search.regret.worst_column,
+        tried: search.tried,
     }
 }

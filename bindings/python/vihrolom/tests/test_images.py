@@ -15,10 +15,8 @@ from unittest import mock
 
 import _ctypes
 import vihrolom
-from vihrolom import Choice, Found, Lists, Path, Refusal, Regret, Sizes
-
-FOLDER = os.path.dirname(os.path.abspath(__file__))
-EXAMPLES = os.path.join(FOLDER, "..", "..", "examples")
+from vihrolom import Choice, Found, Lists, Path, Refusal, Regret, Search, Sizes, Week
+from vihrolom.tests import EXAMPLES, counted, with_package
 
 S_ENDS = (1, 2, 1, 3, 2, 3, 2, 4, 3, 4)
 S_COSTS = (2, 5, 1, 6, 2, 4, 1, 2, 1, 7)
@@ -86,6 +84,29 @@ class Cases(unittest.TestCase):
         self.assertEqual(vihrolom.robust(S, 1, 1, 4, 1), still_open)
         at_once = Choice((1, 2, 4), figure=3, worst=1, count=1, settled=True, floor=None)
         self.assertEqual(vihrolom.robust(S, 2, 1, 4, 1), at_once)
+
+    def test_search(self):
+        found = Search((1, 2, 4), figure=3, worst=1, tried=5)
+        self.assertEqual(vihrolom.search(S, 1, 4, 5), found)
+        self.assertEqual(vihrolom.search(S, 1, 4, 2**32 - 1), found)
+        self.assertEqual(vihrolom.search(S, 2, 4, 3), Search((2, 4), figure=3, worst=1, tried=3))
+        self.assertEqual(outcome(vihrolom.search, S, 1, 4, 4), (19, 4))
+        self.assertEqual(outcome(vihrolom.search, S, 1, 4, 0), (19, 0))
+        self.assertEqual(outcome(vihrolom.search, S, 4, 1, 0), (15, 0))
+        # a closed arc, and one to a node that cannot reach the goal in some column, is tried and dropped
+        self.assertEqual(vihrolom.search(CLOSED, 1, 4, 4), Search((1, 2, 4), figure=3, worst=1, tried=4))
+        self.assertEqual(outcome(vihrolom.search, CLOSED, 3, 4, 4), (15, 0))
+
+    def test_search_of_an_example_that_is_open(self):
+        image = read("apart.image")
+        goal = vihrolom.check(image).nodes
+        choice = vihrolom.robust(image, 1, 1, goal, 256)
+        self.assertFalse(choice.settled)
+        found = vihrolom.search(image, 1, goal, 10**7)
+        self.assertTrue(choice.floor <= found.figure <= choice.figure)
+        self.assertEqual(vihrolom.regret(image, 1, goal, found.path), Regret(found.figure, found.worst))
+        self.assertEqual(vihrolom.search(image, 1, goal, found.tried), found)
+        self.assertEqual(outcome(vihrolom.search, image, 1, goal, found.tried - 1), (19, found.tried - 1))
 
     def test_arc_closed_in_one_column(self):
         self.assertEqual(vihrolom.build(2, 4, 2, S_ENDS, CLOSED_COSTS), CLOSED)
@@ -157,6 +178,7 @@ class Cases(unittest.TestCase):
         self.assertEqual(vihrolom.label(image, 1, 2), [None, 0])
         self.assertEqual(vihrolom.find(image, 1, 2), Found(None, 0))
         self.assertEqual(outcome(vihrolom.robust, image, 1, 1, 2, 1), (15, 0))
+        self.assertEqual(outcome(vihrolom.search, image, 1, 2, 0), (15, 0))
 
     def test_line_of_200_nodes(self):
         ends = [node for tail in range(1, 200) for node in (tail, tail + 1)]
@@ -165,6 +187,7 @@ class Cases(unittest.TestCase):
         self.assertEqual(vihrolom.shortest(image, 1, 1, 200), line)
         self.assertEqual(vihrolom.rank(image, 1, 1, 200, 256), [line])
         self.assertEqual(vihrolom.robust(image, 1, 1, 200, 256), Choice(line.nodes, 0, 1, 1, True, None))
+        self.assertEqual(vihrolom.search(image, 1, 200, 199), Search(line.nodes, 0, 1, 199))
 
     def test_most_paths(self):
         image = read("apart.image")
@@ -187,6 +210,116 @@ class Cases(unittest.TestCase):
         self.assertEqual(vihrolom.sheet(S[:32] + S[28:32] + S[36:]), "refused 8 at 2\n")
 
 
+class Weeks(unittest.TestCase):
+    """Roads of S that close and reopen; start 1, goal 4, ranked in column 2 unless stated."""
+
+    FIRST = Choice((1, 2, 4), figure=3, worst=1, count=1, settled=True, floor=None)
+
+    def holds(self, week, answer, *closed):
+        """The week has this answer, and these roads of its five are closed."""
+        self.assertEqual(week.answer, answer)
+        self.assertEqual([arc for arc in range(5) if week.is_closed(arc)], list(closed))
+        self.assertEqual(week.closed_roads, len(closed))
+
+    def test_roads_close_and_reopen(self):
+        week = Week(S, 2, 1, 4, 5)
+        self.holds(week, self.FIRST)
+        week.close(1)  # beside the route, and no best changes
+        self.holds(week, self.FIRST, 1)
+        week.close(1)
+        self.holds(week, self.FIRST, 1)
+        week.close(3)  # on the route
+        self.holds(week, Choice((1, 2, 3, 4), 0, 1, 1, True, None), 1, 3)
+        week.close(4)
+        self.holds(week, None, 1, 3, 4)
+        week.reopen(3)
+        self.holds(week, Choice((1, 2, 4), 0, 1, 1, True, None), 1, 4)
+        for arc in (4, 1, 0):
+            week.reopen(arc)
+        self.holds(week, self.FIRST)
+        week.close(2)  # beside the route, and the best of column 1 changes
+        self.holds(week, Choice((1, 2, 4), 1, 1, 1, True, None), 2)
+
+    def test_open_answer(self):
+        week = Week(S, 1, 1, 4, 1)
+        self.holds(week, Choice((1, 2, 3, 4), 8, 2, 1, False, 2))
+        week.close(3)
+        self.holds(week, Choice((1, 2, 3, 4), 5, 2, 1, False, 2), 3)
+
+    def test_no_path(self):
+        week = Week(S, 1, 4, 1, 5)
+        self.holds(week, None)
+        week.close(0)
+        self.holds(week, None, 0)
+        week = Week(vihrolom.build(1, 2, 1, [], []), 1, 1, 2, 1)
+        self.holds(week, None)
+        self.assertEqual(outcome(week.close, 0), (20, 0))
+        self.assertEqual(Week.from_bytes(week.to_bytes(), vihrolom.build(1, 2, 1, [], []), 1, 1, 2, 1).closed_roads, 0)
+
+    def test_refused_events(self):
+        week = Week(S, 2, 1, 4, 5)
+        week.close(1)
+        state = week.to_bytes()
+        for arc in (5, 1000, 2**32 - 1):
+            self.assertEqual(outcome(week.close, arc), (20, arc))
+            self.assertEqual(outcome(week.reopen, arc), (20, arc))
+        # what does not fit 32 bits is no index either
+        for arc in BEYOND:
+            self.assertEqual(outcome(week.close, arc), (20, 2**32 - 1))
+            self.assertFalse(week.is_closed(arc))
+        self.assertEqual(str(Refusal(20, 5)), "refused 20 at 5: an event's arc index is m or more")
+        for wrong in (1.0, "1", None):
+            self.assertRaises(TypeError, week.close, wrong)
+            self.assertRaises(TypeError, week.is_closed, wrong)
+        self.assertEqual(week.to_bytes(), state)
+        self.holds(week, self.FIRST, 1)
+
+    def test_refused_questions(self):
+        state = Week(S, 2, 1, 4, 5).to_bytes()
+        for row, asked in [
+            (1, (b"", 2, 1, 4, 5)),
+            (10, (S, 0, 1, 1, 0)),
+            (11, (S, 3, 4, 1, 0)),
+            (12, (S, 2, 4, 1, 0)),
+            (12, (S, 2, 1, 4, 257)),
+            *((12, (S, 2, 1, 4, number)) for number in BEYOND),
+        ]:
+            self.assertEqual(outcome(Week, *asked), (row, 0))
+            self.assertEqual(outcome(Week.from_bytes, state, *asked), (row, 0))
+
+    def test_bytes(self):
+        asked = S, 2, 1, 4, 5
+        week = Week(*asked)
+        self.assertEqual(week.to_bytes(), struct.pack("<16Q200H6I", *[0] * 16, 1, 2, 4, *[0] * 197, 1, 3, 3, 1, 1, 0))
+        week.close(1)
+        for state in (week.to_bytes(), bytearray(week.to_bytes()), memoryview(week.to_bytes()).cast("I")):
+            again = Week.from_bytes(state, *asked)
+            self.holds(again, self.FIRST, 1)
+            again.close(3)
+            self.assertEqual(again.closed_roads, 2)
+        self.holds(week, self.FIRST, 1)
+        for wrong in (b"", week.to_bytes()[1:], week.to_bytes() + b"\0"):
+            with self.assertRaisesRegex(ValueError, "552 bytes"):
+                Week.from_bytes(wrong, *asked)
+
+    def test_state_made_otherwise(self):
+        """It is read as it is: its length as at most 200, and bits from m on close nothing."""
+        beyond = 2**64 - 32
+        numbers = [beyond + 1, *[2**64 - 1] * 15, *[7] * 200, 1, 300, 77, 9, 1000, 5]
+        week = Week.from_bytes(struct.pack("<16Q200H6I", *numbers), S, 2, 1, 4, 5)
+        odd = Choice((7,) * 200, 77, 9, 1000, True, None)
+        self.holds(week, odd, 0)
+        week.close(0)
+        self.holds(week, odd, 0)
+        self.assertFalse(week.is_closed(5))
+        week.reopen(0)
+        self.holds(week, self.FIRST)
+        self.assertEqual(struct.unpack_from("<16Q", week.to_bytes()), (beyond, *[2**64 - 1] * 15))
+        for state in (0, 9, 2**32 - 1):
+            numbers[216] = state
+            self.holds(Week.from_bytes(struct.pack("<16Q200H6I", *numbers), S, 2, 1, 4, 5), None, 0)
+
+
 class Refusing(unittest.TestCase):
     def refused(self, number, place, call, *arguments):
         self.assertEqual(outcome(call, *arguments), (number, place), (call.__name__, arguments))
@@ -205,6 +338,7 @@ class Refusals(Refusing):
         self.refused(number, place, vihrolom.rank, image, 1, 1, 4, 1)
         self.refused(number, place, vihrolom.robust, image, 1, 1, 4, 1)
         self.refused(number, place, vihrolom.find, image, 1, 2)
+        self.refused(number, place, vihrolom.search, image, 1, 4, 0)
         self.refused(number, place, vihrolom.update, image, [(9, 9, None, 0)])
         self.assertEqual(vihrolom.sheet(image), f"refused {number} at {place}\n")
 
@@ -262,6 +396,7 @@ class Refusals(Refusing):
             self.refused(10, 0, vihrolom.regret, S, start, goal, [1, 3, 4])
             self.refused(10, 0, vihrolom.rank, S, 1, start, goal, 1)
             self.refused(10, 0, vihrolom.robust, S, 1, start, goal, 1)
+            self.refused(10, 0, vihrolom.search, S, start, goal, 0)
         for goal in (0, 5):
             self.refused(10, 0, vihrolom.label, S, 1, goal)
 
@@ -306,10 +441,11 @@ class Refusals(Refusing):
         refusal = Refusal(11, 0)
         self.assertEqual(str(refusal), "refused 11 at 0: column outside 1..k")
         self.assertEqual(Refusal(1, 0).words, "image under 24 bytes")
-        rows = [*range(1, 16), 17, 18]
+        rows = [*range(1, 16), *range(17, 21)]
         self.assertEqual(len({Refusal(number, 0).words for number in rows}), len(rows))
         with self.assertRaises(KeyError):
             Refusal(16, 0)
+        self.assertEqual(str(Refusal(19, 4)), "refused 19 at 4: Search's rule tries more arcs than the limit")
         self.assertEqual(str(pickle.loads(pickle.dumps(refusal))), str(refusal))
 
 
@@ -333,6 +469,11 @@ class Numbers(Refusing):
             self.refused(10, 0, vihrolom.regret, S, 1, number, [1, 3, 4])
             self.assertIsNone(vihrolom.find(S, 1, number).index)
             self.assertIsNone(vihrolom.find(S, number, 2).index)
+            self.refused(10, 0, vihrolom.search, S, number, 4, 5)
+            self.refused(10, 0, vihrolom.search, S, 1, number, 5)
+        self.assertEqual(vihrolom.search(S, 1, 4, 2**32 + 1), vihrolom.search(S, 1, 4, 5))
+        self.refused(19, 0, vihrolom.search, S, 1, 4, -1)
+        self.refused(19, 0, vihrolom.search, S, 1, 4, 5 - 2**32)
         self.assertEqual(vihrolom.find(S, 2**32 + 1, 2), Found(None, 3))
         self.assertEqual(vihrolom.find(S, -1, 2), Found(None, 2))
 
@@ -364,6 +505,7 @@ class Numbers(Refusing):
                 (vihrolom.rank, (S, 1, 1, 4, wrong)),
                 (vihrolom.robust, (S, 1, 1, wrong, 5)),
                 (vihrolom.find, (S, 1, wrong)),
+                (vihrolom.search, (S, 1, 4, wrong)),
             ]:
                 self.assertRaises(TypeError, call, *arguments)
         for wrong in (1.0, "1"):
@@ -471,6 +613,77 @@ class Plain:
         at = figures.index(figure)
         return Choice(paths[at], figure, rows[at].index(figure) + 1, count, settled, floor)
 
+    def outlook(self, route, labels):
+        """The largest, over the columns, of cost and label of the last node, less the column's best.
+
+        None if in some column an arc is closed or the goal cannot be reached.
+        """
+        largest = 0
+        for u, column in zip(self.every, labels):
+            if column[route[-1] - 1] is None or not all(self.is_open(u, arc) for arc in zip(route, route[1:])):
+                return None
+            largest = max(largest, self.cost(u, route) + column[route[-1] - 1] - column[route[0] - 1])
+        return largest
+
+    def descend(self, route, goal, labels, best, tried):
+        """The rule of Search from a partial route on: the best figure with its path, and the arcs tried."""
+        for tail, head in self.arcs:
+            if tail != route[-1] or head in route:
+                continue
+            tried += 1
+            longer = (*route, head)
+            figure = self.outlook(longer, labels)
+            if figure is None or best is not None and figure >= best[0]:
+                continue
+            if head == goal:
+                best = figure, longer
+            else:
+                best, tried = self.descend(longer, goal, labels, best, tried)
+        return best, tried
+
+    def search(self, start, goal, limit):
+        if not self.paths(self.every, start, goal):
+            return 15, 0
+        labels = [self.label(u, goal) for u in self.every]
+        (figure, path), tried = self.descend((start,), goal, labels, None, 0)
+        (row,) = self.deviations(start, goal, [path])
+        return Search(path, figure, row.index(figure) + 1, tried) if tried <= limit else (19, limit)
+
+
+class PlainWeek:
+    """A network's week: the answer found anew at each event that the rule does not let it stand at."""
+
+    def __init__(self, plain, *asked):
+        self.plain, self.asked, self.closed = plain, asked, set()
+        self.answer = self.find_anew()
+
+    def left(self):
+        """The network without the closed roads."""
+        kept = [i for i in range(len(self.plain.arcs)) if i not in self.closed]
+        columns = [[column[i] for i in kept] for column in self.plain.columns]
+        return Plain(self.plain.edition, self.plain.nodes, [self.plain.arcs[i] for i in kept], columns)
+
+    def find_anew(self):
+        answer = self.left().robust(*self.asked)
+        return None if answer == (15, 0) else answer
+
+    def bests(self):
+        left, (_, start, goal, _) = self.left(), self.asked
+        return [left.least(u, start, goal) for u in left.every]
+
+    def event(self, arc, close):
+        """Whether the answer stands."""
+        if (arc in self.closed) == close:
+            return True
+        bests = self.bests()
+        self.closed ^= {arc}
+        path = self.answer.path if self.answer else ()
+        touched = self.plain.arcs[arc] in zip(path, path[1:])
+        if close and self.answer and self.answer.settled and not touched and self.bests() == bests:
+            return True
+        self.answer = self.find_anew()
+        return False
+
 
 def draw_network(draw):
     """A network of 2 to 7 nodes, sparse or dense, with few or many equal costs and closed arcs."""
@@ -517,6 +730,9 @@ class AgainstEnumeration(unittest.TestCase):
             self.agree(plain, vihrolom.rank, column, start, goal, limit)
         for limit in (1, draw.randint(2, 12), 256):
             self.agree(plain, vihrolom.robust, column, start, goal, limit)
+        tried = getattr(plain.search(start, goal, 2**32 - 1), "tried", 1)
+        for limit in (tried - 1, tried):
+            self.agree(plain, vihrolom.search, start, goal, limit)
         for tail, head in [(start, goal), (goal, draw.randint(0, plain.nodes + 1))]:
             self.agree(plain, vihrolom.find, tail, head)
         paths = plain.paths([], start, goal)
@@ -529,13 +745,39 @@ class AgainstEnumeration(unittest.TestCase):
     def test_random_networks(self):
         draw = random.Random(20)
         self.compared = {}
-        for _ in range(self.NETWORKS):
+        for _ in counted(self.NETWORKS, "random networks"):
             plain = draw_network(draw)
             self.agree_on_lists(plain)
             self.agree_on_paths(plain, draw)
-        self.assertEqual(set(self.compared), {"label", "shortest", "rank", "robust", "regret", "find"})
+        self.assertEqual(set(self.compared), {"label", "shortest", "rank", "robust", "regret", "find", "search"})
         self.assertGreaterEqual(min(self.compared.values()), self.NETWORKS)
-        self.assertGreaterEqual(sum(self.compared.values()), 12 * self.NETWORKS)
+        self.assertGreaterEqual(sum(self.compared.values()), 14 * self.NETWORKS)
+
+
+class WeeksAgainstEnumeration(unittest.TestCase):
+    NETWORKS = 500
+
+    def test_random_weeks(self):
+        draw = random.Random(7)
+        stood = ran = 0
+        for _ in counted(self.NETWORKS, "random weeks"):
+            plain = draw_network(draw)
+            image, arcs = plain.image(), len(plain.arcs)
+            asked = draw.randint(1, len(plain.columns)), *draw.sample(range(1, plain.nodes + 1), 2), draw.choice((1, 2, 5, 256))
+            week, due = Week(image, *asked), PlainWeek(plain, *asked)
+            for _ in range(draw.randint(0, 12)):
+                arc, close = draw.randint(0, arcs), draw.random() < 0.7
+                if arc == arcs:
+                    self.assertEqual(outcome(week.close if close else week.reopen, arc), (20, arc))
+                    continue
+                (week.close if close else week.reopen)(arc)
+                stands = due.event(arc, close)
+                stood, ran = stood + stands, ran + (not stands)
+                if draw.random() < 0.2:
+                    week = Week.from_bytes(week.to_bytes(), image, *asked)
+                about = plain.arcs, plain.columns, asked, due.closed
+                self.assertEqual((week.answer, week.closed_roads), (due.answer, len(due.closed)), about)
+        self.assertGreaterEqual(min(stood, ran), 500)
 
 
 class Passing(unittest.TestCase):
@@ -549,7 +791,7 @@ class Passing(unittest.TestCase):
             return mock.Mock(refusal=15, place=0)
 
         library = mock.Mock(vihrolom_build=function, vihrolom_check=function, vihrolom_regret=function)
-        with mock.patch.object(vihrolom, "_library", return_value=library):
+        with mock.patch.object(vihrolom.images, "_library", return_value=library):
             outcome(vihrolom.build, 1, 2, 1, [], [])
             outcome(vihrolom.check, b"")
             outcome(vihrolom.regret, b"", 1, 2, [])
@@ -557,6 +799,15 @@ class Passing(unittest.TestCase):
         for slice in seen:
             self.assertGreaterEqual(len(slice), 1)
             self.assertNotEqual(ctypes.addressof(slice), 0)
+
+    def test_library_of_another_version(self):
+        for number, version in [(6_999, "0.6.999"), (1_002_003, "1.2.3"), (0, "0.0.0")]:
+            library = mock.Mock(vihrolom_version=mock.Mock(return_value=number))
+            with mock.patch.object(vihrolom.images.ctypes, "CDLL", return_value=library):
+                with self.assertRaises(vihrolom.LibraryMissing) as caught:
+                    vihrolom.images._library.__wrapped__()
+            words = f"its version is {version}, and the package's is {vihrolom.__version__}"
+            self.assertIn(words, str(caught.exception))
 
     def test_library_that_cannot_be_loaded(self):
         program = (
@@ -567,9 +818,9 @@ class Passing(unittest.TestCase):
         )
         # no file, a file that is no library, and a library without the functions
         for file in ("/nowhere/libvihrolom.so", __file__, _ctypes.__file__):
-            environment = dict(os.environ, VIHROLOM_LIBRARY=file)
             command = [sys.executable, "-c", program]
-            run = subprocess.run(command, cwd=FOLDER, env=environment, capture_output=True, text=True)
+            environment = with_package(VIHROLOM_LIBRARY=file)
+            run = subprocess.run(command, env=environment, capture_output=True, text=True)
             self.assertEqual((run.returncode, run.stderr), (0, ""))
             imported, complaint = run.stdout.splitlines()
             self.assertEqual(imported, "imported")

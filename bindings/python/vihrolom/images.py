@@ -6,18 +6,21 @@ itself; the functions here only size the slices that it writes to. A call gives 
 `Refusal`.
 
 The library's file is named by the environment variable VIHROLOM_LIBRARY; if that is not set, it is
-target/sharedlib/libvihrolom.so of the repository, which tools/build-library makes. It is loaded by
-the first call.
+libvihrolom.so beside this file, where the installed package has it, or else in target/sharedlib of
+the repository, where tools/build-library writes it. It is loaded by the first call.
 
 An image of edition 2 may have arcs that are closed in a column: in lists of costs they have None.
-A path of a column uses arcs that are open in it. `regret` and `robust` are about paths that are open
-in every column, and hold them in each against the best path of that column.
+A path of a column uses arcs that are open in it. `regret`, `robust` and `search` are about paths that
+are open in every column, and hold them in each against the best path of that column.
+
+A `Week` keeps Robust's answer current while roads close and reopen.
 
 Numbers may be any whole numbers. One that does not fit the 32 bits of its parameter, or the 16 bits
 of a node in a list, is never cut down to them: it is refused by the refusal table, since it is
 no edition, outside 1..n, 1..k or 1..256 or above 1,000,000; Find, which refuses no number, finds no
-arc. The table has no row for a negative cost, nor for a stamp that does not fit 32 bits; these raise
-ValueError. What is no whole number raises TypeError.
+arc, and a limit on the arcs that Search tries becomes the nearest that fits. The table has no row for
+a negative cost, nor for a stamp that does not fit 32 bits; these raise ValueError. What is no whole
+number raises TypeError.
 """
 from __future__ import annotations
 
@@ -28,14 +31,19 @@ import os
 from dataclasses import dataclass
 from typing import Iterable, List, NamedTuple, Optional, Tuple
 
+from ._version import __version__
+
 _FOLDER = os.path.dirname(os.path.abspath(__file__))
-_LIBRARY = os.path.join(_FOLDER, "..", "..", "target", "sharedlib", "libvihrolom.so")
+_INSTALLED = os.path.join(_FOLDER, "libvihrolom.so")
+_BUILT = os.path.join(_FOLDER, "..", "..", "..", "target", "sharedlib", "libvihrolom.so")
 
 _GREATEST_16 = 2**16 - 1
 _GREATEST_32 = 2**32 - 1
 # in the place of a cost: the arc is closed; in the place of a label: the goal cannot be reached
 _MARK = _GREATEST_32
 _MOST_PATHS = 256
+# the states of an answer
+_SETTLED, _OPEN = 1, 2
 _SHEET_PATHS = 48
 
 # The rows of the refusal table (REFERENCE, section 6.2) by their numbers, without their places. None has 16.
@@ -57,6 +65,8 @@ _ROWS = {
     15: "no path exists",
     17: "a record's arc index is m or more",
     18: "a record's column is outside 1..k",
+    19: "Search's rule tries more arcs than the limit",
+    20: "an event's arc index is m or more",
 }
 
 
@@ -133,6 +143,20 @@ class Choice:
 
 
 @dataclass(frozen=True)
+class Search:
+    """What a search of all paths found.
+
+    `path` has the least greatest regret of all paths that are open in every column: `figure`, in
+    column `worst`. Of paths with equal figures it is the first by node list. `tried` arcs were tried.
+    """
+
+    path: Tuple[int, ...]
+    figure: int
+    worst: int
+    tried: int
+
+
+@dataclass(frozen=True)
 class Found:
     """What a search for an arc found: its index, None if there is no such arc, and the arcs looked at."""
 
@@ -150,6 +174,84 @@ class Record(NamedTuple):
     column: int
     cost: Optional[int]
     stamp: int
+
+
+class Week:
+    """A week in which roads close and reopen: Robust's answer on the image without the closed arcs.
+
+    It begins with every road open, for one image, column, start, goal and limit. An arc is named by its
+    index in the image, from 0, which `find` gives. An event that is refused changes nothing.
+    """
+
+    def __init__(self, image: bytes, column: int, start: int, goal: int, limit: int) -> None:
+        sizes = check(image)
+        self._image, self._arcs = _image(image), sizes.arcs
+        self._asked = _number(column), _number(start), _number(goal), _number(limit)
+        self._work = _workspace(_room(limit), sizes.nodes)
+        self._take(_call("week_fresh", self._image, *self._asked, self._work))
+
+    @classmethod
+    def from_bytes(
+        cls, state: bytes, image: bytes, column: int, start: int, goal: int, limit: int
+    ) -> Week:
+        """The week with a state that `to_bytes` gave, for the same image, column, start, goal and limit.
+
+        Any bytes of that length are a state, and are read as they are: the answer of one that was made
+        otherwise, or for another question, is as it says until an event has Robust run again.
+        """
+        content = memoryview(state).tobytes()
+        if len(content) != ctypes.sizeof(_State):
+            raise ValueError(f"a state has {ctypes.sizeof(_State)} bytes, and not {len(content)}")
+        week = cls(image, column, start, goal, limit)
+        week._state = _State.from_buffer_copy(content)
+        if week._arcs > 0:
+            # an event that changes nothing: it tells how many roads are closed
+            week._event(0, week.is_closed(0))
+        return week
+
+    def to_bytes(self) -> bytes:
+        """The state, to be saved: the 552 bytes of the C struct."""
+        return bytes(self._state)
+
+    def close(self, arc: int) -> None:
+        """Closes the arc with this index in every column."""
+        self._event(arc, True)
+
+    def reopen(self, arc: int) -> None:
+        """Opens the arc with this index."""
+        self._event(arc, False)
+
+    @property
+    def answer(self) -> Optional[Choice]:
+        """Robust's answer now, or None if no path is left.
+
+        Its `count` is that of the last full run; an answer that an event leaves as it is, is not found anew.
+        """
+        state = self._state
+        if state.state not in (_SETTLED, _OPEN):
+            return None
+        path, settled = tuple(state.route[: state.length]), state.state == _SETTLED
+        floor = None if settled else state.floor
+        return Choice(path, state.figure, state.worst, state.count, settled, floor)
+
+    @property
+    def closed_roads(self) -> int:
+        """How many roads are closed."""
+        return self._closed_roads
+
+    def is_closed(self, arc: int) -> bool:
+        """Whether the arc with this index is closed."""
+        word, bit = divmod(operator.index(arc), 64)
+        return 0 <= arc < self._arcs and self._state.closed[word] >> bit & 1 == 1
+
+    def _event(self, arc: int, close: bool) -> None:
+        event = _index(arc), int(close)
+        self._take(_call("week_event", self._image, *self._asked, self._state, *event, self._work))
+
+    def _take(self, reply: _WeekReply) -> None:
+        """Takes in what a call gave: a state of its own, and not a part of the reply."""
+        self._state = _State.from_buffer_copy(reply.week)
+        self._closed_roads = reply.closed_roads
 
 
 def build(
@@ -248,9 +350,20 @@ def robust(image: bytes, column: int, start: int, goal: int, limit: int) -> Choi
     ends = _number(start), _number(goal)
     reply = _call("robust", _image(image), _number(column), *ends, _number(limit), path, work)
     length, figure, worst, count = reply.v0, reply.v1, reply.v2, reply.v3
-    settled = reply.v4 == 1
+    settled = reply.v4 == _SETTLED
     floor = None if settled else reply.v5
     return Choice(tuple(path[:length]), figure, worst, count, settled, floor)
+
+
+def search(image: bytes, start: int, goal: int, limit: int) -> Search:
+    """The path of least greatest regret of all that are open in every column, sought depth first.
+
+    It is settled, or refused if more than `limit` arcs would have to be tried.
+    """
+    path = (ctypes.c_uint16 * check(image).nodes)()
+    ends = _number(start), _number(goal)
+    reply = _call("search", _image(image), *ends, _nearest(limit), path)
+    return Search(tuple(path[: reply.v0]), reply.v1, reply.v2, reply.v3)
 
 
 def find(image: bytes, tail: int, head: int) -> Found:
@@ -300,7 +413,7 @@ def _room(limit: int) -> int:
 
 
 def _workspace(rows: int, nodes: int) -> ctypes.Array:
-    """The workspace that Rank and Robust borrow."""
+    """The workspace that Rank, Robust and the calls on a week borrow."""
     return (ctypes.c_uint32 * ((rows + 1) * (nodes + 16) + 16 * nodes + 64))()
 
 
@@ -323,7 +436,7 @@ def _index(number: int) -> int:
 
 
 def _nearest(number: int) -> int:
-    """The number, or the nearest that fits 32 bits: it is above or below as many nodes."""
+    """The number, or the nearest that fits 32 bits: it is above or below as many nodes or counts."""
     return max(0, min(operator.index(number), _GREATEST_32))
 
 
@@ -346,8 +459,27 @@ def _cost_list(costs: Iterable[Optional[int]]) -> ctypes.Array:
     return (ctypes.c_uint32 * len(places))(*places)
 
 
+class _State(ctypes.Structure):
+    """The state of a week, which passes by value."""
+
+    _fields_ = [
+        ("closed", ctypes.c_uint64 * 16),
+        ("route", ctypes.c_uint16 * 200),
+        *((name, ctypes.c_uint32) for name in ("state", "length", "figure", "worst", "count", "floor")),
+    ]
+
+
+class _WeekReply(ctypes.Structure):
+    """What the C functions on a week return."""
+
+    _fields_ = [
+        *((name, ctypes.c_uint32) for name in ("refusal", "place", "closed_roads")),
+        ("week", _State),
+    ]
+
+
 class _Reply(ctypes.Structure):
-    """What a C function returns. `refusal` is 0 for a result, and v0 to v5 are then its values."""
+    """What the other C functions return. `refusal` is 0 for a result, and v0 to v5 are then its values."""
 
     _fields_ = [
         (name, ctypes.c_uint32)
@@ -360,6 +492,7 @@ _NUMBER = (ctypes.c_uint32,)
 _BYTES = (ctypes.POINTER(ctypes.c_uint8), ctypes.c_size_t)
 _NODES = (ctypes.POINTER(ctypes.c_uint16), ctypes.c_size_t)
 _WORDS = (ctypes.POINTER(ctypes.c_uint32), ctypes.c_size_t)
+_WEEK = (_State,)
 
 _FUNCTIONS = {
     "build": (_NUMBER, _NUMBER, _NUMBER, _NODES, _WORDS, _BYTES),
@@ -371,28 +504,42 @@ _FUNCTIONS = {
     "rank": (_BYTES, _NUMBER, _NUMBER, _NUMBER, _NUMBER, _NODES, _WORDS, _WORDS),
     "robust": (_BYTES, _NUMBER, _NUMBER, _NUMBER, _NUMBER, _NODES, _WORDS),
     "find": (_BYTES, _NUMBER, _NUMBER),
+    "search": (_BYTES, _NUMBER, _NUMBER, _NUMBER, _NODES),
     "update": (_BYTES, _WORDS),
+    "week_fresh": (_BYTES, _NUMBER, _NUMBER, _NUMBER, _NUMBER, _WORDS),
+    "week_event": (_BYTES, _NUMBER, _NUMBER, _NUMBER, _NUMBER, _WEEK, _NUMBER, _NUMBER, _WORDS),
 }
+
+
+def _check_version(path: str, library: ctypes.CDLL) -> None:
+    """The library must have the package's version: to another one parameters may pass otherwise."""
+    library.vihrolom_version.argtypes, library.vihrolom_version.restype = [], ctypes.c_uint32
+    thousands, patch = divmod(library.vihrolom_version(), 1000)
+    version = f"{thousands // 1000}.{thousands % 1000}.{patch}"
+    if version != __version__:
+        raise OSError(f"{path}: its version is {version}, and the package's is {__version__}")
 
 
 @functools.lru_cache(maxsize=None)
 def _library() -> ctypes.CDLL:
     """The shared library, with the parameters of its functions declared."""
-    path = os.path.abspath(os.environ.get("VIHROLOM_LIBRARY") or _LIBRARY)
+    there = _INSTALLED if os.path.exists(_INSTALLED) else _BUILT
+    path = os.path.abspath(os.environ.get("VIHROLOM_LIBRARY") or there)
     try:
         library = ctypes.CDLL(path)
+        _check_version(path, library)
         for name, parameters in _FUNCTIONS.items():
             function = getattr(library, "vihrolom_" + name)
             function.argtypes = [kind for parameter in parameters for kind in parameter]
-            function.restype = _Reply
+            function.restype = _WeekReply if name.startswith("week_") else _Reply
     except (OSError, AttributeError) as error:
         advice = "run tools/build-library, or name the library's file in VIHROLOM_LIBRARY"
         raise LibraryMissing(f"cannot load the library ({error}); {advice}") from None
     return library
 
 
-def _call(name: str, *arguments) -> _Reply:
-    """The reply of a C function to numbers and slices, if it gives a result.
+def _call(name: str, *arguments) -> ctypes.Structure:
+    """The reply of a C function to numbers, slices and states, if it gives a result.
 
     An empty slice passes with a pointer to a place that it does not have: no pointer is null.
     """

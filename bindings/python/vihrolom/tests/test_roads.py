@@ -1,4 +1,4 @@
-"""Holds the command roads.py to its output, and to its complaints about wrong files and commands."""
+"""Holds the command roads to its output, and to its complaints about wrong files and commands."""
 import contextlib
 import io
 import os
@@ -7,10 +7,9 @@ import sys
 import tempfile
 import unittest
 
-import roads
+from vihrolom.commands import roads
+from vihrolom.tests import EXAMPLES, with_package
 
-FOLDER = os.path.dirname(os.path.abspath(__file__))
-EXAMPLES = os.path.join(FOLDER, "..", "..", "examples")
 EXAMPLE = os.path.join(EXAMPLES, "roads.csv")
 FERRY = os.path.join(EXAMPLES, "ferry.csv")
 
@@ -26,6 +25,9 @@ HEADER = "from,to,calm\n"
 
 
 class Commands(unittest.TestCase):
+    # the command, and its status if it fails
+    COMMAND, FAILURE = roads, 1
+
     def setUp(self):
         folder = tempfile.TemporaryDirectory()
         self.addCleanup(folder.cleanup)
@@ -40,12 +42,13 @@ class Commands(unittest.TestCase):
         """Status, standard output and standard error of a command."""
         out, err = io.TextIOWrapper(io.BytesIO(), encoding="utf-8"), io.StringIO()
         with contextlib.redirect_stdout(out), contextlib.redirect_stderr(err):
-            status = roads.main(arguments)
+            status = self.COMMAND.main(arguments)
         return status, out.buffer.getvalue().decode(), err.getvalue()
 
     def complains(self, complaint, *arguments):
         """The command prints this one line only, and fails."""
-        self.assertEqual(self.run_main(*arguments), (1, "", f"roads.py: {complaint}\n"))
+        due = self.FAILURE, "", f"{self.COMMAND.__name__.rpartition('.')[2]}: {complaint}\n"
+        self.assertEqual(self.run_main(*arguments), due)
 
     def complains_of_file(self, complaint, content):
         """The same for a file, whose name stands before the complaint."""
@@ -83,20 +86,22 @@ class Records(Commands):
         self.assertEqual(self.tell(self.HEADER), self.run_main(self.file))
 
     def complains_of_records(self, complaint, content):
-        self.assertEqual(self.tell(content), (1, "", f"roads.py: {self.told}{complaint}\n"))
+        self.assertEqual(self.tell(content), (1, "", f"roads: {self.told}{complaint}\n"))
 
     def test_complaints(self):
+        road = "the road from 'C' to 'D' in 'rush'"
         self.complains_of_records(" is empty", "")
         self.complains_of_records(", line 1: the first line must be from,to,column,time,stamp", "from,to\n")
         for line, complaint in (
             ("C,D,rush,1", "4 fields in place of 5"),
             ("D,C,rush,1,1", "there is no road from 'D' to 'C'"),
             ("C,X,rush,1,1", "there is no road from 'C' to 'X'"),
-            ("C,D,noon,1,1", "there is no column 'noon' in the file"),
-            ("C,D,rush,1000001,1", "the time 1000001 is above 1000000"),
-            ("C,D,rush,1,x", "'x' is no whole number"),
-            ("C,D,rush,1,-1", "the stamp -1 is negative"),
-            ("C,D,rush,1,4294967296", "the stamp 4294967296 is above 4294967295"),
+            ("C,D,noon,1,1", "there is no column 'noon'"),
+            ("C,D,rush,1000001,1", f"the time of {road} is above 1000000: 1000001"),
+            ("C,D,rush,1,x", f"the stamp of {road} is no whole number: 'x'"),
+            ("C,D,rush,1,", f"the stamp of {road} is no whole number: ''"),
+            ("C,D,rush,1,-1", f"the stamp of {road} is negative: -1"),
+            ("C,D,rush,1,4294967296", f"the stamp of {road} is above 4294967295: 4294967296"),
         ):
             self.complains_of_records(f", line 2: {complaint}", f"{self.HEADER}{line}\n")
 
@@ -126,6 +131,29 @@ class Output(Commands):
         self.assertEqual(status, 0)
         self.assertTrue(text.startswith("route A > B > C > D\nregret 8 column rush\nranked 1 open floor 2\n\n"))
         self.assertEqual(text.splitlines()[-1], "  *1     5    13          0       8   rush  A > B > C > D")
+
+    def test_search(self):
+        self.write(S)
+        _, unsearched, _ = self.run_main(self.file, "--paths", "1")
+        sheet, ranked = unsearched.split("\n\n")
+        for limit, line in [
+            ("5", "search settled by 5 roads tried: regret 3 column calm route A > B > D"),
+            ("4294967295", "search settled by 5 roads tried: regret 3 column calm route A > B > D"),
+            ("4", "search not settled by 4 roads tried"),
+            ("0", "search not settled by 0 roads tried"),
+        ]:
+            expected = f"{sheet}\n{line}\n\n{ranked.replace('the route', 'the first route')}"
+            self.assertEqual(self.run_main(self.file, "--paths", "1", "--search", limit), (0, expected, ""))
+        # a settled answer needs no search
+        self.assertEqual(self.run_main(self.file, "--search", "5"), self.run_main(self.file))
+
+    def test_search_with_closed_roads(self):
+        status, text, _ = self.run_main(FERRY, "--paths", "1", "--search", "100")
+        self.assertEqual(status, 0)
+        lines = text.splitlines()
+        self.assertEqual(lines[:2], ["route Lab > Bridge > Clinic", "regret 23 column storm"])
+        settled = r"search settled by \d+ roads tried: regret 15 column calm route Lab > Hill Road > Clinic"
+        self.assertRegex(lines[3], f"^{settled}$")
 
     def test_other_ends_and_column(self):
         self.write(S)
@@ -165,7 +193,6 @@ class Output(Commands):
         self.assertEqual(lines[9].split(None, 8), chosen)
         self.assertEqual(len(lines), 7 + 8)
 
-
     def test_ferry(self):
         expected = (
             "route Lab > Hill Road > Clinic\n"
@@ -185,14 +212,6 @@ class Output(Commands):
         with open(FERRY, encoding="utf-8") as file:
             self.write(file.read().replace("-", ""))
         self.assertEqual(self.run_main(self.file), (0, expected, ""))
-
-    def test_edition(self):
-        for row, edition in [("A,B,1,2", 1), ("A,B,1,-", 2), ("A,B,,2", 2)]:
-            self.write(f"from,to,calm,rush\n{row}\nB,A,0,0\n")
-            network = roads.read_roads(self.file)
-            image = network.image(network.times)
-            self.assertEqual(roads.vihrolom.check(image).edition, edition)
-            self.assertEqual(roads.vihrolom.check(network.image(network.always_open())).edition, 1)
 
 
 class WrongFiles(Commands):
@@ -221,16 +240,17 @@ class WrongFiles(Commands):
 
     def test_times(self):
         for time, complaint in [
-            ("fast", "'fast' is no whole number"),
-            ("1.5", "'1.5' is no whole number"),
-            ("1_000", "'1_000' is no whole number"),
-            ("٣", "'٣' is no whole number"),
-            ("--", "'--' is no whole number"),
-            ("-1", "the time -1 is negative"),
-            ("1000001", "the time 1000001 is above 1000000"),
-            ("9" * 5000, f"the time {'9' * 20} is above 1000000"),
+            ("fast", "no whole number: 'fast'"),
+            ("1.5", "no whole number: '1.5'"),
+            ("1_000", "no whole number: '1_000'"),
+            ("٣", "no whole number: '٣'"),
+            ("--", "no whole number: '--'"),
+            ("-1", "negative: -1"),
+            ("1000001", "above 1000000: 1000001"),
+            ("9" * 5000, f"above 1000000: {'9' * 20}"),
         ]:
-            self.complains_of_file(f", line 3: {complaint}", f"{HEADER}A,B,1\nB,A,{time}\n")
+            wanted = f", line 3: the time of the road from 'B' to 'A' in 'calm' is {complaint}"
+            self.complains_of_file(wanted, f"{HEADER}A,B,1\nB,A,{time}\n")
 
     def test_names(self):
         self.complains_of_file(", line 2: '' is no name", HEADER + ",B,1\n")
@@ -240,7 +260,7 @@ class WrongFiles(Commands):
         self.write(HEADER + 'A,B,1\n"A"x,C,1\n')
         status, text, complaint = self.run_main(self.file)
         self.assertEqual((status, text, complaint.count("\n")), (1, "", 1))
-        self.assertTrue(complaint.startswith(f"roads.py: {self.file}, line 3: "))
+        self.assertTrue(complaint.startswith(f"roads: {self.file}, line 3: "))
 
     def test_roads(self):
         twice = ", line 5: the road from 'A' to 'B' stands in line 2 already"
@@ -256,14 +276,18 @@ class WrongFiles(Commands):
 
 class WrongCommands(Commands):
     def test_unknown_names(self):
-        self.complains("there is no place 'Moon' in the file", EXAMPLE, "--from", "Moon")
-        self.complains("there is no place 'lab' in the file", EXAMPLE, "--to", "lab")
-        self.complains("there is no column 'rain' in the file", EXAMPLE, "--column", "rain")
+        self.complains("there is no place 'Moon'", EXAMPLE, "--from", "Moon")
+        self.complains("there is no place 'lab'", EXAMPLE, "--to", "lab")
+        self.complains("there is no column 'rain'", EXAMPLE, "--column", "rain")
 
     def test_paths(self):
-        for paths in ("0", "257", "-1", "4294967297"):
-            self.complains(f"--paths must be 1 to 256, and is {paths}", EXAMPLE, f"--paths={paths}")
-        self.complains("argument --paths: invalid int value: 'many'", EXAMPLE, "--paths", "many")
+        for paths in ("0", "257", "-1", "4294967297", "many", "--1", "1.0", ""):
+            self.complains(f"argument --paths: must be 1 to 256, and is {paths}", EXAMPLE, f"--paths={paths}")
+
+    def test_search(self):
+        for limit in ("-1", "4294967296", "9" * 5000, "all"):
+            complaint = f"argument --search: must be 0 to 4294967295, and is {limit}"
+            self.complains(complaint, EXAMPLE, f"--search={limit}")
 
     def test_ends(self):
         self.complains("the route begins and ends at 'Lab'", EXAMPLE, "--to", "Lab")
@@ -279,8 +303,8 @@ class WrongCommands(Commands):
 
     def run_command(self, output, **environment):
         """Status and standard error of the command as a process."""
-        command = [sys.executable, os.path.join(FOLDER, "roads.py"), EXAMPLE]
-        environment = dict(os.environ, **environment)
+        command = [sys.executable, "-m", "vihrolom", "roads", EXAMPLE]
+        environment = with_package(**environment)
         run = subprocess.run(command, env=environment, stdout=output, stderr=subprocess.PIPE, text=True)
         return run.returncode, run.stderr
 
@@ -288,7 +312,7 @@ class WrongCommands(Commands):
         reader, writer = os.pipe()
         os.close(reader)
         self.addCleanup(os.close, writer)
-        self.assertEqual(self.run_command(writer), (1, "roads.py: cannot write: Broken pipe\n"))
+        self.assertEqual(self.run_command(writer), (1, "roads: cannot write: Broken pipe\n"))
 
     def test_missing_library(self):
         status, complaint = self.run_command(subprocess.DEVNULL, VIHROLOM_LIBRARY="/nowhere")

@@ -1,0 +1,1 @@
+"""The commands of the package, which `python3 -m vihrolom` runs."""
