@@ -3,10 +3,10 @@
 // Holds each figure to Robust's answer: equal where that is settled, and not outside floor and figure where it is
 // open.
 #include "network.h"
+#include "timing.h"
 
 #include <stdio.h>
 #include <stdlib.h>
-#include <time.h>
 
 enum { NETWORKS = 40, WANTED = VIHROLOM_MOST_PATHS, LIMIT = 10000000 };
 
@@ -21,17 +21,6 @@ struct line {
     double arcs[NETWORKS], times[NETWORKS];
     double all_arcs, all_time;
 };
-
-static double now(void) {
-    struct timespec time;
-    clock_gettime(CLOCK_THREAD_CPUTIME_ID, &time);
-    return 1e6 * (double)time.tv_sec + 1e-3 * (double)time.tv_nsec;
-}
-
-static int by_size(const void *a, const void *b) {
-    const double x = *(const double *)a, y = *(const double *)b;
-    return (x > y) - (x < y);
-}
 
 static void stop_unless(int holds, const char *what) {
     if (!holds) {
@@ -82,10 +71,8 @@ static void print_line(enum shape shape, enum likeness likeness, unsigned k) {
     if (line.settled == 0) {
         printf(" - | - | - | - |");
     } else {
-        qsort(line.arcs, line.settled, sizeof *line.arcs, by_size);
-        qsort(line.times, line.settled, sizeof *line.times, by_size);
-        printf(" %.0f | %.0f | %.0f | %.0f |", line.arcs[line.settled / 2], line.arcs[line.settled - 1],
-               line.times[line.settled / 2], line.times[line.settled - 1]);
+        const double arcs = median(line.arcs, line.settled), took = median(line.times, line.settled);
+        printf(" %.0f | %.0f | %.0f | %.0f |", arcs, line.arcs[line.settled - 1], took, line.times[line.settled - 1]);
     }
     printf(" %.0f |\n", line.all_arcs / line.all_time);
 }

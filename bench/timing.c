@@ -14,9 +14,9 @@ static int by_size(const void *a, const void *b) {
     return (x > y) - (x < y);
 }
 
-double median(double *times, unsigned count) {
-    qsort(times, count, sizeof *times, by_size);
-    return times[count / 2];
+double median(double *numbers, unsigned count) {
+    qsort(numbers, count, sizeof *numbers, by_size);
+    return numbers[count / 2];
 }
 
 void median_times(const struct question *q, unsigned calls, timed_call *const *call, struct effort effort, double *medians) {

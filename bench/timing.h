@@ -16,8 +16,8 @@ double now(void);
 
 enum { MOST_TURNS = 301, MOST_BY_TURNS = 2 };
 
-// The median of the times, which are put in order.
-double median(double *times, unsigned count);
+// The median of some numbers, which are put in order.
+double median(double *numbers, unsigned count);
 
 // Makes the calls by turns, and gives the median time of each.
 void median_times(const struct question *q, unsigned calls, timed_call *const *call, struct effort effort, double *medians);

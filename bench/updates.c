@@ -1,33 +1,16 @@
 // Update on the largest image, with lists of records drawn from a fixed seed: the median processor time of a
 // call, in microseconds, and of Check alone beside it. Prints the table "Update" of docs/BENCHMARKS.md.
-#include "vihrolom.h"
+#include "network.h"
+#include "timing.h"
 
 #include <stdio.h>
 #include <stdlib.h>
-#include <time.h>
 
 enum { NODES = VIHROLOM_MOST_NODES, ARCS = VIHROLOM_MOST_ARCS, COLUMNS = VIHROLOM_MOST_COLUMNS, MOST_RECORDS = 1000000, TURNS = 31 };
 
 static uint16_t nodes[2 * ARCS];
 static uint32_t costs[ARCS * COLUMNS], records[4 * MOST_RECORDS];
 static uint8_t image[VIHROLOM_MOST_BYTES];
-
-static uint32_t draw(void) {
-    static uint64_t state = 1;
-    state = state * 48271 % 2147483647;
-    return (uint32_t)state;
-}
-
-static double now(void) {
-    struct timespec time;
-    clock_gettime(CLOCK_THREAD_CPUTIME_ID, &time);
-    return 1e6 * (double)time.tv_sec + 1e-3 * (double)time.tv_nsec;
-}
-
-static int by_size(const void *a, const void *b) {
-    const double x = *(const double *)a, y = *(const double *)b;
-    return (x > y) - (x < y);
-}
 
 static void stop_if(uint32_t refusal) {
     if (refusal != 0) {
@@ -46,8 +29,7 @@ static double median_time(size_t count, int check_alone) {
         times[turn] = now() - start;
         stop_if(reply.refusal);
     }
-    qsort(times, TURNS, sizeof *times, by_size);
-    return times[TURNS / 2];
+    return median(times, TURNS);
 }
 
 int main(void) {
@@ -58,11 +40,12 @@ int main(void) {
         nodes[2 * arc + 1] = head < tail ? head : head + 1;
     }
     stop_if(vihrolom_build(1, NODES, COLUMNS, nodes, 2 * ARCS, costs, ARCS * COLUMNS, image, sizeof image).refusal);
+    seed(1);
     for (size_t i = 0; i < MOST_RECORDS; i++) {
-        records[4 * i] = draw() % ARCS;
-        records[4 * i + 1] = 1 + draw() % COLUMNS;
-        records[4 * i + 2] = draw() % (VIHROLOM_MOST_COST + 1);
-        records[4 * i + 3] = draw() % 1000;
+        records[4 * i] = draw(ARCS);
+        records[4 * i + 1] = 1 + draw(COLUMNS);
+        records[4 * i + 2] = draw(VIHROLOM_MOST_COST + 1);
+        records[4 * i + 3] = draw(1000);
     }
     printf("| records | Update | Check alone |\n|---|---|---|\n");
     for (size_t count = 1000; count <= MOST_RECORDS; count *= 10)
