@@ -1,23 +1,23 @@
 -- A settled answer stands when an arc is closed that its route does not touch, and no column's best changes. Assumes nothing.
 use Prim.Native.Nat.{ℕ, suc, _-_, _/_, _≤_, _<_}
 use native.Mathlib.Omega.{arith}
-use mathlib.Core.Path.{_≡_, refl, sym, _∙_, ap, ap₂}
-use mathlib.Core.Bool.{true, false, not, _&&_, cond}
+use mathlib.Core.Path.{_≡_, sym, _∙_, ap, ap₂}
+use mathlib.Core.Bool.{true, false, not}
 use mathlib.Core.Logic.{⊎-elim}
-use mathlib.Core.List.{List, [], _∷_, map}
-use lib.Dec.{eqb, ltb}
-use lib.ListN.{length, getD, replicate, length-replicate}
-use borrow.Author.Tests.{eqb-true, eqb-false, eq-eqb, ltb-true, not-true}
+use mathlib.Core.List.{List, map}
+use lib.Dec.{eqb}
+use lib.ListN.{length, getD}
+use borrow.Author.Tests.{eqb-true, eqb-false, not-true}
 use Rattle.terms.specs.Lists.{numbers, index, largest}
 use Rattle.terms.specs.Network.{Net, Admitted, column, linked}
 use Rattle.terms.specs.Paths.{Route, OpenPath, cost}
 use Rattle.terms.specs.Regret.{deviation, deviations, figure, worst, bests}
-use Rattle.terms.specs.Robust.{Answer, settled, left-open, no-path, robust}
+use Rattle.terms.specs.Robust.{settled, robust}
 use Rattle.terms.specs.Demand3.{contest, Demand3}
-use Rattle.terms.proofs.ListLaws.{split, clash, or-right, and-both, by-cond, map-numbers}
+use Rattle.terms.proofs.ListLaws.{split, clash, and-both, map-numbers}
 use Rattle.terms.proofs.RankingLaws.{before-same}
-use Rattle.terms.proofs.GraphLaws.{Part, Next, here, later, linked-arc, arc-linked, step-linked, path-by, part-path, part-cost}
-use Rattle.terms.proofs.NetworkLaws.{restricted-arc, arc-restricted, restrict-fewer, restrict-all, restrict-admitted, restrict-columns, restrict-nodes, column-simple}
+use Rattle.terms.proofs.GraphLaws.{Part, linked-arc, arc-linked, step-linked, path-by, part-path, part-cost}
+use Rattle.terms.proofs.NetworkLaws.{restricted-arc, arc-restricted, restrict-fewer, column-simple}
 use Rattle.terms.proofs.OverLaws.{bests-at}
 use Rattle.terms.proofs.Demand3Laws.{ranks, demand-3}
 use Rattle.closures.specs.Map.{shut, turned, left, without}

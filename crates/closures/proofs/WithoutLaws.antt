@@ -1,11 +1,11 @@
 -- The network without the closed arcs. Assumes nothing.
-use Prim.Native.Nat.{ℕ, _+_, _/_, _≤_}
+use Prim.Native.Nat.{ℕ, _+_, _≤_}
 use native.Mathlib.Omega.{arith}
-use mathlib.Core.Path.{_≡_, sym, _∙_, ap, ap₂}
-use mathlib.Core.Bool.{Bool, true, false, not, _&&_}
+use mathlib.Core.Path.{_≡_, sym, _∙_, ap}
+use mathlib.Core.Bool.{Bool, not, _&&_}
 use mathlib.Core.List.{List, [], map, map-map}
 use lib.ListN.{length, getD, replicate, length-map}
-use Rattle.terms.specs.Lists.{_∈_, elem, keep, pick, numbers}
+use Rattle.terms.specs.Lists.{elem, keep, pick, numbers}
 use Rattle.terms.specs.Network.{Net, mark, cost-column, restrict, open-in, open-everywhere, common, Admitted}
 use Rattle.terms.proofs.ListLaws.{map-same, pick-places, length-numbers}
 use Rattle.terms.proofs.NetworkLaws.{costs-restrict, costs-long, restrict-all, restrict-admitted, restrict-columns, restrict-nodes}

@@ -7,8 +7,7 @@ use mathlib.Core.Path.{_≡_, refl, sym, _∙_, ap, subst, fun-ext}
 use mathlib.Core.Bool.{Bool, true, false, not, _&&_}
 use mathlib.Core.Logic.{_≢_, ⊎-elim}
 use mathlib.Core.List.{List, [], _∷_, _++_, map, append-nil, Memᴰ·of-map}
-use lib.Dec.{eqb}
-use lib.ListN.{length, getD, take, drop, set, length-map}
+use lib.ListN.{length, getD, take, set, length-map}
 use lib.Seq.{take-suc, take-suc-set}
 use borrow.Author.Tests.{eqb-false, ne-eqb, not-true}
 use Rattle.terms.specs.Lists.{_∈_, keep, pick, numbers}

@@ -2,7 +2,7 @@
 use Prim.Native.Nat.{ℕ}
 use mathlib.Core.Path.{_≡_, _∙_}
 use mathlib.Core.List.{List}
-use lib.ListN.{length, length-take}
+use lib.ListN.{length-take}
 use Rattle.terms.specs.Network.{column}
 use Rattle.terms.specs.Paths.{Route, Path}
 use Rattle.terms.specs.Ranking.{ranked}

@@ -1,19 +1,19 @@
 -- After every list of events the state shows what Robust says of the image without the closed arcs. Assumes nothing.
-use Prim.Native.Nat.{ℕ, suc, _-_, _/_, _≤_, _<_, min}
+use Prim.Native.Nat.{ℕ, _-_, _/_, _≤_, _<_, min}
 use native.Mathlib.Omega.{arith}
 use mathlib.Core.Path.{_≡_, refl, sym, _∙_, ap, ap₂, subst}
 use mathlib.Core.Bool.{Bool, true, false, not, _&&_, cond}
-use mathlib.Core.Logic.{_⊎_, inl, inr, ⊎-elim}
+use mathlib.Core.Logic.{⊎-elim}
 use mathlib.Core.List.{List, [], _∷_, _++_}
 use lib.Dec.{eqb}
-use lib.ListN.{length, getD, take, replicate, length-replicate}
+use lib.ListN.{length, take, replicate, length-replicate}
 use lib.Seq.{take-at}
 use borrow.Author.Tests.{eqb-true, not-true}
-use Rattle.terms.specs.Network.{Net, column, Admitted}
+use Rattle.terms.specs.Network.{Net, Admitted}
 use Rattle.terms.specs.Paths.{Route}
 use Rattle.terms.specs.Demand3.{Demand3}
 use Rattle.terms.specs.Robust.{Answer, settled, left-open, no-path, robust}
-use Rattle.terms.proofs.ListLaws.{split, clash, and-both, by-cond}
+use Rattle.terms.proofs.ListLaws.{split, and-both}
 use Rattle.terms.proofs.PathLaws.{column-within, at-most-nodes, of-path}
 use Rattle.image.specs.Outcome.{Fault, sound, fault}
 use Rattle.image.specs.Layout.{edition, netOf}
@@ -27,7 +27,7 @@ use Rattle.closures.proofs.WithoutLaws.{without-fresh, without-nodes, without-c
 use Rattle.closures.proofs.StandsLaws.{settled-demand}
 use Rattle.closures.proofs.ClosureLaws.{run-demand, closure-stands}
 use Rattle.outcomes.proofs.RowLaws.{RankingSound, ranking-sound}
-use Rattle.week_calls.specs.Weeks.{week-of, run-week, with-map, route-of, stands, turns, changed, next-week, fresh-fault, fresh-week, event-row, event-fault, event-week, if-sound}
+use Rattle.week_calls.specs.Weeks.{week-of, run-week, with-map, route-of, stands, turns, next-week, fresh-fault, fresh-week, event-row, event-fault, event-week}
 use Rattle.week_calls.specs.Promise.{Event, Course, passes, reruns, follow, after-events, uncounted, Shows, KeptWeek}
 use Rattle.week_calls.specs.declared.week.Week.{Week}
 use Rattle.week_calls.proofs.WeekLaws.{change-stands, change-runs, next-same, next-changed, arc-in, if-passes, if-refused}

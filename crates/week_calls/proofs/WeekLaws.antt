@@ -3,9 +3,7 @@ use Prim.Native.Nat.{ℕ, zero, suc, _+_, _*_, _-_, _≤_, _<_}
 use native.Mathlib.Omega.{arith}
 use mathlib.Core.Path.{_≡_, refl, sym, _∙_, ap, ap₂}
 use mathlib.Core.Bool.{Bool, true, false, not, _&&_, cond}
-use mathlib.Core.Logic.{⊎-elim}
 use mathlib.Core.List.{List, [], _∷_, _++_, foldr}
-use lib.Dec.{eqb, leb}
 use lib.ListN.{length, getD, drop, replicate, length-replicate}
 use borrow.Author.Tests.{eqb-true, eq-eqb, ne-eqb, leb-false, le-leb, lt-leb}
 use Rattle.terms.specs.Network.{Net, column, common}
@@ -13,11 +11,10 @@ use Rattle.terms.specs.Paths.{Route, paths}
 use Rattle.terms.specs.Ranking.{insert, sort, ranked}
 use Rattle.terms.specs.Regret.{deviation, figure, worst, bests}
 use Rattle.terms.specs.Robust.{Answer, settled, left-open, no-path, answer, robust}
-use Rattle.terms.proofs.ListLaws.{split, clash}
 use Rattle.image.specs.Bytes.{field}
 use Rattle.image.specs.Layout.{netOf}
 use Rattle.image.specs.declared.check.Sizes.{Sizes}
-use Rattle.image.specs.Outcome.{Fault, sound, fault, row, Outcome, gives, refuses, outcome, after}
+use Rattle.image.specs.Outcome.{Fault, sound, fault, row, gives, refuses, outcome, after}
 use Rattle.image.proofs.OutcomeLaws.{row-sound, outcome-fault, outcome-sound, after-fault}
 use Rattle.listing.specs.Rows.{padded}
 use Rattle.closures.specs.Map.{shut, turned, without}

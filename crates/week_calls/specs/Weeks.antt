@@ -4,7 +4,7 @@ use Prim.Native.Nat.{ℕ, min}
 use mathlib.Core.Bool.{Bool, not, _&&_, cond}
 use mathlib.Core.List.{List, [], _∷_}
 use lib.Dec.{leb, eqb}
-use lib.ListN.{length, getD, take, replicate}
+use lib.ListN.{length, take, replicate}
 use Rattle.terms.specs.Network.{Net}
 use Rattle.terms.specs.Paths.{Route}
 use Rattle.terms.specs.Robust.{Answer, settled, left-open, no-path, robust}

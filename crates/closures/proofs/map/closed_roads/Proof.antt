@@ -1,7 +1,7 @@
 -- `map::closed_roads`: the ones of the first q words are counted. Assumes nothing.
 use Prim.Native.Nat.{ℕ, _+_, _-_, _*_, _%_, _^_, _≤_, _<_, min}
 use native.Mathlib.Omega.{arith}
-use mathlib.Core.Path.{_≡_, refl, sym, _∙_, ap}
+use mathlib.Core.Path.{_≡_, sym, _∙_, ap}
 use lib.ListN.{getD}
 use lib.Count.{ones}
 use Rattle.closures.specs.Map.{closed-roads}

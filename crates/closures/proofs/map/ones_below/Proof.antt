@@ -1,8 +1,6 @@
 -- `map::ones_below`: a word below its 64th bit is the word. Assumes nothing.
-use Prim.Native.Nat.{_+_, _*_, _%_, _^_, _<_}
 use native.Mathlib.Omega.{arith}
-use mathlib.Core.Path.{_≡_}
-use Rattle.closures.proofs.MapLaws.{whole-word, unit-is, unit-some, some-bits}
+use Rattle.closures.proofs.MapLaws.{whole-word, unit-some, some-bits}
 use borrow.Author.Needs.{needs}
 use Rattle.closures.proofs.map.ones_below.Statement.{statement}
 use Rattle.closures.proofs.map.ones_below.Tie as tie

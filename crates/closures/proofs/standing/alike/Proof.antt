@@ -1,8 +1,8 @@
 -- `standing::alike`: the lists agree before place i, and what is left from there on decides. Assumes nothing.
-use Prim.Native.Nat.{ℕ, _+_, _-_, _≤_, _<_}
+use Prim.Native.Nat.{_-_, _≤_}
 use native.Mathlib.Omega.{arith}
 use mathlib.Core.Path.{_≡_, refl, sym, _∙_}
-use lib.ListN.{length, getD, drop}
+use lib.ListN.{length, drop}
 use Rattle.closures.specs.Standing.{alike}
 use Rattle.closures.proofs.TestLaws.{alike-lengths, alike-end, alike-same, alike-differs}
 use Rattle.closures.proofs.standing.alike.Statement.{statement}

@@ -1,9 +1,9 @@
 -- `standing::touches`: what is left from place i on decides. Assumes nothing.
-use Prim.Native.Nat.{ℕ, _+_, _-_, _≤_, _<_}
+use Prim.Native.Nat.{_-_, _≤_}
 use native.Mathlib.Omega.{arith}
-use mathlib.Core.Path.{_≡_, refl, sym, _∙_}
+use mathlib.Core.Path.{_≡_, sym, _∙_}
 use mathlib.Core.Logic.{⊎-elim}
-use lib.ListN.{length, getD}
+use lib.ListN.{length}
 use Rattle.terms.proofs.ListLaws.{le-or-lt}
 use Rattle.closures.specs.Standing.{touches}
 use Rattle.closures.proofs.TestLaws.{touches-from, touches-first, touches-none, touches-end, touches-here, tail-differs, head-differs}

@@ -1,9 +1,9 @@
 -- `reading::pick_costs`: the first i costs are read. Assumes nothing.
-use Prim.Native.Nat.{ℕ, _+_, _-_, _≤_, _<_}
+use Prim.Native.Nat.{ℕ, _-_, _≤_, _<_}
 use native.Mathlib.Omega.{arith}
-use mathlib.Core.Path.{_≡_, refl, sym, _∙_, ap}
-use mathlib.Core.List.{_++_, map}
-use lib.ListN.{length, getD, take, drop, set, length-set, length-map}
+use mathlib.Core.Path.{_≡_, refl, sym, _∙_}
+use mathlib.Core.List.{_++_}
+use lib.ListN.{length, getD, take, drop, length-set, length-map}
 use lib.Seq.{take-all}
 use Rattle.image.specs.Bytes.{decode}
 use Rattle.image.proofs.SliceLaws.{copy-more}

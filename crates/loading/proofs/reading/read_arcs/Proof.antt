@@ -2,10 +2,10 @@
 use Prim.Native.Nat.{ℕ, _+_, _*_, _-_, _≤_, _<_}
 use native.Mathlib.Omega.{arith}
 use mathlib.Core.Path.{_≡_, refl, sym, _∙_, ap}
-use mathlib.Core.List.{List, _++_, map}
-use lib.ListN.{length, getD, take, drop, set, length-set, length-map, List·getD-map}
+use mathlib.Core.List.{_++_, map}
+use lib.ListN.{length, getD, take, drop, length-set, length-map, List·getD-map}
 use lib.Seq.{take-all}
-use Rattle.image.specs.Layout.{arc-count, netOf}
+use Rattle.image.specs.Layout.{netOf}
 use Rattle.image.proofs.SliceLaws.{copy-more}
 use Rattle.loading.specs.Selected.{selected}
 use Rattle.loading.proofs.SelectLaws.{index-below, selected-length}

@@ -1,10 +1,7 @@
 -- `event::change`: the answer stands, or it is found anew. Assumes nothing.
-use Prim.Native.Nat.{ℕ}
 use native.Mathlib.Omega.{arith}
-use mathlib.Core.Path.{_≡_, sym, _∙_, ap}
-use mathlib.Core.Bool.{false, _&&_}
+use mathlib.Core.Path.{sym, _∙_, ap}
 use mathlib.Core.Logic.{⊎-elim}
-use lib.ListN.{replicate}
 use Rattle.image.specs.Layout.{netOf}
 use Rattle.loading.proofs.DecodeLaws.{few-arcs}
 use Rattle.week_calls.specs.Weeks.{with-map, run-week, stands}

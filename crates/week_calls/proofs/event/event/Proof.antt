@@ -3,7 +3,7 @@ use Prim.Native.Nat.{ℕ, _<_}
 use native.Mathlib.Omega.{arith}
 use mathlib.Core.Path.{_≡_, sym, _∙_, ap}
 use mathlib.Core.List.{[], _∷_}
-use lib.ListN.{length, replicate}
+use lib.ListN.{length}
 use Rattle.image.specs.Answers.{checked, refused}
 use Rattle.image.specs.Outcome.{sound, gives}
 use Rattle.image.specs.Layout.{netOf}

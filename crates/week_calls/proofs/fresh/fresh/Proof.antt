@@ -1,6 +1,5 @@
 -- `fresh::fresh` meets its contract. Assumes nothing.
 use mathlib.Core.Path.{_≡_, sym, _∙_, ap}
-use mathlib.Core.List.{[], _∷_}
 use lib.ListN.{length, replicate}
 use Rattle.terms.specs.Robust.{robust}
 use Rattle.image.specs.Answers.{checked, refused}

@@ -1,5 +1,4 @@
 -- `standing::stands`: each return is one of the three reasons, or that there is none. Assumes nothing.
-use Prim.Native.Nat.{_≤_}
 use native.Mathlib.Omega.{arith}
 use mathlib.Core.Path.{_≡_, sym, _∙_, ap}
 use lib.ListN.{length, getD, take}
