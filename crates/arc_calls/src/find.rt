@@ -14,7 +14,7 @@ use loading::{number_arcs, read_arcs};
 use star::{Arc, find_arc};
 
 // Find's answer: the arc's index, or that there is none; and at how many records it looked.
-#[derive(Drop)]
+#[derive(Clone, Copy)]
 pub enum Found {
     At(u32, u32),
     Nothing(u32),

@@ -16,7 +16,7 @@ use exits::{Next, least_exit};
 use labels::least;
 use sharpening::{LONGEST, Quest, sharpen};
 
-#[derive(Drop)]
+#[derive(Clone, Copy)]
 pub enum Found {
     // The length of the path, and what its tail costs, from the end of the beginning on.
     Tail(usize, u64),
@@ -25,7 +25,7 @@ pub enum Found {
 }
 
 // The next node of a path, and what a path by it costs from the node before it on, by the labels at hand.
-#[derive(Drop)]
+#[derive(Clone, Copy)]
 pub struct Step {
     pub node: u16,
     pub rest: u64,

@@ -20,7 +20,7 @@ use search_calls::Searched;
 // refusal is 0 for a result, and v0 to v5 are then its values; it is else the number of the refusal, and
 // place is its place. What is not used is 0.
 #[repr(C)]
-#[derive(Drop)]
+#[derive(Clone, Copy)]
 pub struct Reply {
     pub refusal: u32,
     pub place: u32,

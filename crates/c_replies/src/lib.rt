@@ -1,4 +1,6 @@
 // The answers of all calls as the C functions return them: eight numbers, or three and the state of a week.
+#![tactic(auto)]
+
 mod answers;
 mod weeks;
 

@@ -9,7 +9,7 @@ use week_calls::{Tally, Week, Weekly};
 // refusal is 0 for a result, and roads is then how many roads the map closes; it is else the number of the
 // refusal, place is its place, and roads is 0. The state is the one that the call gives.
 #[repr(C)]
-#[derive(Drop)]
+#[derive(Clone, Copy)]
 pub struct WeekReply {
     pub refusal: u32,
     pub place: u32,

@@ -1,6 +1,7 @@
 // The calls as C functions (REFERENCE, section 4.14). Slices pass as pointer and length, in elements;
 // the answer is returned by value. No function asks anything of its caller but that the slices are what
 // they say. include/vihrolom.h declares them.
+#![tactic(auto)]
 
 mod images;
 mod paths;

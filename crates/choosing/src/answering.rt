@@ -15,7 +15,7 @@ use crate::task::Task;
 use candidates::{lay_out, length_at};
 
 // The chosen path: how many nodes it has, its figure and its worst column.
-#[derive(Drop)]
+#[derive(Clone, Copy)]
 pub struct Choice {
     pub length: u32,
     pub figure: u32,
@@ -23,7 +23,7 @@ pub struct Choice {
 }
 
 // The choice and the count, and the floor if the answer is open.
-#[derive(Drop)]
+#[derive(Clone, Copy)]
 pub enum Answer {
     Settled(Choice, u32),
     Open(Choice, u32, u32),

@@ -17,7 +17,7 @@ use measuring::{Measure, measure};
 
 // The earliest path with the least figure of those counted: its place among the ranked paths, its
 // figure and its worst column.
-#[derive(Drop)]
+#[derive(Clone, Copy)]
 pub struct Leader {
     pub place: usize,
     pub figure: u64,

@@ -18,7 +18,7 @@ use ranking::{Query, begin, split};
 
 // What the search found: the place of the path among the ranked ones, its figure and worst column, the
 // count, whether the stopping rule holds, and the floor if it does not.
-#[derive(Drop)]
+#[derive(Clone, Copy)]
 pub struct Verdict {
     pub place: usize,
     pub figure: u64,

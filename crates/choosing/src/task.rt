@@ -2,7 +2,7 @@
 
 // A path from start to goal in a network of n nodes, whose greatest regret is least among the first `wanted`
 // paths that are ranked in a column.
-#[derive(Drop)]
+#[derive(Clone, Copy)]
 pub struct Task {
     pub start: u16,
     pub goal: usize,

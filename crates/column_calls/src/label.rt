@@ -15,7 +15,7 @@ use loading::load;
 use outcomes::{is_column, write_narrow};
 
 // Label's answer.
-#[derive(Drop)]
+#[derive(Clone, Copy)]
 pub enum Labelled {
     Written,
     Refused(Refusal),

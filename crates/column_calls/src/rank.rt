@@ -15,7 +15,7 @@ use image::{Checked, Refusal, Sizes};
 use outcomes::check_ranking;
 
 // Rank's answer.
-#[derive(Drop)]
+#[derive(Clone, Copy)]
 pub enum Listed {
     // The number of paths.
     Paths(u32),

@@ -15,7 +15,7 @@ use image::{Checked, Refusal, Sizes};
 use outcomes::{check_search, write_path};
 
 // Shortest's answer.
-#[derive(Drop)]
+#[derive(Clone, Copy)]
 pub enum Routed {
     // The length and the cost of the path.
     Path(u32, u32),

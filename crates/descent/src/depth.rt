@@ -16,7 +16,7 @@ use outcomes::write_path;
 
 // What is searched for: a path from start to goal among n nodes, with a limit on the arcs tried. There are
 // so many arcs.
-#[derive(Drop)]
+#[derive(Clone, Copy)]
 pub struct Task {
     pub n: usize,
     pub arcs: usize,
@@ -27,7 +27,7 @@ pub struct Task {
 
 // The partial route, but for its nodes: how many they are, and their cost in each column. The rest is the
 // task's.
-#[derive(Drop)]
+#[derive(Clone, Copy)]
 pub struct Partial {
     pub arcs: usize,
     pub goal: usize,
@@ -38,7 +38,7 @@ pub struct Partial {
 
 // What is held besides the best path: its length, 0 if there is none yet, its figure, then FAR, and the
 // number of arcs tried.
-#[derive(Drop)]
+#[derive(Clone, Copy)]
 pub struct Held {
     pub length: usize,
     pub figure: u64,
@@ -46,7 +46,7 @@ pub struct Held {
 }
 
 // How it went on: to the end, or cut before the arc that would be one too many.
-#[derive(Drop)]
+#[derive(Clone, Copy)]
 pub enum Run {
     Going(Held),
     Cut,

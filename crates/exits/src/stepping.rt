@@ -10,7 +10,7 @@ ghost use Rattle.exits.specs.Small.{Small, longest};
 use labels::FAR;
 
 // What was found among the exits of a node.
-#[derive(Drop)]
+#[derive(Clone, Copy)]
 pub enum Next {
     // A node, and weight and label of the arc to it.
     Node(u16, u64),

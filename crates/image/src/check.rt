@@ -14,7 +14,7 @@ use super::refusal::{Refusal, Verdict};
 use super::rows::{check_arc, in_range, is_cost, is_taken};
 
 // The numbers of nodes, arcs and columns: n, m and k; and the edition.
-#[derive(Drop)]
+#[derive(Clone, Copy)]
 pub struct Sizes {
     pub n: u32,
     pub m: u32,
@@ -23,7 +23,7 @@ pub struct Sizes {
 }
 
 // Check's answer.
-#[derive(Drop)]
+#[derive(Clone, Copy)]
 pub enum Checked {
     Network(Sizes),
     Refused(Refusal),

@@ -1,5 +1,6 @@
 // The network image: its layout, the refusals of the table, and Check, which asks nothing of its
 // caller; and what reads the bytes of an accepted image.
+#![tactic(auto)]
 
 mod bytes;
 pub mod check;

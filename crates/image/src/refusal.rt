@@ -4,7 +4,7 @@ ghost use Rattle.image.specs.Refusals.{number_of, place_of};
 
 // A row of the table. Where it names a place, its variant holds it.
 // specs/Refusals.antt gives each variant the row's number and place.
-#[derive(Drop)]
+#[derive(Clone, Copy)]
 pub enum Refusal {
     ImageTooShort,
     WrongEdition,
@@ -28,7 +28,7 @@ pub enum Refusal {
 }
 
 // What some rows of the table come to: none applies, or the first that does.
-#[derive(Drop)]
+#[derive(Clone, Copy)]
 pub enum Verdict {
     Sound,
     Refused(Refusal),

@@ -1,4 +1,6 @@
 // What is left of a workspace: its first entries written out, a row each, and then zeros.
+#![tactic(auto)]
+
 mod clearing;
 mod rows;
 

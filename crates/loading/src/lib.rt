@@ -1,5 +1,7 @@
 // An accepted image read for the layers above: which of its arcs are in, these in a star with their costs, and
 // one column made ready for the search of paths.
+#![tactic(auto)]
+
 mod filling;
 mod loading;
 mod reading;

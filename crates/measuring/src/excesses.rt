@@ -6,7 +6,7 @@ ghost use Rattle.measuring.specs.Steps.{Summed, excesses, Measured};
 use super::sums::column_excess;
 
 // A path's greatest regret, and the lowest-numbered column that has it.
-#[derive(Drop)]
+#[derive(Clone, Copy)]
 pub struct Measure {
     pub figure: u64,
     pub worst: u32,

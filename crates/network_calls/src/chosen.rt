@@ -28,7 +28,7 @@ use listing::clear;
 use loading::{label_nodes, load_common_left};
 
 // A path with the least figure among those counted.
-#[derive(Drop)]
+#[derive(Clone, Copy)]
 pub struct Decision {
     pub length: u32,
     pub figure: u32,
@@ -38,7 +38,7 @@ pub struct Decision {
 }
 
 // Robust's answer.
-#[derive(Drop)]
+#[derive(Clone, Copy)]
 pub enum Decided {
     Settled(Decision),
     // And the floor: no path has a smaller figure.

@@ -1,5 +1,7 @@
 // The calls that read all columns of an image: Regret, the greatest regret of a given path, and Robust, the
 // path whose greatest regret is least. None asks anything of its caller.
+#![tactic(auto)]
+
 mod chosen;
 mod measured;
 mod node_list;

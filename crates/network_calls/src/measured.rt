@@ -18,14 +18,14 @@ use loading::load_common;
 use measuring::measure;
 
 // A path's greatest regret, and the lowest-numbered column that has it.
-#[derive(Drop)]
+#[derive(Clone, Copy)]
 pub struct Measure {
     pub figure: u32,
     pub worst: u32,
 }
 
 // Regret's answer.
-#[derive(Drop)]
+#[derive(Clone, Copy)]
 pub enum Regretted {
     Measured(Measure),
     Refused(Refusal),

@@ -9,7 +9,7 @@ ghost use Rattle.network_calls.specs.NodeLists.{Followed, FirstError, list_fault
 use star::{Arc, arc_between};
 
 // What the check of a node list finds: a path, or the place of row 14.
-#[derive(Drop)]
+#[derive(Clone, Copy)]
 pub enum NodeList {
     Path,
     Fault(u32),

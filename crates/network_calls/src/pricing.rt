@@ -15,14 +15,14 @@ use measuring::column_bests;
 use outcomes::narrow;
 
 // An image's sizes, and how many of the arcs that its map leaves are open in every column.
-#[derive(Drop)]
+#[derive(Clone, Copy)]
 pub struct Extent {
     pub sizes: Sizes,
     pub m: usize,
 }
 
 // From where to where, and the column whose labels are at hand; 0 if none is.
-#[derive(Drop)]
+#[derive(Clone, Copy)]
 pub struct Trip {
     pub start: usize,
     pub goal: usize,

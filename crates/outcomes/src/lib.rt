@@ -1,5 +1,7 @@
 // What each call comes to, for every input, is defined in specs/Calls.antt. Here are the rows of the refusal
 // table that calls share, and what they write.
+#![tactic(auto)]
+
 mod rows;
 mod writing;
 

@@ -15,7 +15,7 @@ use image::{
 };
 
 // Build's answer.
-#[derive(Drop)]
+#[derive(Clone, Copy)]
 pub enum Built {
     Image(u32),
     Refused(Refusal),

@@ -11,7 +11,7 @@ use image::check::check;
 use image::{Checked, Refusal, Sizes, cost_count, costs_start, read_costs, read16};
 
 // Unpack's answer.
-#[derive(Drop)]
+#[derive(Clone, Copy)]
 pub enum Unpacked {
     Lists(Sizes),
     Refused(Refusal),

@@ -2,7 +2,7 @@
 
 // The first paths from start to goal in a network of n nodes, as many as there are slots. Paths that cost
 // `limit` or more are not wanted.
-#[derive(Drop)]
+#[derive(Clone, Copy)]
 pub struct Query {
     pub start: u16,
     pub goal: usize,
@@ -13,7 +13,7 @@ pub struct Query {
 
 // The first path of a branch leaves the path with the rank `parent` after d nodes, which cost `before`, or
 // is the first of all, if parent is 0. There are `count` entries, and those below `parent` are ranked.
-#[derive(Drop)]
+#[derive(Clone, Copy)]
 pub struct Detour {
     pub count: usize,
     pub parent: usize,
@@ -22,7 +22,7 @@ pub struct Detour {
 }
 
 // The path at the place `rank` is left after d nodes, which cost `before`. There are `count` entries.
-#[derive(Drop)]
+#[derive(Clone, Copy)]
 pub struct Fork {
     pub count: usize,
     pub rank: usize,
@@ -31,7 +31,7 @@ pub struct Fork {
 }
 
 // The path at the place `rank`: it has len nodes, of which it takes over `shared`, and costs `cost`.
-#[derive(Drop)]
+#[derive(Clone, Copy)]
 pub struct Stem {
     pub rank: usize,
     pub shared: usize,

@@ -15,7 +15,7 @@ use image::check::check;
 use image::{Checked, Refusal, Sizes, Verdict, cost_count, costs_start, is_cost, number, write32};
 
 // Update's answer.
-#[derive(Drop)]
+#[derive(Clone, Copy)]
 pub enum Updated {
     Written,
     Refused(Refusal),

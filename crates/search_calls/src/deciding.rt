@@ -18,7 +18,7 @@ use network_calls::measure_path;
 use outcomes::write_path;
 
 // The path found: its length, figure and worst column, and how many arcs were tried.
-#[derive(Drop)]
+#[derive(Clone, Copy)]
 pub struct Found {
     pub length: u32,
     pub figure: u32,
@@ -27,7 +27,7 @@ pub struct Found {
 }
 
 // Search's answer.
-#[derive(Drop)]
+#[derive(Clone, Copy)]
 pub enum Searched {
     Found(Found),
     Refused(Refusal),

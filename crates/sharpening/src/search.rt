@@ -12,7 +12,7 @@ use labels::FAR;
 pub const LONGEST: u64 = 53418655545;
 
 // From which node a search goes to which, and the most that a path from the one to the other may cost.
-#[derive(Drop)]
+#[derive(Clone, Copy)]
 pub struct Quest {
     pub from: usize,
     pub goal: usize,
@@ -21,7 +21,7 @@ pub struct Quest {
 
 // The node whose arcs are followed. Its key is the least cost of a path through it, by the labels at
 // hand, and a path may cost `room` more; `taken` nodes were taken up to now.
-#[derive(Drop)]
+#[derive(Clone, Copy)]
 pub struct Hub {
     pub node: usize,
     pub key: u64,
@@ -31,7 +31,7 @@ pub struct Hub {
 
 // How far a search went: how many nodes it took, and what a path costs at least: the key with which it
 // came to the goal, or one more than the most, or FAR if any path would do.
-#[derive(Drop)]
+#[derive(Clone, Copy)]
 pub struct Level {
     pub taken: usize,
     pub key: u64,

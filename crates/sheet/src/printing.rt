@@ -14,7 +14,7 @@ use network_calls::Decided;
 use network_calls::robust::robust;
 
 // The sheet's answer.
-#[derive(Drop)]
+#[derive(Clone, Copy)]
 pub enum Printed {
     // The length of the text.
     Text(u32),

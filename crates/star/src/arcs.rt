@@ -5,7 +5,7 @@ ghost use Rattle.star.specs.Search.{record_at, is_arc, seek, Finds};
 ghost use Rattle.star.specs.Found.{sought, ArcFound};
 
 // What a search for an arc finds: the arc's index, or that there is none; and at how many records it looked.
-#[derive(Drop)]
+#[derive(Clone, Copy)]
 pub enum Arc {
     At(u16, u32),
     Nothing(u32),

@@ -2,6 +2,8 @@
 // head, a place for each arc; where the arcs out of each node begin; and the last arc into each node.
 // `weights` has the costs of one column. Arcs rise by tail, then head. Nodes are numbered from 1: what has
 // a place for each node has one place more, its first, which is not used.
+#![tactic(auto)]
+
 mod arcs;
 mod assembling;
 mod chains;

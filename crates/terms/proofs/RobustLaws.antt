@@ -42,7 +42,7 @@ pub least_figure_suc : (fig : Route → ℕ) (ps : List Route) (j : ℕ) → 1 �
 unfolding least_figure
 least_figure_suc fig ps zero lo hi = absurd (omega arith)
 least_figure_suc fig [] (suc j) lo hi = absurd (omega arith)
-least_figure_suc fig (p ∷ ps) (suc j) lo hi = rw (take-suc ps j [] (omega arith), map-append) (least_snoc (fig p) (map fig (take j ps)) (fig (get_or ps j [])))
+least_figure_suc fig (p ∷ ps) (suc j) lo hi = rw (take-suc ps j [] (omega arith), map-append fig (take j ps)) (least_snoc (fig p) (map fig (take j ps)) (fig (get_or ps j [])))
 
 -- ---- the choice: the earliest path with the least figure among the first j
 pub record Chosen (fig : Route → ℕ) (ps : List Route) (j : ℕ) (p : Route) : Type 0 where

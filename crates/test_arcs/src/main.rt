@@ -3,6 +3,7 @@
 //
 // The file plain_search.rt has the plain answers, written apart from the library, and the others make the
 // cases.
+#![tactic(auto)]
 
 mod find_cases;
 mod find_random;

@@ -10,7 +10,7 @@ use test_fixtures::slices::holds_numbers;
 
 // A refusal's number and place; or the number 0, the place 0 and the values that the call gave,
 // filled up with 0.
-#[derive(Drop)]
+#[derive(Clone, Copy)]
 pub struct Answer {
     pub number: u32,
     pub place: u32,

@@ -1,5 +1,6 @@
 // What the test programs share of the library's calls: answers as numbers, and the calls of the path layer
 // held to their answers.
+#![tactic(auto)]
 
 pub mod answers;
 pub mod find_calls;

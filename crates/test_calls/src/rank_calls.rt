@@ -13,7 +13,7 @@ const COST_PLACES: usize = 270;
 pub const WORK_PLACES: usize = 6370;
 
 // What is asked of a call that ranks paths: K is `wanted`.
-#[derive(Drop)]
+#[derive(Clone, Copy)]
 pub struct Request {
     pub column: u32,
     pub start: u32,
@@ -22,7 +22,7 @@ pub struct Request {
 }
 
 // How many places of each slice are lent.
-#[derive(Drop)]
+#[derive(Clone, Copy)]
 pub struct Rooms {
     pub rows: usize,
     pub costs: usize,

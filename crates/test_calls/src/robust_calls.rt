@@ -10,7 +10,7 @@ use test_fixtures::slices::{NODE_PATTERN, NUMBER_PATTERN, holds_nodes, is_filled
 const PATH_PLACES: usize = 20;
 
 // How many places of each slice are lent.
-#[derive(Drop)]
+#[derive(Clone, Copy)]
 pub struct RouteRooms {
     pub path: usize,
     pub work: usize,

@@ -10,7 +10,7 @@ use test_fixtures::slices::{NODE_PATTERN, holds_nodes};
 const PLACES: usize = 210;
 
 // What is asked of Search.
-#[derive(Drop)]
+#[derive(Clone, Copy)]
 pub struct Quest {
     pub start: u32,
     pub goal: u32,
@@ -81,7 +81,7 @@ fn within(quest: Quest, limit: u32) -> Quest {
 }
 
 // What Search finds: a path's figure and worst column.
-#[derive(Drop)]
+#[derive(Clone, Copy)]
 pub struct Choice {
     pub figure: u32,
     pub worst: u32,

@@ -47,7 +47,7 @@ fn is_among(nodes: &[u16], count: usize, node: u16) -> bool {
 }
 
 // What a node list is: a path, or not, with the place that row 14 names.
-#[derive(Drop)]
+#[derive(Clone, Copy)]
 pub enum NodeList {
     Path,
     Wrong(usize),

@@ -6,7 +6,7 @@ use super::order::{UNREACHED, labels};
 use super::paths::{Row, has, last, length, with};
 
 // The best path so far, if there is one, with its figure, and the number of arcs tried.
-#[derive(Drop)]
+#[derive(Clone, Copy)]
 pub struct Descent {
     pub is_found: bool,
     pub path: Row,

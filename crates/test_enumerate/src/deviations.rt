@@ -7,7 +7,7 @@ pub fn deviation(cost: u64, best: u64) -> u64 {
 }
 
 // A path's figure, and its worst column.
-#[derive(Drop)]
+#[derive(Clone, Copy)]
 pub struct Measure {
     pub figure: u64,
     pub worst: u32,

@@ -6,6 +6,7 @@
 // A network is given by Build's two lists: its arcs, tail and head in turn, and its costs, column
 // by column. An arc may be closed in a column; every path of arcs is written down, and in a column
 // where one of its arcs is closed it has the mark in place of a cost.
+#![tactic(auto)]
 
 mod arcs;
 mod closing;

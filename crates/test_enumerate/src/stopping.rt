@@ -4,7 +4,7 @@ use super::costs::{Costs, costs_at, in_column};
 use super::deviations::{deviation, regret};
 
 // Robust's answer. The route is the path at an index; the floor is 0 in a settled answer.
-#[derive(Drop)]
+#[derive(Clone, Copy)]
 pub struct Choice {
     pub settled: bool,
     pub count: usize,

@@ -5,6 +5,7 @@
 // The file image_calls.rt holds one call to its answer, and the others make the cases. The answers
 // come from REFERENCE, section 8, or from plain_answers.rt, which is written apart from the library.
 // The calls of the path layer on what they take are tested by the program test_routes.
+#![tactic(auto)]
 
 mod editions;
 mod image_calls;

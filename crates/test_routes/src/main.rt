@@ -6,6 +6,7 @@
 // networks in which arcs are closed in columns. The answers come from REFERENCE,
 // section 8, from networks whose paths are known, or from the crate test_enumerate, which is written
 // apart from the library. Images and numbers that the calls refuse are tested by the program test_images.
+#![tactic(auto)]
 
 mod closed_cases;
 mod path_cases;

@@ -7,7 +7,7 @@ use test_fixtures::numbers::{count, narrow, node};
 use test_fixtures::report::{REGRET, Report};
 
 // The nodes between which a path is looked for, in a network of n nodes.
-#[derive(Drop)]
+#[derive(Clone, Copy)]
 pub struct Trip {
     pub n: u32,
     pub start: u32,
@@ -92,7 +92,7 @@ fn changed_row(mut row: Row, place: usize, other: u16) -> Row {
 }
 
 // The list of a row's first `length` nodes.
-#[derive(Drop)]
+#[derive(Clone, Copy)]
 struct List {
     row: Row,
     length: usize,

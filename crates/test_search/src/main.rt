@@ -5,6 +5,7 @@
 // The file search_cases.rt has networks whose answers are written down, and search_random.rt holds Search to
 // the crate test_enumerate: the path to all paths, the count of arcs tried to the words of the rule, and the
 // figure to a settled Robust's. Images that Search refuses are tested by the program test_images.
+#![tactic(auto)]
 
 mod search_cases;
 mod search_random;

@@ -3,6 +3,8 @@
 //
 // examples/make.py makes the images, and the sheets in the file stdout that they are held to, apart
 // from the library.
+#![tactic(auto)]
+
 use libc::STDOUT_FILENO;
 use sheet::{Printed, sheet};
 use test_fixtures::slices::{BYTE_PATTERN, holds_bytes};

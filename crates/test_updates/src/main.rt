@@ -3,6 +3,7 @@
 //
 // The file plain_update.rt has the plain answers, written apart from the library, and the others make the
 // cases.
+#![tactic(auto)]
 
 mod cases;
 mod plain_update;

@@ -8,7 +8,7 @@ use week_calls::fresh::fresh;
 use week_calls::{Tally, Week, Weekly};
 
 // What is asked of Event beside an image and a state, and how many places of the workspace are lent.
-#[derive(Drop)]
+#[derive(Clone, Copy)]
 pub struct Asked {
     pub request: Request,
     pub arc: u32,

@@ -11,7 +11,7 @@ use test_fixtures::plain_image::{Header, encode, total};
 use week_calls::Week;
 
 // The lists of a network of up to eight nodes: the beginnings of the arrays.
-#[derive(Drop)]
+#[derive(Clone, Copy)]
 pub struct Lists {
     pub arcs: [u16; 112],
     pub costs: [u32; 448],

@@ -6,6 +6,7 @@
 // The files map.rt, left.rt and verdict.rt have the plain answers, written apart from the library: the map by halving
 // its words, Robust by an image without the closed arcs, and the standing rule by all paths of test_enumerate.
 // held.rt makes the calls, step.rt one event of a week, and the others make the cases.
+#![tactic(auto)]
 
 mod all_roads;
 mod cases;

@@ -9,7 +9,7 @@ use test_fixtures::random::{Random, draw};
 use test_fixtures::report::{FRESH, Report};
 
 // What is done with each network.
-#[derive(Drop)]
+#[derive(Clone, Copy)]
 enum Purpose {
     Weeks,
     AllRoads,

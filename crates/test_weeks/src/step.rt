@@ -10,7 +10,7 @@ use test_fixtures::report::{FRESH, NO_PATH, OPEN, RUNS, Report, SETTLED, STANDS}
 use week_calls::Week;
 
 // The state after some events, and the report of them.
-#[derive(Drop)]
+#[derive(Clone, Copy)]
 pub struct Run {
     pub report: Report,
     pub week: Week,

@@ -3,6 +3,8 @@
 //
 // No image is longer than 36,024 bytes. Of a longer input the first 36,025 bytes are read, which
 // are refused like any image whose length isn't its total.
+#![tactic(auto)]
+
 use sheet::{Printed, sheet};
 
 // Prints the sheet of an image, by way of a slice that is long enough.

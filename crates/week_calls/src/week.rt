@@ -4,7 +4,7 @@ use image::Refusal;
 // The state beside an image: the map of closed arcs, and the current answer with its route. `state` is 1 if the
 // answer is settled, 2 if it is open, and 15 if there is no path. What an answer has not got is 0.
 #[repr(C)]
-#[derive(Drop)]
+#[derive(Clone, Copy)]
 pub struct Week {
     pub closed: [u64; 16],
     pub route: [u16; 200],
@@ -17,7 +17,7 @@ pub struct Week {
 }
 
 // What is given beside the state.
-#[derive(Drop)]
+#[derive(Clone, Copy)]
 pub enum Tally {
     // How many roads the map closes.
     ClosedRoads(u32),
@@ -26,14 +26,14 @@ pub enum Tally {
 
 // The state after a call, and what is given beside it. A refused event leaves the state as it was, and a refused
 // fresh one is all 0.
-#[derive(Drop)]
+#[derive(Clone, Copy)]
 pub struct Weekly {
     pub week: Week,
     pub tally: Tally,
 }
 
 // What is asked all week: Robust's question.
-#[derive(Drop)]
+#[derive(Clone, Copy)]
 pub struct Question {
     pub column: u32,
     pub start: u32,

@@ -1,0 +1,31 @@
+-- `find::find` searches an image that Check accepts. Assumes nothing.
+use mathlib.Core.Path.{sym, ◌∙◌, ap}
+use Rattle.image.specs.Answers.{checked, refused}
+use Rattle.image.proofs.OutcomeLaws.{outcome_fault}
+use Rattle.image.proofs.CheckLaws.{accepted, rejected}
+use Rattle.loading.specs.Accepted.{Accepted}
+use Rattle.loading.proofs.DecodeLaws.{accepted_of}
+use Rattle.arc_calls.specs.Calls.{find_outcome}
+use Rattle.arc_calls.proofs.FindLaws.{finds_arc, found_values, none_values}
+use Rattle.arc_calls.proofs.find.find.Goals as goal
+
+pub returns-in_default : goal.returns-in_default
+unfolding find_outcome
+returns-in_default c =
+    let told = c.in_default.is in
+    record { result_value = ap refused (c.refusal.ensures _ told) ∙ sym (outcome_fault _ (rejected _ (sym (ap checked told) ∙ c.check-answer.ensures))); finds_arc = finds_arc _ _ _ }
+
+pub seek_arc-arc-requires : goal.seek_arc-arc-requires
+seek_arc-arc-requires c =
+    let known : Accepted c.args.image.now c.in-Network.sizes = let g = accepted _ (sym (ap checked c.in-Network.is) ∙ c.check-answer.ensures) in accepted_of g.0 g.1 in
+    known
+
+pub returns-in-At : goal.returns-in-At
+returns-in-At c =
+    let known : Accepted c.args.image.now c.in-Network.sizes = let g = accepted _ (sym (ap checked c.in-Network.is) ∙ c.check-answer.ensures) in accepted_of g.0 g.1 in
+    record { result_value = found_values _ _ _ known.passes c.seek_arc-arc.ensures c.in-At.is; finds_arc = finds_arc _ _ _ }
+
+pub returns-in-Nothing : goal.returns-in-Nothing
+returns-in-Nothing c =
+    let known : Accepted c.args.image.now c.in-Network.sizes = let g = accepted _ (sym (ap checked c.in-Network.is) ∙ c.check-answer.ensures) in accepted_of g.0 g.1 in
+    record { result_value = none_values _ _ _ known.passes c.seek_arc-arc.ensures c.in-Nothing.is; finds_arc = finds_arc _ _ _ }

@@ -1,0 +1,92 @@
+-- `first::by_labels`: with no exit the branch is empty; a walk that arrives is its first path, and so is the path step by step. Assumes nothing.
+use mathlib.Core.Path.{◌≡◌, refl, ◌∙◌}
+use Prim.Native.Nat.{◌-◌}
+use native.Mathlib.Omega.{arith}
+use lib.ListN.{length, take, get_or}
+use Rattle.star.specs.Layout.{graph_of}
+use Rattle.labels.specs.Labels.{Least}
+use Rattle.exits.specs.Exits.{Unmarked}
+use Rattle.exits.specs.Walks.{Choice}
+use Rattle.exits.specs.Flags.{Fresh}
+use Rattle.branching.specs.Found.{Begun, Extent, FirstFound}
+use Rattle.branching.specs.Laid.{Laid, Tried}
+use Rattle.star.specs.Layout.{Network}
+use Rattle.exits.proofs.ExitLaws.{usable_node, chosen_node, chosen_nothing}
+use Rattle.branching.proofs.FlagLaws.{unflagged}
+use Rattle.branching.proofs.FirstLaws.{branch_empty, branch_walked, branch_stepped, tried_kept}
+use Rattle.branching.proofs.LaidLaws.{laid_place, laid_kept, tried_again}
+use Rattle.branching.proofs.NetworkLaws.{network_small, network_exact}
+use Rattle.branching.proofs.WalkLaws.{Exact}
+use Rattle.branching.proofs.first.by_labels.Goals as goal
+
+pub least-requires : goal.least-requires
+least-requires c =
+    -- WANTS record of network, goal
+    let p = c.requires in
+    rw p.1.1.1 ((p.0, p.1.0.laid.flags_long), record { place = p.1.1.0.place; free = p.1.1.0.unmet })
+
+pub least_exit-requires : goal.least_exit-requires
+least_exit-requires c =
+    let made_least : Least (graph_of c.args.star.now c.args.weights.now) c.args.used.now c.args.goal c.least.new.labels = c.least.ensures in
+    let made_long : length c.least.new.labels ≡ length c.args.used.now = c.least.auto.labels ∙ c.requires.labels_len in
+    let begun : Begun (length c.args.used.now) c.args.used.now c.args.barred.now c.args.path.now c.args.d = c.requires.begun in
+    let network : Network (length c.args.used.now) c.args.star.now c.args.weights.now = c.requires.network in
+    -- WANTS record of network, small, used_len
+    let n = network in
+    rw made_long ((n, laid_place (c.args.d - 1) (omega (arith, begun.some)) begun.laid), (network_small n made_long made_least, (refl, begun.barred_long)))
+
+pub returns-in_default : goal.returns-in_default
+returns-in_default c =
+    let made_least : Least (graph_of c.args.star.now c.args.weights.now) c.args.used.now c.args.goal c.least.new.labels = c.least.ensures in
+    let made_long : length c.least.new.labels ≡ length c.args.used.now = c.least.auto.labels ∙ c.requires.labels_len in
+    let made_exact : Exact (graph_of c.args.star.now c.args.weights.now) c.args.goal c.least.new.labels (take c.args.d c.args.path.now) = network_exact network made_long made_least begun.laid.flagged (unflagged begun.laid.flagged _ c.requires.ahead.unmet) in
+    let begun : Begun (length c.args.used.now) c.args.used.now c.args.barred.now c.args.path.now c.args.d = c.requires.begun in
+    let network : Network (length c.args.used.now) c.args.star.now c.args.weights.now = c.requires.network in
+    let n = network in
+    record { kept = record { flags = refl; kept = refl; reach = Extent.nothing }; by_index = λ s F B h. FirstFound.none (branch_empty begun h B made_exact.consistent (chosen_nothing c.least_exit.ensures.chosen c.in_default.is)) }
+
+pub attempt-end-requires : goal.attempt-end-requires
+attempt-end-requires c =
+    let usable : Fresh (length c.args.used.now) c.args.used.now c.in-Node.y = rw made_long at (usable_node c.least_exit.ensures.usable c.in-Node.is) in
+    let made_long : length c.least.new.labels ≡ length c.args.used.now = c.least.auto.labels ∙ c.requires.labels_len in
+    let begun : Begun (length c.args.used.now) c.args.used.now c.args.barred.now c.args.path.now c.args.d = c.requires.begun in
+    let network : Network (length c.args.used.now) c.args.star.now c.args.weights.now = c.requires.network in
+    -- WANTS record of network, laid
+    let n = network in
+    rw made_long (n, ((begun.laid, usable)))
+
+pub returns-then-end : goal.returns-then-end
+returns-then-end c =
+    let made_least : Least (graph_of c.args.star.now c.args.weights.now) c.args.used.now c.args.goal c.least.new.labels = c.least.ensures in
+    let made_long : length c.least.new.labels ≡ length c.args.used.now = c.least.auto.labels ∙ c.requires.labels_len in
+    let walk_tried : Tried c.args.used.now c.args.path.now c.args.d c.attempt-end.new.used c.attempt-end.new.path c.attempt-end.result.len = c.attempt-end.ensures.tried in
+    let choice : Choice (graph_of c.args.star.now c.args.weights.now) c.least.new.labels (Unmarked c.args.used.now c.args.barred.now) (get_or c.args.path.now (c.args.d - 1) 0) c.in-Node.l c.in-Node.y = let n = network in chosen_node c.least_exit.ensures.chosen c.in-Node.is in
+    let made_exact : Exact (graph_of c.args.star.now c.args.weights.now) c.args.goal c.least.new.labels (take c.args.d c.args.path.now) = network_exact network made_long made_least begun.laid.flagged (unflagged begun.laid.flagged _ c.requires.ahead.unmet) in
+    let begun : Begun (length c.args.used.now) c.args.used.now c.args.barred.now c.args.path.now c.args.d = c.requires.begun in
+    let network : Network (length c.args.used.now) c.args.star.now c.args.weights.now = c.requires.network in
+    let n = network in
+    record { kept = tried_kept walk_tried; by_index = λ s F B h. let r = branch_walked begun h B choice made_exact.consistent (c.attempt-end.ensures.arrives choice.exit.reached c.if-end.true) in FirstFound.found r.0 r.1 }
+
+pub by_steps-len-requires : goal.by_steps-len-requires
+by_steps-len-requires c =
+    let begun : Begun (length c.args.used.now) c.args.used.now c.args.barred.now c.args.path.now c.args.d = c.requires.begun in
+    let walk_laid : Laid (length c.args.used.now) c.args.used.now c.attempt-end.new.path c.args.d = laid_kept walk_tried.kept c.attempt-end.auto.path begun.laid in
+    let walk_tried : Tried c.args.used.now c.args.path.now c.args.d c.attempt-end.new.used c.attempt-end.new.path c.attempt-end.result.len = c.attempt-end.ensures.tried in
+    let usable : Fresh (length c.args.used.now) c.args.used.now c.in-Node.y = rw made_long at (usable_node c.least_exit.ensures.usable c.in-Node.is) in
+    let made_long : length c.least.new.labels ≡ length c.args.used.now = c.least.auto.labels ∙ c.requires.labels_len in
+    -- WANTS record of network, laid, ahead, labels_len
+    let p = c.requires in
+    rw walk_tried.flags (p.0, ((walk_laid, usable), (p.1.1.0, made_long)))
+
+pub returns : goal.returns
+returns c =
+    let made_least : Least (graph_of c.args.star.now c.args.weights.now) c.args.used.now c.args.goal c.least.new.labels = c.least.ensures in
+    let made_long : length c.least.new.labels ≡ length c.args.used.now = c.least.auto.labels ∙ c.requires.labels_len in
+    let network : Network (length c.args.used.now) c.args.star.now c.args.weights.now = c.requires.network in
+    let walk_tried : Tried c.args.used.now c.args.path.now c.args.d c.attempt-end.new.used c.attempt-end.new.path c.attempt-end.result.len = c.attempt-end.ensures.tried in
+    let choice : Choice (graph_of c.args.star.now c.args.weights.now) c.least.new.labels (Unmarked c.args.used.now c.args.barred.now) (get_or c.args.path.now (c.args.d - 1) 0) c.in-Node.l c.in-Node.y = let n = network in chosen_node c.least_exit.ensures.chosen c.in-Node.is in
+    let made_exact : Exact (graph_of c.args.star.now c.args.weights.now) c.args.goal c.least.new.labels (take c.args.d c.args.path.now) = network_exact network made_long made_least begun.laid.flagged (unflagged begun.laid.flagged _ c.requires.ahead.unmet) in
+    let begun : Begun (length c.args.used.now) c.args.used.now c.args.barred.now c.args.path.now c.args.d = c.requires.begun in
+    record { kept = tried_kept (tried_again walk_tried.by-steps.ensures.0); by_index = λ s F B h.
+          let r = branch_stepped begun h B choice made_exact (λ p i. rw walk_tried.kept at (c.by_steps-len.ensures.by_index s p (rw walk_tried.kept i))) in
+          FirstFound.found r.0 r.1 }

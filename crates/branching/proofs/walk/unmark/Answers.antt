@@ -1,0 +1,16 @@
+-- `walk::unmark` takes the last node off the path until `from` are left. The loop: the first i nodes are laid out. Assumes nothing.
+use mathlib.Core.Path.{◌≡◌}
+use native.Mathlib.Omega.{arith}
+use Rattle.branching.proofs.LaidLaws.{laid_less}
+use Rattle.branching.proofs.walk.unmark.Goals as goal
+
+pub loop-i-init : goal.loop-i-init
+loop-i-init c = (c.requires.1, omega arith, c.requires.0)
+
+pub loop-i-preserved : goal.loop-i-preserved
+loop-i-preserved c = (omega arith, omega arith, laid_less (omega arith) c.loop-i.invariant.2)
+
+pub returns : goal.returns
+returns c =
+    let e : c.loop-i.i ≡ c.args.from = omega arith in
+    rw e at c.loop-i.invariant.2

@@ -1,0 +1,34 @@
+-- `ordering::place_for` halves the places that are left. The loop: the entry below `low` comes before the new one, that at `high` does not. Assumes nothing.
+use Prim.Native.Nat.{◌+◌, ◌-◌, ◌/◌}
+use native.Mathlib.Omega.{arith}
+use mathlib.Core.Path.{◌≡◌, sym, ◌∙◌}
+use mathlib.Core.Bool.{true, false}
+use Rattle.candidates.specs.Slots.{entries}
+use Rattle.candidates.specs.Placing.{ahead}
+use Rattle.candidates.proofs.EntryLaws.{length_entries}
+use Rattle.candidates.proofs.RootedLaws.{family_rooted}
+use Rattle.candidates.proofs.PlacingLaws.{ahead_entries}
+use Rattle.candidates.proofs.ordering.place_for.Goals as goal
+
+pub loop-low-init : goal.loop-low-init
+loop-low-init c = (omega arith, c.requires.from_le_count, omega arith, (λ q h z. absurd (omega arith)), λ h. absurd (omega arith))
+
+pub entry_before-requires : goal.entry_before-requires
+entry_before-requires c = family_rooted (c.loop-low.low + (c.loop-low.high - c.loop-low.low) / 2) (omega arith) c.requires.readable.0 c.requires.readable.1
+
+pub loop-low-preserved-then-entry_before : goal.loop-low-preserved-then-entry_before
+loop-low-preserved-then-entry_before c =
+    let tested : c.entry_before.result ≡ ahead c.args.start (entries c.args.n c.args.work.now c.args.count) (c.loop-low.low + (c.loop-low.high - c.loop-low.low) / 2) c.args.cost c.args.route.now = c.entry_before.ensures ∙ ahead_entries c.args.start c.args.n c.args.work.now (c.loop-low.low + (c.loop-low.high - c.loop-low.low) / 2) c.args.count c.args.cost c.args.route.now (omega arith) in
+    let t : ahead c.args.start (entries c.args.n c.args.work.now c.args.count) (c.loop-low.low + (c.loop-low.high - c.loop-low.low) / 2) c.args.cost c.args.route.now ≡ true = sym tested ∙ c.if-entry_before.true in
+    (omega arith, omega arith, c.loop-low.invariant.2, (λ q h z. let y : q ≡ (c.loop-low.low + (c.loop-low.high - c.loop-low.low) / 2) = omega arith in rw y t), c.loop-low.invariant.4)
+
+pub loop-low-preserved : goal.loop-low-preserved
+loop-low-preserved c =
+    let tested : c.entry_before.result ≡ ahead c.args.start (entries c.args.n c.args.work.now c.args.count) (c.loop-low.low + (c.loop-low.high - c.loop-low.low) / 2) c.args.cost c.args.route.now = c.entry_before.ensures ∙ ahead_entries c.args.start c.args.n c.args.work.now (c.loop-low.low + (c.loop-low.high - c.loop-low.low) / 2) c.args.count c.args.cost c.args.route.now (omega arith) in
+    (c.loop-low.invariant.0, omega arith, omega arith, c.loop-low.invariant.3, λ h. sym tested ∙ c.if-entry_before.false)
+
+pub returns : goal.returns
+returns c =
+    let n = length_entries c.args.n c.args.work.now c.args.count in
+    let z : c.loop-low.low ≡ c.loop-low.high = omega arith in
+    record { lower = c.loop-low.invariant.0; upper = omega arith; last_before = c.loop-low.invariant.3; not_before = λ h. rw z (c.loop-low.invariant.4 (omega arith)) }

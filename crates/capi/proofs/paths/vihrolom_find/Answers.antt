@@ -1,0 +1,9 @@
+-- `capi::paths::vihrolom_find` meets its contract. Assumes nothing.
+use mathlib.Core.Path.{ap, ◌∙◌}
+use Rattle.c_replies.specs.Replies.{reply_of}
+use Rattle.capi.proofs.paths.vihrolom_find.Goals as goal
+
+pub returns : goal.returns
+returns c =
+    let e = c.find-answer.ensures in
+    record { result_value = c.of_found.ensures ∙ ap reply_of e.0; finds_arc = e.1 }

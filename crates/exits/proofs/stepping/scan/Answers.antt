@@ -1,0 +1,29 @@
+-- `stepping::scan` goes through the indices once. The loop: the least number so far, and the first head that has it. Assumes nothing.
+use native.Mathlib.Omega.{arith}
+use mathlib.Core.Logic.{⊎_elim}
+use mathlib.Core.Path.{refl}
+use Rattle.exits.proofs.ExitLaws.{scan_start, scan_take, scan_pass, scan_none, scan_best}
+use Rattle.exits.proofs.stepping.scan.Goals as goal
+
+pub loop-i-init : goal.loop-i-init
+loop-i-init c = (omega arith, omega (arith, c.requires.small), scan_start)
+
+pub via_below-l-requires : goal.via_below-l-requires
+via_below-l-requires c =
+    let p = c.requires in
+    record { y_in_bounds = (p.0.head_in _ (omega arith), p.1.0.0.low _); used_len = p.1.1 }
+
+pub loop-i-preserved : goal.loop-i-preserved
+loop-i-preserved c =
+    let b = c.via_below-l.ensures in (
+      omega arith,
+      omega arith,
+      ⊎_elim (λ w. rw (w.1, w.2) (scan_take (omega arith) (b.is w.0.taken) w.0.taken c.loop-i.invariant.2))
+          (λ w. rw (w.1, w.2) (scan_pass refl (b.no_less w.0.left) b.at_most c.loop-i.invariant.2)) c.if-l-best.branch,
+    )
+
+pub returns-then-best : goal.returns-then-best
+returns-then-best c = scan_none (omega arith) c.if-best.true c.loop-i.invariant.2
+
+pub returns : goal.returns
+returns c = scan_best (omega arith) c.if-best.false c.loop-i.invariant.2

@@ -1,0 +1,15 @@
+-- `reading::copy_costs`: the costs at all indices are the whole column. Assumes nothing.
+use mathlib.Core.Path.{sym, ◌∙◌, ap}
+use Rattle.image.specs.Bytes.{decode}
+use Rattle.image.proofs.ByteLaws.{length_decode}
+use Rattle.loading.specs.Selected.{at_places}
+use Rattle.loading.proofs.SelectLaws.{indices_all, at_all_places}
+use Rattle.loading.proofs.DecodeLaws.{whole}
+use Rattle.loading.proofs.reading.copy_costs.Goals as goal
+
+pub returns-then-kept-m : goal.returns-then-kept-m
+returns-then-kept-m c =
+    let a = c.args in
+    let column = decode 4 a.m a.column.now in
+    let all = indices_all c.requires.2 c.if-kept-m.true in
+    c.read_costs.ensures ∙ whole column a.weights.now (c.requires.3 ∙ c.if-kept-m.true) ∙ sym (ap (λ ks. at_places ks column) all ∙ at_all_places column (length_decode 4 a.m a.column.now))

@@ -1,0 +1,19 @@
+-- `reading::read_column`: the column lies inside the image. Assumes nothing.
+use native.Mathlib.Omega.{arith}
+use mathlib.Core.Path.{◌∙◌, ap}
+use Rattle.loading.specs.Selected.{at_places}
+use Rattle.loading.proofs.DecodeLaws.{few_arcs, column_few, column_bytes, column_read}
+use Rattle.loading.proofs.reading.read_column.Goals as goal
+
+pub column_start-start-requires : goal.column_start-start-requires
+column_start-start-requires c = let p = c.requires in column_few p.0 p.1
+
+pub copy_costs-requires : goal.copy_costs-requires
+copy_costs-requires c =
+    let p = c.requires in
+    (omega (arith, column_bytes p.0 p.1 c.column_start-start.ensures), few_arcs p.0, p.2, p.3)
+
+pub returns : goal.returns
+returns c =
+    let p = c.requires in
+    c.copy_costs.ensures ∙ ap (at_places c.args.kept.now) (column_read p.0 p.1 c.column_start-start.ensures)

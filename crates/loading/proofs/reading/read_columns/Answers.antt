@@ -1,0 +1,54 @@
+-- `reading::read_columns` reads column by column. The loop: the costs of the first u columns are read. Assumes nothing.
+use Prim.Native.Nat.{ℕ, ◌+◌, ◌-◌, ◌*◌, ◌≤◌, ◌<◌}
+use native.Mathlib.Omega.{arith}
+use native.Mathlib.Nat.{mul_comm, mul-le-mul}
+use mathlib.Core.Path.{◌≡◌, refl, sym, ◌∙◌, ap}
+use mathlib.Core.List.{List, [], ◌++◌}
+use lib.ListN.{length, get_or, take, drop}
+use lib.Seq.{take_all}
+use borrow.Rule.Slice.PartMut.{mid_len, same_len_mid}
+use Rattle.terms.specs.Network.{cost_column}
+use Rattle.image.specs.Layout.{net_of}
+use Rattle.loading.specs.Selected.{at_places, selected, in_a_row}
+use Rattle.loading.proofs.RowLaws.{row_length, row_part}
+use Rattle.loading.proofs.SelectLaws.{indices_few, selected_count, selected_full, selected_column}
+use Rattle.loading.proofs.PartLaws.{column_fits, none_put, column_put}
+use Rattle.loading.proofs.DecodeLaws.{whole, few_arcs, few_columns}
+use Rattle.loading.proofs.reading.read_columns.Goals as goal
+
+pub loop-u-init : goal.loop-u-init
+loop-u-init c = let a = c.args in (omega arith, refl, none_put (length a.kept.now) (in_a_row (selected a.kept.now (net_of a.image.now)).columns) a.costs.now)
+
+pub read_column-requires : goal.read_column-requires
+read_column-requires c =
+    let fits : let a = c.args in (c.loop-u.u * length a.kept.now + length a.kept.now ≤ length a.costs.now) × (length a.costs.now ≤ 8000) × (a.sizes.k ≤ 8) = let m = length c.args.kept.now in let few : m ≤ 1000 = omega (arith, indices_few c.requires.1, few_arcs c.requires.0) in (omega (arith, c.requires.2, column_fits m c.args.sizes.k c.loop-u.u c.loop-u-test.true), omega (arith, c.requires.2, mul-le-mul few (few_columns c.requires.0)), few_columns c.requires.0) in
+    let part_long : let a = c.args in let m = length a.kept.now in let from = c.loop-u.u * m in length (take (from + m - from) (drop from c.loop-u.costs)) ≡ m = let a = c.args in let m = length a.kept.now in let from = c.loop-u.u * m in mid_len from (from + m) c.loop-u.costs (omega (arith, fits, c.loop-u.invariant.1)) ∙ omega arith in
+    (c.requires.0, record { from = omega arith; upto = omega (arith, c.requires.0.columns_are, c.loop-u-test.true) }, c.requires.1, part_long)
+
+pub loop-u-preserved : goal.loop-u-preserved
+unfolding cost_column
+loop-u-preserved c =
+    let fits : let a = c.args in (c.loop-u.u * length a.kept.now + length a.kept.now ≤ length a.costs.now) × (length a.costs.now ≤ 8000) × (a.sizes.k ≤ 8) = let m = length c.args.kept.now in let few : m ≤ 1000 = omega (arith, indices_few c.requires.1, few_arcs c.requires.0) in (omega (arith, c.requires.2, column_fits m c.args.sizes.k c.loop-u.u c.loop-u-test.true), omega (arith, c.requires.2, mul-le-mul few (few_columns c.requires.0)), few_columns c.requires.0) in
+    let a = c.args in
+    let m = length a.kept.now in
+    let net = net_of a.image.now in
+    let cols = (selected a.kept.now net).columns in
+    let u = c.loop-u.u in
+    let at : u + 1 - 1 ≡ u = omega arith in
+    let inside : u < length net.columns = omega (arith, c.requires.0.columns_are, c.loop-u-test.true) in
+    let full = selected_full a.kept.now net in
+    let count = selected_count a.kept.now net in
+    let new = c.read_column.ensures ∙ ap (λ i. at_places a.kept.now (get_or net.columns i [])) at ∙ sym (selected_column a.kept.now net u inside) ∙ sym (row_part m cols full u (omega (arith, count))) in
+    let long : u * m + m ≤ length (in_a_row cols) = omega (arith, row_length m cols full, count, c.requires.0.columns_are, fits, c.requires.2, mul_comm m a.sizes.k, ap (λ (x : ℕ). x * m) (count ∙ sym c.requires.0.columns_are)) in
+    (omega arith, same_len_mid (u * m) (u * m + m - u * m) c.loop-u.costs c.read_column.new.weights c.read_column.auto.weights ∙ c.loop-u.invariant.1, column_put m (in_a_row cols) a.costs.now c.loop-u.costs c.read_column.new.weights u long c.loop-u.invariant.2 new)
+
+pub returns : goal.returns
+returns c =
+    let a = c.args in
+    let m = length a.kept.now in
+    let net = net_of a.image.now in
+    let cols = (selected a.kept.now net).columns in
+    let done : c.loop-u.u ≡ a.sizes.k = omega arith in
+    let all : c.loop-u.u * m ≡ m * a.sizes.k = ap (λ u. u * m) done ∙ mul_comm a.sizes.k m in
+    let long : length (in_a_row cols) ≡ c.loop-u.u * m = row_length m cols (selected_full a.kept.now net) ∙ ap (λ (x : ℕ). x * m) (selected_count a.kept.now net ∙ sym c.requires.0.columns_are ∙ sym done) in
+    c.loop-u.invariant.2 ∙ ap (λ (x : List ℕ). x ++ drop (c.loop-u.u * m) a.costs.now) (take_all (c.loop-u.u * m) (in_a_row cols) (omega (arith, long))) ∙ whole (in_a_row cols) a.costs.now {m = c.loop-u.u * m} (c.requires.2 ∙ sym all)

@@ -1,0 +1,46 @@
+-- `selecting::select_common`: of the indices that the map leaves, those of the arcs that are open in the columns 1 to u. Assumes nothing.
+use Prim.Native.Nat.{◌+◌}
+use native.Mathlib.Omega.{arith}
+use mathlib.Core.Path.{◌≡◌, refl, sym, ◌∙◌, ap, subst}
+use lib.ListN.{take}
+use Rattle.terms.specs.Lists.{keep, numbers}
+use Rattle.terms.specs.Network.{open_in, open_everywhere, Admitted}
+use Rattle.terms.proofs.ListLaws.{keep_keep}
+use Rattle.image.specs.Layout.{net_of}
+use Rattle.closures.specs.Map.{left}
+use Rattle.loading.specs.Selected.{passing}
+use Rattle.loading.proofs.SelectLaws.{open_upto, none_closed, one_column_more, open_in_all, first_edition_common, indices_of}
+use Rattle.loading.proofs.DecodeLaws.{admitted, few_arcs}
+use Rattle.loading.proofs.selecting.select_common.Goals as goal
+
+pub select_left-count-requires : goal.select_left-count-requires
+select_left-count-requires c = omega (arith, c.requires.1, few_arcs c.requires.0)
+
+pub returns-then-sizes-eq1 : goal.returns-then-sizes-eq1
+returns-then-sizes-eq1 c =
+    let all : take c.select_left-count.result c.select_left-count.new.kept ≡ passing (left c.args.closed.now) c.args.sizes.m = c.select_left-count.ensures.1 ∙ ap (passing (left c.args.closed.now)) c.requires.1 in
+    let p = c.requires in
+    let net = net_of c.args.image.now in
+    let edition-1 = subst (λ e. Admitted e net) (sym p.0.edition_is ∙ c.if-sizes-eq1.true) (admitted p.0) in
+    (omega (arith, c.select_left-count.ensures.0, p.1), all ∙ first_edition_common edition-1 _ ∙ keep_keep (left c.args.closed.now) (open_everywhere net) (numbers 0 c.args.sizes.m))
+
+pub returns : goal.returns
+returns c =
+    let done : c.loop-u.u ≡ c.args.sizes.k = omega arith in
+    (c.loop-u.invariant.1, c.loop-u.invariant.3 ∙ open_in_all (admitted c.requires.0) _ (done ∙ c.requires.0.columns_are) ∙ keep_keep (left c.args.closed.now) (open_everywhere (net_of c.args.image.now)) (numbers 0 c.args.sizes.m))
+
+pub loop-u-init : goal.loop-u-init
+loop-u-init c =
+    let all : take c.select_left-count.result c.select_left-count.new.kept ≡ passing (left c.args.closed.now) c.args.sizes.m = c.select_left-count.ensures.1 ∙ ap (passing (left c.args.closed.now)) c.requires.1 in
+    let p = c.requires in
+    (omega arith, omega (arith, c.select_left-count.ensures.0, p.1), refl, all ∙ none_closed (net_of c.args.image.now) _)
+
+pub loop-u-preserved : goal.loop-u-preserved
+loop-u-preserved c =
+    let i = c.loop-u.invariant in
+    (omega (arith, c.loop-u-test.true), omega (arith, c.keep_open-count.ensures.0, i.1), c.keep_open-count.auto.kept ∙ i.2, c.keep_open-count.ensures.1 ∙ ap (keep (open_in (net_of c.args.image.now) (c.loop-u.u + 1))) i.3 ∙ one_column_more (net_of c.args.image.now) c.loop-u.u _)
+
+pub keep_open-count-requires : goal.keep_open-count-requires
+keep_open-count-requires c =
+    let i = c.loop-u.invariant in
+    record { accepted = (c.requires.0, record { from = omega arith; upto = omega (arith, c.loop-u-test.true, c.requires.0.columns_are) }, omega (arith, i.1, i.2, c.requires.1, c.select_left-count.auto.kept)); indices = indices_of (left c.args.closed.now) (open_upto (net_of c.args.image.now) c.loop-u.u) c.args.sizes.m i.3 }

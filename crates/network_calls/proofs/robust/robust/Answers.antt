@@ -1,0 +1,38 @@
+-- `robust::robust` meets its contract. Assumes nothing.
+use mathlib.Core.Path.{◌≡◌, sym, ◌∙◌, ap}
+use lib.ListN.{length}
+use Rattle.image.specs.Answers.{checked, refused}
+use Rattle.image.specs.Outcome.{sound, outcome, after}
+use Rattle.image.specs.Calls.{sizes}
+use Rattle.image.proofs.OutcomeLaws.{then_fault, then_next, outcome_fault, after_fault, refuses_fault}
+use Rattle.outcomes.specs.Calls.{choice_row, robust_rows, robust_fault, robust_of, chosen, robust_values, robust_outcome, cleared}
+use Rattle.loading.specs.Accepted.{Accepted}
+use Rattle.outcomes.proofs.RowLaws.{given_sizes}
+use Rattle.outcomes.proofs.WorkLaws.{cleared_not}
+use Rattle.network_calls.proofs.ChoiceLaws.{robust_sound, choice_slices, kept_3}
+use Rattle.network_calls.proofs.robust.robust.Goals as goal
+
+pub returns-in_default : goal.returns-in_default
+unfolding robust_outcome robust_fault
+returns-in_default c =
+    let a = c.args in
+    let e = refuses_fault (robust_rows a.image.now a.column a.start a.goal a.wanted (length a.path.now) (length a.work.now)) (sizes a.image.now) (sym (ap checked c.in_default.is) ∙ c.check_robust-answer.ensures) in
+    let f = then_fault (choice_row a.image.now a.column a.start a.goal) e in
+    record { result_value = ap refused (c.refusal.ensures _ c.in_default.is) ∙ sym (outcome_fault _ f); path_after = sym (after_fault _ _ f); work_after = sym (cleared_not _ f); kept3 = kept_3 a.image.now a.column a.start a.goal a.wanted (length a.path.now) (length a.work.now) }
+
+pub choose-requires : goal.choose-requires
+choose-requires c =
+    let passes : (robust_rows c.args.image.now c.args.column c.args.c.args.goal c.args.wanted (length c.args.path.now) (length c.args.work.now) ≡ sound) × Accepted c.args.image.now c.in-Network.sizes = let s = c.args in given_sizes _ (λ e. (robust_sound s.image.now s.column s.start s.goal s.wanted s.path.now s.work.now e).accepted) (sym (ap checked c.in-Network.is) ∙ c.check_robust-answer.ensures) in
+    let s = c.args in
+    let p = passes in
+    let g = robust_sound s.image.now s.column s.start s.goal s.wanted s.path.now s.work.now p.0 in
+    record { accepted = (p.1, record { from = g.from; upto = g.upto }, g.ends); choice_slices = choice_slices s.image.now s.column s.start s.goal s.wanted s.path.now s.work.now p.0 }
+
+pub returns : goal.returns
+unfolding robust_outcome robust_fault choice_row
+returns c =
+    let passes : (robust_rows c.args.image.now c.args.column c.args.c.args.goal c.args.wanted (length c.args.path.now) (length c.args.work.now) ≡ sound) × Accepted c.args.image.now c.in-Network.sizes = let s = c.args in given_sizes _ (λ e. (robust_sound s.image.now s.column s.start s.goal s.wanted s.path.now s.work.now e).accepted) (sym (ap checked c.in-Network.is) ∙ c.check_robust-answer.ensures) in
+    let d = c.choose.ensures in
+    let s = c.args in
+    let e = sym (then_next (choice_row s.image.now s.column s.start s.goal) passes.0) in
+    record { result_value = d.0 ∙ ap (λ f. outcome f (robust_values (robust_of s.image.now s.column s.start s.goal s.wanted))) e; path_after = d.1.0 ∙ ap (λ f. after f (chosen (robust_of s.image.now s.column s.start s.goal s.wanted)) s.path.now) e; work_after = d.1.1 ∙ ap (λ f. cleared f s.work.now) e; kept3 = kept_3 s.image.now s.column s.start s.goal s.wanted (length s.path.now) (length s.work.now) }

@@ -1,0 +1,10 @@
+-- `ranking::begin` lends parts of local arrays: flags for the nodes, and places for a path. Assumes nothing.
+use Prim.Native.Nat.{◌≤◌}
+use Rattle.ranking.proofs.ProblemLaws.{problem_few, blank_parts}
+use Rattle.ranking.proofs.ranking.begin.Goals as goal
+
+pub begin_in-requires : goal.begin_in-requires
+begin_in-requires c =
+    let few : c.args.query.n ≤ 200 = problem_few c.requires.problem in
+    let p = c.requires in
+    record { problem = p.0; space = p.1; blank = blank_parts few }

@@ -1,0 +1,12 @@
+-- `tables::label_columns` lends parts of local arrays: a star, and a place for each arc. Assumes nothing.
+use Rattle.terms.proofs.RoomLaws.{part_long}
+use Rattle.loading.specs.Accepted.{Accepted}
+use Rattle.loading.proofs.DecodeLaws.{few_arcs}
+use Rattle.loading.proofs.RoomLaws.{star_fits}
+use Rattle.search_calls.proofs.tables.label_columns.Goals as goal
+
+pub label_columns_in-requires : goal.label_columns_in-requires
+label_columns_in-requires c =
+    let ready : Accepted c.args.image.now c.args.sizes = c.requires.accepted.0 in
+    let p = c.requires in
+    record { accepted = p.0; star_len = (part_long 3403 _ (star_fits ready), part_long 1000 _ (few_arcs ready)); labels_len = p.1 }

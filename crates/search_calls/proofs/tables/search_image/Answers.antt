@@ -1,0 +1,16 @@
+-- `tables::search_image` lends parts of local arrays: a star, and a place for each cost, label and column. Assumes nothing.
+use Prim.Native.Nat.{◌+◌, ◌*◌, ◌≤◌}
+use native.Mathlib.Nat.{mul-le-mul}
+use Rattle.terms.proofs.RoomLaws.{part_long}
+use Rattle.loading.specs.Accepted.{Accepted}
+use Rattle.loading.proofs.DecodeLaws.{few_columns}
+use Rattle.loading.proofs.RoomLaws.{places_fit, star_fits, all_fit}
+use Rattle.search_calls.proofs.tables.search_image.Goals as goal
+
+pub search_tables-requires : goal.search_tables-requires
+search_tables-requires c =
+    let rows_fit : c.args.sizes.k * (c.args.sizes.n + 1) ≤ 1608 = mul-le-mul (few_columns ready) (places_fit ready) in
+    let ready : Accepted c.args.image.now c.args.sizes = c.requires.accepted.0 in
+    let p = c.requires in
+    let a = ready in
+    record { accepted = p.0; table_room = (record { star_long = part_long 3403 _ (star_fits a); costs_long = part_long 8000 _ (all_fit a); labels_long = part_long 1608 _ rows_fit; bests_long = part_long 8 _ (few_columns a) }, p.1) }

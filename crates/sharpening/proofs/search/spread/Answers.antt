@@ -1,0 +1,33 @@
+-- `search::spread` follows arc after arc. The loop: keys and list are as a search has them, and the arcs left fall. Assumes nothing.
+use Prim.Native.Nat.{◌+◌, ◌<◌}
+use native.Mathlib.Omega.{arith}
+use mathlib.Core.Path.{refl, ◌∙◌}
+use lib.ListN.{length, get_or}
+use Rattle.star.specs.Layout.{heads_of, outs_of}
+use Rattle.star.proofs.NetworkLaws.{network_heads, network_starts}
+use Rattle.sharpening.proofs.search.spread.Goals as goal
+
+pub loop-i-init : goal.loop-i-init
+loop-i-init c = let p = c.requires in (p.1.1.1, refl, refl)
+
+pub via_below-l-requires : goal.via_below-l-requires
+unfolding heads_of outs_of
+via_below-l-requires c =
+    let arc_in : c.loop-i.i < length (heads_of (length c.args.weights.now) c.args.star.now) = omega (arith, (network_starts c.requires.network).within (c.args.hub.node + 1) (omega (arith, c.requires.small.1))) in
+    let head_in : get_or (heads_of (length c.args.weights.now) c.args.star.now) c.loop-i.i 0 < length c.args.overall.now = (network_heads c.requires.network).head_in _ arc_in in
+    let p = c.requires in
+    record { y_in_bounds = (head_in, p.1.0.0.low _); used_len = p.1.1.0 }
+
+pub reach-listed-requires : goal.reach-listed-requires
+unfolding heads_of outs_of
+reach-listed-requires c =
+    let arc_in : c.loop-i.i < length (heads_of (length c.args.weights.now) c.args.star.now) = omega (arith, (network_starts c.requires.network).within (c.args.hub.node + 1) (omega (arith, c.requires.small.1))) in
+    let head_in : get_or (heads_of (length c.args.weights.now) c.args.star.now) c.loop-i.i 0 < length c.args.overall.now = (network_heads c.requires.network).head_in _ arc_in in
+    -- WANTS record of front, y_in_bounds
+    let f = c.loop-i.invariant.0 in
+    rw f.keyed.long (f, (head_in, c.requires.small.2))
+
+pub loop-i-preserved : goal.loop-i-preserved
+loop-i-preserved c =
+    let i = c.loop-i.invariant in
+    (rw i.0.keyed.long at c.reach-listed.ensures, c.reach-listed.auto.keys ∙ i.1, c.reach-listed.auto.nodes ∙ i.2)

@@ -1,0 +1,22 @@
+-- `sheet::lines::write_settled` meets its contract. Assumes nothing.
+use Prim.Native.Nat.{◌+◌, ◌≤◌}
+use native.Mathlib.Omega.{arith}
+use lib.ListN.{length}
+use Rattle.sheet.specs.Sheet.{choice_lines, settled_line, answer_text}
+use Rattle.sheet.proofs.TextLaws.{wrote_both, wrote_room}
+use Rattle.sheet.proofs.LineLaws.{length_answer_settled}
+use Rattle.sheet.proofs.lines.write_settled.Goals as goal
+
+pub write_choice-a-requires : goal.write_choice-a-requires
+write_choice-a-requires c =
+    let room : let a = c.args in 0 + (length (choice_lines a.path.now a.figure a.worst) + length (settled_line a.count)) ≤ length a.text.now = let a = c.args in omega (arith, c.requires, length_answer_settled a.path.now a.figure a.worst a.count) in
+    omega (arith, room)
+
+pub write_count-requires : goal.write_count-requires
+write_count-requires c =
+    let room : let a = c.args in 0 + (length (choice_lines a.path.now a.figure a.worst) + length (settled_line a.count)) ≤ length a.text.now = let a = c.args in omega (arith, c.requires, length_answer_settled a.path.now a.figure a.worst a.count) in
+    wrote_room c.write_choice-a.ensures _ room
+
+pub returns : goal.returns
+unfolding answer_text
+returns c = wrote_both c.write_choice-a.ensures c.write_count.ensures

@@ -1,0 +1,10 @@
+-- `arcs::is_arc` compares tails, then heads. Assumes nothing.
+use mathlib.Core.Path.{sym}
+use Rattle.star.proofs.SearchLaws.{arc_apart, arc_level}
+use Rattle.star.proofs.arcs.is_arc.Goals as goal
+
+pub returns-then-tails-i : goal.returns-then-tails-i
+returns-then-tails-i c = sym (arc_apart _ _ _ _ c.if-tails-i.true)
+
+pub returns : goal.returns
+returns c = sym (arc_level _ _ _ _ c.if-tails-i.false)
