@@ -12,8 +12,7 @@ use Rattle.arc_calls.proofs.find.find.Goals as goal
 pub returns-in_default : goal.returns-in_default
 unfolding find_outcome
 returns-in_default c =
-    let told = c.in_default.is in
-    record { result_value = ap refused (c.refusal.ensures _ told) ∙ sym (outcome_fault _ (rejected _ (sym (ap checked told) ∙ c.check-answer.ensures))); finds_arc = finds_arc _ _ _ }
+    record { result_value = ap refused (c.refusal.ensures _ c.in_default.is) ∙ sym (outcome_fault _ (rejected _ (sym (ap checked c.in_default.is) ∙ c.check-answer.ensures))); finds_arc = finds_arc _ _ _ }
 
 pub seek_arc-arc-requires : goal.seek_arc-arc-requires
 seek_arc-arc-requires c =

@@ -13,13 +13,10 @@ loop-u-init c = (omega arith, (1, none_so_far _))
 
 pub loop-u-preserved : goal.loop-u-preserved
 loop-u-preserved c =
-    let a = c.args in
-    let s = c.loop-u.invariant.1 in
-    let is = c.over-x.ensures ∙ value_at a.t2 a.bests.now c.loop-u.u in
-    (omega arith, ⊎_elim (λ y. (c.loop-u.u + 1, raised (omega arith) s.1 is y.0.taken y.1 refl)) (λ n. (s.0, kept (omega arith) s.1 is n.0.left n.1 refl)) c.if-figure-x.branch)
+    let is = c.over-x.ensures ∙ value_at c.args.t2 c.args.bests.now c.loop-u.u in
+    (omega arith, ⊎_elim (λ y. (c.loop-u.u + 1, raised (omega arith) c.loop-u.invariant.1.1 is y.0.taken y.1 refl)) (λ n. (c.loop-u.invariant.1.0, kept (omega arith) c.loop-u.invariant.1.1 is n.0.left n.1 refl)) c.if-figure-x.branch)
 
 pub returns : goal.returns
 returns c =
-    let a = c.args in
-    let all : c.loop-u.u ≡ length a.bests.now = omega arith in
+    let all : c.loop-u.u ≡ length c.args.bests.now = omega arith in
     (greatest c.requires.0 (rw all at c.loop-u.invariant.1.1)).0

@@ -12,13 +12,12 @@ loop-u-init c = (omega arith, c.requires.3.long, λ w h. absurd (omega arith), �
 
 pub loop-u-preserved : goal.loop-u-preserved
 loop-u-preserved c =
-    let u = c.loop-u.u in
-    let long : u < length c.loop-u.longer = omega arith in (
+    let long : c.loop-u.u < length c.loop-u.longer = omega arith in (
       omega arith,
       simp length-set (omega arith),
-      λ w h. set_each (λ w x. w < u + 1 → x ≡ get_or c.args.sums w 0 + at_row c.args.arcs c.args.costs.now w c.args.i) c.loop-u.longer u _ long (λ _. ap (λ (x : ℕ). x + get_or c.args.costs.now (let a = c.args in c.loop-u.u * a.arcs + a.i) 0) (c.loop-u.invariant.3 u (omega arith))) (λ w n k. c.loop-u.invariant.2 w (omega arith)) w h,
-      λ w h. set_each (λ w x. u + 1 ≤ w → x ≡ get_or c.args.sums w 0) c.loop-u.longer u _ long (λ k. absurd (omega arith)) (λ w n k. c.loop-u.invariant.3 w (omega arith)) w h,
-      set_each (λ w x. x ≤ get_or c.args.sums w 0 + 4294967296) c.loop-u.longer u _ long (omega (arith, c.type_inv.costs (let a = c.args in c.loop-u.u * a.arcs + a.i), c.loop-u.invariant.3 u (omega arith))) (λ w n. c.loop-u.invariant.4 w),
+      λ w h. set_each (λ w x. w < c.loop-u.u + 1 → x ≡ get_or c.args.sums w 0 + at_row c.args.arcs c.args.costs.now w c.args.i) c.loop-u.longer c.loop-u.u _ long (λ _. ap (λ (x : ℕ). x + get_or c.args.costs.now (c.loop-u.u * c.args.arcs + c.args.i) 0) (c.loop-u.invariant.3 c.loop-u.u (omega arith))) (λ w n k. c.loop-u.invariant.2 w (omega arith)) w h,
+      λ w h. set_each (λ w x. c.loop-u.u + 1 ≤ w → x ≡ get_or c.args.sums w 0) c.loop-u.longer c.loop-u.u _ long (λ k. absurd (omega arith)) (λ w n k. c.loop-u.invariant.3 w (omega arith)) w h,
+      set_each (λ w x. x ≤ get_or c.args.sums w 0 + 4294967296) c.loop-u.longer c.loop-u.u _ long (omega (arith, c.type_inv.costs (c.loop-u.u * c.args.arcs + c.args.i), c.loop-u.invariant.3 c.loop-u.u (omega arith))) (λ w n. c.loop-u.invariant.4 w),
     )
 
 pub returns : goal.returns

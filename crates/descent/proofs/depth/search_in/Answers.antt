@@ -11,12 +11,11 @@ use Rattle.descent.proofs.depth.search_in.Goals as goal
 pub descend-requires : goal.descend-requires
 descend-requires c =
     let flags_long : length (set c.args.used.now c.args.task.start 1) ≡ length c.args.used.now = length-set c.args.used.now c.args.task.start 1 in
-    let p = c.requires in
-    record { fits = rw flags_long p.0; begun = rw flags_long (begun_one p.1 zeros_low); v_in_bounds = omega (arith, flags_long, p.1.start_in) }
+    record { fits = rw flags_long c.requires.fits; begun = rw flags_long (begun_one c.requires.fresh zeros_low); v_in_bounds = omega (arith, flags_long, c.requires.fresh.start_in) }
 
 pub returns : goal.returns
 returns c =
     let flags_long : length (set c.args.used.now c.args.task.start 1) ≡ length c.args.used.now = length-set c.args.used.now c.args.task.start 1 in
     λ net tables.
-    let run = rw flags_long at (c.descend.ensures.ends net c.args.task.c.args.task.goal [] fresh_state) in
+    let run = rw flags_long at (c.descend.ensures.ends net c.args.task.start c.args.task.goal [] fresh_state) in
     outcome_is tables.nodes_are (run (given_one c.requires.fresh tables (part_zero 8 8)))

@@ -8,14 +8,11 @@ use Rattle.exits.proofs.stepping.least_exit.Goals as goal
 pub scan-requires : goal.scan-requires
 unfolding heads_of outs_of
 scan-requires c =
-    let p = c.requires in
-    let starts = network_starts p.0.0 in
-    record { heads = network_heads p.0.0; small = (p.1.0, starts.ordered _ p.0.1, starts.within _ (omega (arith, p.0.1))); used_len = p.1.1 }
+    let starts = network_starts c.requires.network.0 in
+    record { heads = network_heads c.requires.network.0; small = (c.requires.small, starts.ordered _ c.requires.network.1, starts.within _ (omega (arith, c.requires.network.1))); used_len = c.requires.used_len }
 
 pub returns : goal.returns
 unfolding heads_of outs_of graph_of
 returns c =
-    let p = c.requires in
-    let n = p.0.0 in
-    let starts = network_starts n in
-    record { usable = scanned_usable _ _ _ (network_heads n) (starts.within _ (omega (arith, p.0.1))) c.scan.ensures; chosen = scanned_chosen n.arcs n.star (omega (arith, n.places, p.0.1)) _ _ _ p.1.0.low c.scan.ensures }
+    let starts = network_starts c.requires.network.0 in
+    record { usable = scanned_usable _ _ _ (network_heads c.requires.network.0) (starts.within _ (omega (arith, c.requires.network.1))) c.scan.ensures; chosen = scanned_chosen c.requires.network.0.arcs c.requires.network.0.star (omega (arith, c.requires.network.0.places, c.requires.network.1)) _ _ _ c.requires.small.low c.scan.ensures }

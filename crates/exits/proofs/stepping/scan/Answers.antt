@@ -10,16 +10,15 @@ loop-i-init c = (omega arith, omega (arith, c.requires.small), scan_start)
 
 pub via_below-l-requires : goal.via_below-l-requires
 via_below-l-requires c =
-    let p = c.requires in
-    record { y_in_bounds = (p.0.head_in _ (omega arith), p.1.0.0.low _); used_len = p.1.1 }
+    record { y_in_bounds = (c.requires.heads.head_in _ (omega arith), c.requires.small.0.low _); used_len = c.requires.used_len }
 
 pub loop-i-preserved : goal.loop-i-preserved
 loop-i-preserved c =
-    let b = c.via_below-l.ensures in (
+    (
       omega arith,
       omega arith,
-      ⊎_elim (λ w. rw (w.1, w.2) (scan_take (omega arith) (b.is w.0.taken) w.0.taken c.loop-i.invariant.2))
-          (λ w. rw (w.1, w.2) (scan_pass refl (b.no_less w.0.left) b.at_most c.loop-i.invariant.2)) c.if-l-best.branch,
+      ⊎_elim (λ w. rw (w.1, w.2) (scan_take (omega arith) (c.via_below-l.ensures.is w.0.taken) w.0.taken c.loop-i.invariant.2))
+          (λ w. rw (w.1, w.2) (scan_pass refl (c.via_below-l.ensures.no_less w.0.left) c.via_below-l.ensures.at_most c.loop-i.invariant.2)) c.if-l-best.branch,
     )
 
 pub returns-then-best : goal.returns-then-best

@@ -20,10 +20,9 @@ keeps-requires c =
 pub returns-then-keeps : goal.returns-then-keeps
 returns-then-keeps c =
     let in_arcs : (c.loop-i.i < length c.args.heads.now) × (length c.args.weights.now ≡ length c.args.heads.now) = (omega (arith, c.requires.starts.0.within (c.args.x + 1) (omega arith)), c.requires.heads.weights_long) in
-    let p = c.requires in
     let k = kept c.keeps.ensures c.if-keeps.true in
     let top = in_arcs.0 in
-    record { usable = Usable.usable (record { from = p.0.head_from _ top; upto = p.0.head_in _ top; unflagged = k.0 }); by_index = λ n ts arcs star reached. Stepped.tight (first_tight arcs star (omega (arith, star.long, p.1.0.0.long)) c.args.labels.now c.args.used.now c.loop-i.i c.loop-i.invariant.0 (omega arith) reached k.0 k.1 c.loop-i.invariant.2) }
+    record { usable = Usable.usable (record { from = c.requires.heads.head_from _ top; upto = c.requires.heads.head_in _ top; unflagged = k.0 }); by_index = λ n ts arcs star reached. Stepped.tight (first_tight arcs star (omega (arith, star.long, c.requires.starts.0.long)) c.args.labels.now c.args.used.now c.loop-i.i c.loop-i.invariant.0 (omega arith) reached k.0 k.1 c.loop-i.invariant.2) }
 
 pub loop-i-preserved : goal.loop-i-preserved
 loop-i-preserved c = (omega arith, omega arith, up_to _ _ _ c.loop-i.invariant.2 (strayed c.keeps.ensures c.if-keeps.false))

@@ -6,11 +6,9 @@ use Rattle.exits.proofs.stepping.tight_exit.Goals as goal
 pub tight_among-requires : goal.tight_among-requires
 unfolding heads_of outs_of
 tight_among-requires c =
-    let p = c.requires in
-    record { heads = network_heads p.0.0; starts = (network_starts p.0.0, p.0.1); used_len = p.1 }
+    record { heads = network_heads c.requires.network.0; starts = (network_starts c.requires.network.0, c.requires.network.1); used_len = c.requires.used_len }
 
 pub returns : goal.returns
 unfolding heads_of outs_of graph_of
 returns c =
-    let n = c.requires.network.0 in
-    record { usable = c.tight_among.ensures.usable; stepped = c.tight_among.ensures.by_index _ _ n.arcs n.star }
+    record { usable = c.tight_among.ensures.usable; stepped = c.tight_among.ensures.by_index _ _ c.requires.network.0.arcs c.requires.network.0.star }

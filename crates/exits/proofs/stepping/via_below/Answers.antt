@@ -10,35 +10,35 @@ use Rattle.exits.proofs.stepping.via_below.Goals as goal
 
 pub returns-then-best-rest : goal.returns-then-best-rest
 returns-then-best-rest c =
-    let most : via c.args.labels.now c.args.used.now c.args.barred.now c.args.y c.args.w ≤ far = via_most _ _ _ _ _ (omega (arith, c.ranges.w)) c.requires.y_in_bounds.1 in
     let best_le : c.args.best ≤ far = omega (arith, c.ranges.best) in
+    let most : via c.args.labels.now c.args.used.now c.args.barred.now c.args.y c.args.w ≤ far = via_most _ _ _ _ _ (omega (arith, c.ranges.w)) c.requires.y_in_bounds.1 in
     none_below best_le most (via_no_less _ _ _ _ _ best_le (omega arith))
 
 pub returns-then-best-l : goal.returns-then-best-l
 returns-then-best-l c =
-    let most : via c.args.labels.now c.args.used.now c.args.barred.now c.args.y c.args.w ≤ far = via_most _ _ _ _ _ (omega (arith, c.ranges.w)) c.requires.y_in_bounds.1 in
     let best_le : c.args.best ≤ far = omega (arith, c.ranges.best) in
-    none_below best_le most (via_no_less _ _ _ _ _ best_le.if2.true)
+    let most : via c.args.labels.now c.args.used.now c.args.barred.now c.args.y c.args.w ≤ far = via_most _ _ _ _ _ (omega (arith, c.ranges.w)) c.requires.y_in_bounds.1 in
+    none_below best_le most (via_no_less _ _ _ _ _ best_le c.if-best-l.true)
 
 pub returns-then-used-y-ne0 : goal.returns-then-used-y-ne0
 returns-then-used-y-ne0 c =
-    let most : via c.args.labels.now c.args.used.now c.args.barred.now c.args.y c.args.w ≤ far = via_most _ _ _ _ _ (omega (arith, c.ranges.w)) c.requires.y_in_bounds.1 in
     let best_le : c.args.best ≤ far = omega (arith, c.ranges.best) in
+    let most : via c.args.labels.now c.args.used.now c.args.barred.now c.args.y c.args.w ≤ far = via_most _ _ _ _ _ (omega (arith, c.ranges.w)) c.requires.y_in_bounds.1 in
     let e : via c.args.labels.now c.args.used.now c.args.barred.now c.args.y c.args.w ≡ far = via_shut _ _ _ _ _ (λ u _. c.if-used-y-ne0.true u.unused) in
     none_below best_le most (omega (arith, best_le))
 
 pub returns-then-barred-y-ne0 : goal.returns-then-barred-y-ne0
 returns-then-barred-y-ne0 c =
-    let most : via c.args.labels.now c.args.used.now c.args.barred.now c.args.y c.args.w ≤ far = via_most _ _ _ _ _ (omega (arith, c.ranges.w)) c.requires.y_in_bounds.1 in
     let best_le : c.args.best ≤ far = omega (arith, c.ranges.best) in
+    let most : via c.args.labels.now c.args.used.now c.args.barred.now c.args.y c.args.w ≤ far = via_most _ _ _ _ _ (omega (arith, c.ranges.w)) c.requires.y_in_bounds.1 in
     let e : via c.args.labels.now c.args.used.now c.args.barred.now c.args.y c.args.w ≡ far = via_shut _ _ _ _ _ (λ u _. c.if-barred-y-ne0.true u.free) in
     none_below best_le most (omega (arith, best_le))
 
 pub returns : goal.returns
 returns c =
+    let most : via c.args.labels.now c.args.used.now c.args.barred.now c.args.y c.args.w ≤ far = via_most _ _ _ _ _ (omega (arith, c.ranges.w)) c.requires.y_in_bounds.1 in
     let best_le : c.args.best ≤ far = omega (arith, c.ranges.best) in
     let reached : get_or c.args.labels.now c.args.y 0 < far = omega (arith, best_le) in
-    let most : via c.args.labels.now c.args.used.now c.args.barred.now c.args.y c.args.w ≤ far = via_most _ _ _ _ _ (omega (arith, c.ranges.w)) c.requires.y_in_bounds.1 in
     record {
       is = λ _. via_open _ _ _ _ _ (record { unused = c.if-used-y-ne0.false; free = c.if-barred-y-ne0.false }) reached;
       no_less = λ h. absurd (omega (arith, c.if-best-l.false));

@@ -5,6 +5,7 @@ use native.Mathlib.Omega.{arith}
 use Rattle.labels.specs.Queue.{Held}
 use Rattle.labels.proofs.QueueLaws.{held_at, held_first}
 use Rattle.labels.proofs.queue.smallest.Goals as goal
+use Rattle.labels.proofs.queue.smallest.Goals.{then-is_smaller, else-is_smaller}
 
 pub loop-j-init : goal.loop-j-init
 loop-j-init c = (omega arith, held_first _ _ c.requires.first_bound.0 c.requires.first_bound.1)
@@ -17,4 +18,4 @@ is_smaller-requires c =
 pub loop-j-preserved : goal.loop-j-preserved
 loop-j-preserved c =
     let held : Held c.args.first c.args.count ((c.args.first + c.loop-j.j) % 256) = held_at _ _ c.loop-j.j c.requires.first_bound.0 (omega arith) (omega arith) in
-    (omega arith, ⊎_elim (λ w. rw w.1 held) (λ w. rw w.1 c.loop-j.invariant.1) c.if-is_smaller.branch)
+    (omega arith, elim c.if-is_smaller.branch [ then-is_smaller w ↦ rw w.best-is held | else-is_smaller w ↦ rw w.best-is c.loop-j.invariant.1 ])

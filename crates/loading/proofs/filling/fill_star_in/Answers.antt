@@ -12,28 +12,23 @@ use Rattle.loading.proofs.filling.fill_star_in.Goals as goal
 
 pub out_starts-requires : goal.out_starts-requires
 out_starts-requires c =
-    let held : Decoded (selected c.args.kept.now (net_of c.args.image.now)) c.read_arcs.new.tails c.read_arcs.new.heads = let p = c.requires.accepted in decoded (selected_admitted p.0 p.1) _ _ c.read_arcs.ensures.tails_after c.read_arcs.ensures.heads_after in
+    let held : Decoded (selected c.args.kept.now (net_of c.args.image.now)) c.read_arcs.new.tails c.read_arcs.new.heads = decoded (selected_admitted c.requires.accepted.0 c.requires.accepted.1) _ _ c.read_arcs.ensures.tails_after c.read_arcs.ensures.heads_after in
     rising_tails held
 
 pub chain-requires : goal.chain-requires
 chain-requires c =
+    let held : Decoded (selected c.args.kept.now (net_of c.args.image.now)) c.read_arcs.new.tails c.read_arcs.new.heads = decoded (selected_admitted c.requires.accepted.0 c.requires.accepted.1) _ _ c.read_arcs.ensures.tails_after c.read_arcs.ensures.heads_after in
     let nodes_of : c.args.sizes.n ≡ (selected c.args.kept.now (net_of c.args.image.now)).nodes = c.requires.accepted.0.nodes_are ∙ sym (selected_nodes c.args.kept.now (net_of c.args.image.now)) in
     let nodes_are : c.args.sizes.n + 1 ≡ (selected c.args.kept.now (net_of c.args.image.now)).nodes + 1 = ap (λ (x : ℕ). x + 1) nodes_of in
-    let held : Decoded (selected c.args.kept.now (net_of c.args.image.now)) c.read_arcs.new.tails c.read_arcs.new.heads = let p = c.requires.accepted in decoded (selected_admitted p.0 p.1) _ _ c.read_arcs.ensures.tails_after c.read_arcs.ensures.heads_after in
-    let p = c.requires.part_room in
-    chainable_of (bare_arcs held) (p.ins_long ∙ nodes_are) (omega (arith, p.nexts_long, p.tails_long, c.read_arcs.auto.tails))
+    chainable_of (bare_arcs held) (c.requires.part_room.ins_long ∙ nodes_are) (omega (arith, c.requires.part_room.nexts_long, c.requires.part_room.tails_long, c.read_arcs.auto.tails))
 
 pub assemble-requires : goal.assemble-requires
-assemble-requires c =
-    let p = c.requires in
-    omega (arith, p.1.0, p.1.1, c.read_arcs.auto.tails, c.read_arcs.auto.heads, c.out_starts.auto.first_out, c.chain.auto.first_in, c.chain.auto.next_in)
+assemble-requires c = omega (arith, c.requires.star_len, c.requires.part_room, c.read_arcs.auto.tails, c.read_arcs.auto.heads, c.out_starts.auto.first_out, c.chain.auto.first_in, c.chain.auto.next_in)
 
 pub returns : goal.returns
 returns c =
+    let held : Decoded (selected c.args.kept.now (net_of c.args.image.now)) c.read_arcs.new.tails c.read_arcs.new.heads = decoded (selected_admitted c.requires.accepted.0 c.requires.accepted.1) _ _ c.read_arcs.ensures.tails_after c.read_arcs.ensures.heads_after in
     let nodes_of : c.args.sizes.n ≡ (selected c.args.kept.now (net_of c.args.image.now)).nodes = c.requires.accepted.0.nodes_are ∙ sym (selected_nodes c.args.kept.now (net_of c.args.image.now)) in
-    let nodes_more : c.args.sizes.n + 2 ≡ (selected c.args.kept.now (net_of c.args.image.now)).nodes + 2 = ap (λ (x : ℕ). x + 2) nodes_of in
     let nodes_are : c.args.sizes.n + 1 ≡ (selected c.args.kept.now (net_of c.args.image.now)).nodes + 1 = ap (λ (x : ℕ). x + 1) nodes_of in
-    let held : Decoded (selected c.args.kept.now (net_of c.args.image.now)) c.read_arcs.new.tails c.read_arcs.new.heads = let p = c.requires.accepted in decoded (selected_admitted p.0 p.1) _ _ c.read_arcs.ensures.tails_after c.read_arcs.ensures.heads_after in
-    let p = c.requires.part_room in
-    let long = c.out_starts.auto.first_out in
-    shape_of held _ _ _ (long ∙ p.outs_long ∙ nodes_more) (λ v k. c.out_starts.ensures v (omega (arith, long))) c.chain.ensures (c.chain.auto.first_in ∙ p.ins_long ∙ nodes_are) c.assemble.ensures
+    let nodes_more : c.args.sizes.n + 2 ≡ (selected c.args.kept.now (net_of c.args.image.now)).nodes + 2 = ap (λ (x : ℕ). x + 2) nodes_of in
+    shape_of held _ _ _ (c.out_starts.auto.first_out ∙ c.requires.part_room.outs_long ∙ nodes_more) (λ v k. c.out_starts.ensures v (omega (arith, c.out_starts.auto.first_out))) c.chain.ensures (c.chain.auto.first_in ∙ c.requires.part_room.ins_long ∙ nodes_are) c.assemble.ensures

@@ -8,7 +8,7 @@ use Rattle.loading.proofs.loading.label_nodes.Goals as goal
 
 pub least-requires : goal.least-requires
 least-requires c =
-    let places_fit : length c.args.overall.now ≤ 201 = let N = c.requires.0 in omega (arith, N.places, N.arcs.few_nodes) in
+    let places_fit : length c.args.overall.now ≤ 201 = omega (arith, c.requires.0.places, c.requires.0.arcs.few_nodes) in
     record { network = (c.requires.0, part_long 201 _ places_fit); goal = record { place = c.requires.1; free = part_zero 201 (length c.args.overall.now) _ } }
 
 pub returns : goal.returns

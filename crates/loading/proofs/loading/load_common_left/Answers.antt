@@ -5,5 +5,4 @@ use Rattle.loading.proofs.loading.load_common_left.Goals as goal
 
 pub load_common_in-requires : goal.load_common_in-requires
 load_common_in-requires c =
-    let p = c.requires in
-    record { accepted = (p.0, part_long 1000 _ (few_arcs p.0)); star_len = p.1 }
+    record { accepted = (c.requires.accepted, part_long 1000 _ (few_arcs c.requires.accepted)); star_len = c.requires.star_len }

@@ -5,5 +5,4 @@ use Rattle.loading.proofs.loading.load_left.Goals as goal
 
 pub load_in-requires : goal.load_in-requires
 load_in-requires c =
-    let p = c.requires in
-    record { accepted = p.0; kept_len = (part_long 1000 _ (few_arcs p.0.0), p.1) }
+    record { accepted = c.requires.accepted; kept_len = (part_long 1000 _ (few_arcs c.requires.accepted.0), c.requires.room) }

@@ -9,7 +9,6 @@ use Rattle.loading.proofs.reading.copy_costs.Goals as goal
 
 pub returns-then-kept-m : goal.returns-then-kept-m
 returns-then-kept-m c =
-    let a = c.args in
-    let column = decode 4 a.m a.column.now in
+    let column = decode 4 c.args.m c.args.column.now in
     let all = indices_all c.requires.2 c.if-kept-m.true in
-    c.read_costs.ensures ∙ whole column a.weights.now (c.requires.3 ∙ c.if-kept-m.true) ∙ sym (ap (λ ks. at_places ks column) all ∙ at_all_places column (length_decode 4 a.m a.column.now))
+    c.read_costs.ensures ∙ whole column c.args.weights.now (c.requires.3 ∙ c.if-kept-m.true) ∙ sym (ap (λ ks. at_places ks column) all ∙ at_all_places column (length_decode 4 c.args.m c.args.column.now))

@@ -22,17 +22,14 @@ read32-requires c =
 
 pub loop-i-preserved : goal.loop-i-preserved
 loop-i-preserved c =
-    let a = c.args in
-    let i = c.loop-i.i in
-    let all = at_places a.kept.now (decode 4 a.m a.column.now) in
-    let long = length-map a.kept.now (λ (j : ℕ). get_or (decode 4 a.m a.column.now) j 0) in
-    let read : c.read32.result ≡ get_or all i 0 = c.read32.ensures ∙ sym (picked_cost a.m a.column.now a.kept.now c.requires.2 i (omega arith)) in
-    (omega arith, simp length-set (omega arith), rw (c.loop-i.invariant.2, read) (copy_more all a.weights.now i (omega arith) (omega arith)))
+    let all = at_places c.args.kept.now (decode 4 c.args.m c.args.column.now) in
+    let long = length-map c.args.kept.now (λ (j : ℕ). get_or (decode 4 c.args.m c.args.column.now) j 0) in
+    let read : c.read32.result ≡ get_or all c.loop-i.i 0 = c.read32.ensures ∙ sym (picked_cost c.args.m c.args.column.now c.args.kept.now c.requires.2 c.loop-i.i (omega arith)) in
+    (omega arith, simp length-set (omega arith), rw (c.loop-i.invariant.2, read) (copy_more all c.args.weights.now c.loop-i.i (omega arith) (omega arith)))
 
 pub returns : goal.returns
 returns c =
-    let a = c.args in
-    let all = at_places a.kept.now (decode 4 a.m a.column.now) in
-    let long = length-map a.kept.now (λ (j : ℕ). get_or (decode 4 a.m a.column.now) j 0) in
-    let done : c.loop-i.i ≡ length a.kept.now = omega arith in
-    c.loop-i.invariant.2 ∙ rw (done, take_all (length a.kept.now) all (omega arith)) (whole all a.weights.now {m = length a.kept.now} c.requires.3)
+    let all = at_places c.args.kept.now (decode 4 c.args.m c.args.column.now) in
+    let long = length-map c.args.kept.now (λ (j : ℕ). get_or (decode 4 c.args.m c.args.column.now) j 0) in
+    let done : c.loop-i.i ≡ length c.args.kept.now = omega arith in
+    c.loop-i.invariant.2 ∙ rw (done, take_all (length c.args.kept.now) all (omega arith)) (whole all c.args.weights.now {m = length c.args.kept.now} c.requires.3)

@@ -6,14 +6,10 @@ use Rattle.loading.proofs.DecodeLaws.{few_arcs, column_few, column_bytes, column
 use Rattle.loading.proofs.reading.read_column.Goals as goal
 
 pub column_start-start-requires : goal.column_start-start-requires
-column_start-start-requires c = let p = c.requires in column_few p.0 p.1
+column_start-start-requires c = column_few c.requires.0 c.requires.1
 
 pub copy_costs-requires : goal.copy_costs-requires
-copy_costs-requires c =
-    let p = c.requires in
-    (omega (arith, column_bytes p.0 p.1 c.column_start-start.ensures), few_arcs p.0, p.2, p.3)
+copy_costs-requires c = (omega (arith, column_bytes c.requires.0 c.requires.1 c.column_start-start.ensures), few_arcs c.requires.0, c.requires.2, c.requires.3)
 
 pub returns : goal.returns
-returns c =
-    let p = c.requires in
-    c.copy_costs.ensures ∙ ap (at_places c.args.kept.now) (column_read p.0 p.1 c.column_start-start.ensures)
+returns c = c.copy_costs.ensures ∙ ap (at_places c.args.kept.now) (column_read c.requires.0 c.requires.1 c.column_start-start.ensures)

@@ -17,38 +17,35 @@ use Rattle.loading.proofs.DecodeLaws.{whole, few_arcs, few_columns}
 use Rattle.loading.proofs.reading.read_columns.Goals as goal
 
 pub loop-u-init : goal.loop-u-init
-loop-u-init c = let a = c.args in (omega arith, refl, none_put (length a.kept.now) (in_a_row (selected a.kept.now (net_of a.image.now)).columns) a.costs.now)
+loop-u-init c = (omega arith, refl, none_put (length c.args.kept.now) (in_a_row (selected c.args.kept.now (net_of c.args.image.now)).columns) c.args.costs.now)
 
 pub read_column-requires : goal.read_column-requires
 read_column-requires c =
-    let fits : let a = c.args in (c.loop-u.u * length a.kept.now + length a.kept.now ≤ length a.costs.now) × (length a.costs.now ≤ 8000) × (a.sizes.k ≤ 8) = let m = length c.args.kept.now in let few : m ≤ 1000 = omega (arith, indices_few c.requires.1, few_arcs c.requires.0) in (omega (arith, c.requires.2, column_fits m c.args.sizes.k c.loop-u.u c.loop-u-test.true), omega (arith, c.requires.2, mul-le-mul few (few_columns c.requires.0)), few_columns c.requires.0) in
-    let part_long : let a = c.args in let m = length a.kept.now in let from = c.loop-u.u * m in length (take (from + m - from) (drop from c.loop-u.costs)) ≡ m = let a = c.args in let m = length a.kept.now in let from = c.loop-u.u * m in mid_len from (from + m) c.loop-u.costs (omega (arith, fits, c.loop-u.invariant.1)) ∙ omega arith in
+    let fits : (c.loop-u.u * length c.args.kept.now + length c.args.kept.now ≤ length c.args.costs.now) × (length c.args.costs.now ≤ 8000) × (c.args.sizes.k ≤ 8) = let m = length c.args.kept.now in let few : m ≤ 1000 = omega (arith, indices_few c.requires.1, few_arcs c.requires.0) in (omega (arith, c.requires.2, column_fits m c.args.sizes.k c.loop-u.u c.loop-u-test.true), omega (arith, c.requires.2, mul-le-mul few (few_columns c.requires.0)), few_columns c.requires.0) in
+    let part_long : let m = length c.args.kept.now in let from = c.loop-u.u * m in length (take (from + m - from) (drop from c.loop-u.costs)) ≡ m = let m = length c.args.kept.now in let from = c.loop-u.u * m in mid_len from (from + m) c.loop-u.costs (omega (arith, fits, c.loop-u.invariant.1)) ∙ omega arith in
     (c.requires.0, record { from = omega arith; upto = omega (arith, c.requires.0.columns_are, c.loop-u-test.true) }, c.requires.1, part_long)
 
 pub loop-u-preserved : goal.loop-u-preserved
 unfolding cost_column
 loop-u-preserved c =
-    let fits : let a = c.args in (c.loop-u.u * length a.kept.now + length a.kept.now ≤ length a.costs.now) × (length a.costs.now ≤ 8000) × (a.sizes.k ≤ 8) = let m = length c.args.kept.now in let few : m ≤ 1000 = omega (arith, indices_few c.requires.1, few_arcs c.requires.0) in (omega (arith, c.requires.2, column_fits m c.args.sizes.k c.loop-u.u c.loop-u-test.true), omega (arith, c.requires.2, mul-le-mul few (few_columns c.requires.0)), few_columns c.requires.0) in
-    let a = c.args in
-    let m = length a.kept.now in
-    let net = net_of a.image.now in
-    let cols = (selected a.kept.now net).columns in
-    let u = c.loop-u.u in
-    let at : u + 1 - 1 ≡ u = omega arith in
-    let inside : u < length net.columns = omega (arith, c.requires.0.columns_are, c.loop-u-test.true) in
-    let full = selected_full a.kept.now net in
-    let count = selected_count a.kept.now net in
-    let new = c.read_column.ensures ∙ ap (λ i. at_places a.kept.now (get_or net.columns i [])) at ∙ sym (selected_column a.kept.now net u inside) ∙ sym (row_part m cols full u (omega (arith, count))) in
-    let long : u * m + m ≤ length (in_a_row cols) = omega (arith, row_length m cols full, count, c.requires.0.columns_are, fits, c.requires.2, mul_comm m a.sizes.k, ap (λ (x : ℕ). x * m) (count ∙ sym c.requires.0.columns_are)) in
-    (omega arith, same_len_mid (u * m) (u * m + m - u * m) c.loop-u.costs c.read_column.new.weights c.read_column.auto.weights ∙ c.loop-u.invariant.1, column_put m (in_a_row cols) a.costs.now c.loop-u.costs c.read_column.new.weights u long c.loop-u.invariant.2 new)
+    let fits : (c.loop-u.u * length c.args.kept.now + length c.args.kept.now ≤ length c.args.costs.now) × (length c.args.costs.now ≤ 8000) × (c.args.sizes.k ≤ 8) = let m = length c.args.kept.now in let few : m ≤ 1000 = omega (arith, indices_few c.requires.1, few_arcs c.requires.0) in (omega (arith, c.requires.2, column_fits m c.args.sizes.k c.loop-u.u c.loop-u-test.true), omega (arith, c.requires.2, mul-le-mul few (few_columns c.requires.0)), few_columns c.requires.0) in
+    let m = length c.args.kept.now in
+    let net = net_of c.args.image.now in
+    let cols = (selected c.args.kept.now net).columns in
+ let at : c.loop-u.u + 1 - 1 ≡ c.loop-u.u = omega arith in
+    let inside : c.loop-u.u < length net.columns = omega (arith, c.requires.0.columns_are, c.loop-u-test.true) in
+    let full = selected_full c.args.kept.now net in
+    let count = selected_count c.args.kept.now net in
+    let new = c.read_column.ensures ∙ ap (λ i. at_places c.args.kept.now (get_or net.columns i [])) at ∙ sym (selected_column c.args.kept.now net c.loop-u.u inside) ∙ sym (row_part m cols full c.loop-u.u (omega (arith, count))) in
+    let long : c.loop-u.u * m + m ≤ length (in_a_row cols) = omega (arith, row_length m cols full, count, c.requires.0.columns_are, fits, c.requires.2, mul_comm m c.args.sizes.k, ap (λ (x : ℕ). x * m) (count ∙ sym c.requires.0.columns_are)) in
+    (omega arith, same_len_mid (c.loop-u.u * m) (c.loop-u.u * m + m - c.loop-u.u * m) c.loop-u.costs c.read_column.new.weights c.read_column.auto.weights ∙ c.loop-u.invariant.1, column_put m (in_a_row cols) c.args.costs.now c.loop-u.costs c.read_column.new.weights c.loop-u.u long c.loop-u.invariant.2 new)
 
 pub returns : goal.returns
 returns c =
-    let a = c.args in
-    let m = length a.kept.now in
-    let net = net_of a.image.now in
-    let cols = (selected a.kept.now net).columns in
-    let done : c.loop-u.u ≡ a.sizes.k = omega arith in
-    let all : c.loop-u.u * m ≡ m * a.sizes.k = ap (λ u. u * m) done ∙ mul_comm a.sizes.k m in
-    let long : length (in_a_row cols) ≡ c.loop-u.u * m = row_length m cols (selected_full a.kept.now net) ∙ ap (λ (x : ℕ). x * m) (selected_count a.kept.now net ∙ sym c.requires.0.columns_are ∙ sym done) in
-    c.loop-u.invariant.2 ∙ ap (λ (x : List ℕ). x ++ drop (c.loop-u.u * m) a.costs.now) (take_all (c.loop-u.u * m) (in_a_row cols) (omega (arith, long))) ∙ whole (in_a_row cols) a.costs.now {m = c.loop-u.u * m} (c.requires.2 ∙ sym all)
+    let m = length c.args.kept.now in
+    let net = net_of c.args.image.now in
+    let cols = (selected c.args.kept.now net).columns in
+    let done : c.loop-u.u ≡ c.args.sizes.k = omega arith in
+    let all : c.loop-u.u * m ≡ m * c.args.sizes.k = ap (λ u. u * m) done ∙ mul_comm c.args.sizes.k m in
+    let long : length (in_a_row cols) ≡ c.loop-u.u * m = row_length m cols (selected_full c.args.kept.now net) ∙ ap (λ (x : ℕ). x * m) (selected_count c.args.kept.now net ∙ sym c.requires.0.columns_are ∙ sym done) in
+    c.loop-u.invariant.2 ∙ ap (λ (x : List ℕ). x ++ drop (c.loop-u.u * m) c.args.costs.now) (take_all (c.loop-u.u * m) (in_a_row cols) (omega (arith, long))) ∙ whole (in_a_row cols) c.args.costs.now {m = c.loop-u.u * m} (c.requires.2 ∙ sym all)

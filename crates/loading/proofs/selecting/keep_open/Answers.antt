@@ -9,15 +9,12 @@ use Rattle.loading.proofs.DecodeLaws.{few_arcs, column_few, column_bytes, column
 use Rattle.loading.proofs.selecting.keep_open.Goals as goal
 
 pub column_start-start-requires : goal.column_start-start-requires
-column_start-start-requires c = let p = c.requires.accepted in column_few p.0 p.1
+column_start-start-requires c = column_few c.requires.accepted.0 c.requires.accepted.1
 
 pub drop_marked-requires : goal.drop_marked-requires
 drop_marked-requires c =
-    let p = c.requires in
-    record { m_in_bounds = (omega (arith, column_bytes p.0.0 p.0.1 c.column_start-start.ensures), few_arcs p.0.0, p.0.2); indices = p.1 }
+    record { m_in_bounds = (omega (arith, column_bytes c.requires.accepted.0 c.requires.accepted.1 c.column_start-start.ensures), few_arcs c.requires.accepted.0, c.requires.accepted.2); indices = c.requires.indices }
 
 pub returns : goal.returns
 unfolding open_in
-returns c =
-    let p = c.requires in
-    (c.drop_marked.ensures.0, c.drop_marked.ensures.1 ∙ ap (λ l. keep (unmarked_at l) (take c.args.count c.args.kept.now)) (column_read p.0.0 p.0.1 c.column_start-start.ensures))
+returns c = (c.drop_marked.ensures.0, c.drop_marked.ensures.1 ∙ ap (λ l. keep (unmarked_at l) (take c.args.count c.args.kept.now)) (column_read c.requires.accepted.0 c.requires.accepted.1 c.column_start-start.ensures))

@@ -17,14 +17,11 @@ loop-i-init c = (omega arith, refl, refl)
 
 pub loop-i-preserved : goal.loop-i-preserved
 loop-i-preserved c =
-    let k₀ = c.args.kept.now in
-    let i = c.loop-i.i in
-    let count = length_numbers 0 (length k₀) in
-    let own : i ≡ get_or (numbers 0 (length k₀)) i 0 = number_at (length k₀) i (omega arith) in
-    (omega arith, simp length-set (omega arith), rw c.loop-i.invariant.2 (ap (λ (x : ℕ). set (take i (numbers 0 (length k₀)) ++ drop i k₀) i x) own ∙ copy_more (numbers 0 (length k₀)) k₀ i (omega arith) (omega arith)))
+    let count = length_numbers 0 (length c.args.kept.now) in
+    let own : c.loop-i.i ≡ get_or (numbers 0 (length c.args.kept.now)) c.loop-i.i 0 = number_at (length c.args.kept.now) c.loop-i.i (omega arith) in
+    (omega arith, simp length-set (omega arith), rw c.loop-i.invariant.2 (ap (λ (x : ℕ). set (take c.loop-i.i (numbers 0 (length c.args.kept.now)) ++ drop c.loop-i.i c.args.kept.now) c.loop-i.i x) own ∙ copy_more (numbers 0 (length c.args.kept.now)) c.args.kept.now c.loop-i.i (omega arith) (omega arith)))
 
 pub returns : goal.returns
 returns c =
-    let k₀ = c.args.kept.now in
-    let done : c.loop-i.i ≡ length k₀ = omega arith in
-    c.loop-i.invariant.2 ∙ rw (done, take_all (length k₀) (numbers 0 (length k₀)) (omega (arith, length_numbers 0 (length k₀)))) (whole (numbers 0 (length k₀)) k₀ refl)
+    let done : c.loop-i.i ≡ length c.args.kept.now = omega arith in
+    c.loop-i.invariant.2 ∙ rw (done, take_all (length c.args.kept.now) (numbers 0 (length c.args.kept.now)) (omega (arith, length_numbers 0 (length c.args.kept.now)))) (whole (numbers 0 (length c.args.kept.now)) c.args.kept.now refl)

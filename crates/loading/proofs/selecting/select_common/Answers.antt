@@ -19,10 +19,9 @@ select_left-count-requires c = omega (arith, c.requires.1, few_arcs c.requires.0
 pub returns-then-sizes-eq1 : goal.returns-then-sizes-eq1
 returns-then-sizes-eq1 c =
     let all : take c.select_left-count.result c.select_left-count.new.kept ≡ passing (left c.args.closed.now) c.args.sizes.m = c.select_left-count.ensures.1 ∙ ap (passing (left c.args.closed.now)) c.requires.1 in
-    let p = c.requires in
     let net = net_of c.args.image.now in
-    let edition-1 = subst (λ e. Admitted e net) (sym p.0.edition_is ∙ c.if-sizes-eq1.true) (admitted p.0) in
-    (omega (arith, c.select_left-count.ensures.0, p.1), all ∙ first_edition_common edition-1 _ ∙ keep_keep (left c.args.closed.now) (open_everywhere net) (numbers 0 c.args.sizes.m))
+    let edition-1 = subst (λ e. Admitted e net) (sym c.requires.0.edition_is ∙ c.if-sizes-eq1.true) (admitted c.requires.0) in
+    (omega (arith, c.select_left-count.ensures.0, c.requires.1), all ∙ first_edition_common edition-1 _ ∙ keep_keep (left c.args.closed.now) (open_everywhere net) (numbers 0 c.args.sizes.m))
 
 pub returns : goal.returns
 returns c =
@@ -32,15 +31,11 @@ returns c =
 pub loop-u-init : goal.loop-u-init
 loop-u-init c =
     let all : take c.select_left-count.result c.select_left-count.new.kept ≡ passing (left c.args.closed.now) c.args.sizes.m = c.select_left-count.ensures.1 ∙ ap (passing (left c.args.closed.now)) c.requires.1 in
-    let p = c.requires in
-    (omega arith, omega (arith, c.select_left-count.ensures.0, p.1), refl, all ∙ none_closed (net_of c.args.image.now) _)
+    (omega arith, omega (arith, c.select_left-count.ensures.0, c.requires.1), refl, all ∙ none_closed (net_of c.args.image.now) _)
 
 pub loop-u-preserved : goal.loop-u-preserved
-loop-u-preserved c =
-    let i = c.loop-u.invariant in
-    (omega (arith, c.loop-u-test.true), omega (arith, c.keep_open-count.ensures.0, i.1), c.keep_open-count.auto.kept ∙ i.2, c.keep_open-count.ensures.1 ∙ ap (keep (open_in (net_of c.args.image.now) (c.loop-u.u + 1))) i.3 ∙ one_column_more (net_of c.args.image.now) c.loop-u.u _)
+loop-u-preserved c = (omega (arith, c.loop-u-test.true), omega (arith, c.keep_open-count.ensures.0, c.loop-u.invariant.1), c.keep_open-count.auto.kept ∙ c.loop-u.invariant.2, c.keep_open-count.ensures.1 ∙ ap (keep (open_in (net_of c.args.image.now) (c.loop-u.u + 1))) c.loop-u.invariant.3 ∙ one_column_more (net_of c.args.image.now) c.loop-u.u _)
 
 pub keep_open-count-requires : goal.keep_open-count-requires
 keep_open-count-requires c =
-    let i = c.loop-u.invariant in
-    record { accepted = (c.requires.0, record { from = omega arith; upto = omega (arith, c.loop-u-test.true, c.requires.0.columns_are) }, omega (arith, i.1, i.2, c.requires.1, c.select_left-count.auto.kept)); indices = indices_of (left c.args.closed.now) (open_upto (net_of c.args.image.now) c.loop-u.u) c.args.sizes.m i.3 }
+    record { accepted = (c.requires.0, record { from = omega arith; upto = omega (arith, c.loop-u-test.true, c.requires.0.columns_are) }, omega (arith, c.loop-u.invariant.1, c.loop-u.invariant.2, c.requires.1, c.select_left-count.auto.kept)); indices = indices_of (left c.args.closed.now) (open_upto (net_of c.args.image.now) c.loop-u.u) c.args.sizes.m c.loop-u.invariant.3 }

@@ -18,17 +18,14 @@ select_left-count-requires c = omega (arith, c.requires.2, few_arcs c.requires.0
 pub returns-then-sizes-eq1 : goal.returns-then-sizes-eq1
 returns-then-sizes-eq1 c =
     let all : take c.select_left-count.result c.select_left-count.new.kept ≡ passing (left c.args.closed.now) c.args.sizes.m = c.select_left-count.ensures.1 ∙ ap (passing (left c.args.closed.now)) c.requires.2 in
-    let p = c.requires in
-    let words = c.args.closed.now in
     let net = net_of c.args.image.now in
-    let edition-1 = subst (λ e. Admitted e net) (sym p.0.edition_is ∙ c.if-sizes-eq1.true) (admitted p.0) in
-    (omega (arith, c.select_left-count.ensures.0, p.2), all ∙ first_edition_open edition-1 c.args.u p.1.from p.1.upto (left words) p.0.arcs_are ∙ keep_keep (left words) (open_in net c.args.u) (numbers 0 c.args.sizes.m))
+    let edition-1 = subst (λ e. Admitted e net) (sym c.requires.0.edition_is ∙ c.if-sizes-eq1.true) (admitted c.requires.0) in
+    (omega (arith, c.select_left-count.ensures.0, c.requires.2), all ∙ first_edition_open edition-1 c.args.u c.requires.1.from c.requires.1.upto (left c.args.closed.now) c.requires.0.arcs_are ∙ keep_keep (left c.args.closed.now) (open_in net c.args.u) (numbers 0 c.args.sizes.m))
 
 pub keep_open-requires : goal.keep_open-requires
 keep_open-requires c =
     let all : take c.select_left-count.result c.select_left-count.new.kept ≡ passing (left c.args.closed.now) c.args.sizes.m = c.select_left-count.ensures.1 ∙ ap (passing (left c.args.closed.now)) c.requires.2 in
-    let p = c.requires in
-    record { accepted = (p.0, p.1, omega (arith, c.select_left-count.ensures.0, c.select_left-count.auto.kept)); indices = record { test = left c.args.closed.now; are = all } }
+    record { accepted = (c.requires.0, c.requires.1, omega (arith, c.select_left-count.ensures.0, c.select_left-count.auto.kept)); indices = record { test = left c.args.closed.now; are = all } }
 
 pub returns : goal.returns
 returns c =

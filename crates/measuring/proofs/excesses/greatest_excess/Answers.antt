@@ -18,16 +18,13 @@ column_excess-excess-requires c =
 
 pub returns-then-limit-excess : goal.returns-then-limit-excess
 returns-then-limit-excess c =
-    let a = c.args in
     record {
       exact = λ h. absurd (omega (arith, c.if-limit-excess.true));
-      beyond = λ _. omega (arith, c.if-limit-excess.true, c.column_excess-excess.ensures, excess_within a.m a.costs.now a.bests.now a.arcs.now c.loop-u.u c.loop-u.invariant.0 c.loop-u-test.true);
+      beyond = λ _. omega (arith, c.if-limit-excess.true, c.column_excess-excess.ensures, excess_within c.args.m c.args.costs.now c.args.bests.now c.args.arcs.now c.loop-u.u c.loop-u.invariant.0 c.loop-u-test.true);
     }
 
 pub loop-u-preserved : goal.loop-u-preserved
-loop-u-preserved c =
-    let i = c.loop-u.invariant in
-    (omega arith, omega arith, ⊎_elim (λ w. raised i.0 i.2 c.column_excess-excess.ensures w.0.taken w.2 w.3) (λ w. kept i.0 i.2 c.column_excess-excess.ensures w.0.left w.1 w.2) c.if-figure-excess.branch)
+loop-u-preserved c = (omega arith, omega arith, ⊎_elim (λ w. raised c.loop-u.invariant.0 c.loop-u.invariant.2 c.column_excess-excess.ensures w.0.taken w.2 w.3) (λ w. kept c.loop-u.invariant.0 c.loop-u.invariant.2 c.column_excess-excess.ensures w.0.left w.1 w.2) c.if-figure-excess.branch)
 
 pub returns : goal.returns
 unfolding excesses

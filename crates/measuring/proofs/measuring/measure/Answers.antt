@@ -4,5 +4,4 @@ use Rattle.measuring.proofs.measuring.measure.Goals as goal
 
 pub measure_in-requires : goal.measure_in-requires
 measure_in-requires c =
-    let p = c.requires in
-    record { columns = p.0; by_arcs = p.1.0; in_bounds = (p.1.1.0.0, p.1.1.0.1, omega (arith, p.1.1.0.1)); by_index = p.1.1.1 }
+    record { columns = c.requires.columns; by_arcs = c.requires.by_arcs; in_bounds = (c.requires.in_bounds.0, c.requires.in_bounds.1, omega (arith, c.requires.in_bounds.1)); by_index = c.requires.by_index }

@@ -15,11 +15,11 @@ pub greatest_excess-requires : goal.greatest_excess-requires
 unfolding heads_of outs_of
 greatest_excess-requires c =
     let room : length c.args.path.now ≤ length c.path_arcs.new.arcs + 1 = omega (arith, c.path_arcs.auto.arcs, c.requires.in_bounds.2) in
-    let summed : Summed c.args.m c.args.costs.now c.args.bests.now (take (length c.args.path.now - 1) c.path_arcs.new.arcs) = summed_path c.args.bests.now c.requires.columns c.requires.by_arcs room.path-arcs.ensures c.requires.in_bounds.1 c.requires.by_index in
+    let summed : Summed c.args.m c.args.costs.now c.args.bests.now (take (length c.args.path.now - 1) c.path_arcs.new.arcs) = summed_path c.args.bests.now c.requires.columns c.requires.by_arcs room c.path_arcs.ensures c.requires.in_bounds.1 c.requires.by_index in
     summed
 
 pub returns : goal.returns
 unfolding heads_of outs_of
 returns c =
     let room : length c.args.path.now ≤ length c.path_arcs.new.arcs + 1 = omega (arith, c.path_arcs.auto.arcs, c.requires.in_bounds.2) in
-    measured_path c.args.bests.now c.requires.columns c.requires.by_arcs room.path-arcs.ensures c.greatest_excess.ensures
+    measured_path c.args.bests.now c.requires.columns c.requires.by_arcs room c.path_arcs.ensures c.greatest_excess.ensures

@@ -14,12 +14,11 @@ loop-i-smaller c = omega (arith, c.loop-i-test.true)
 
 pub loop-i-preserved : goal.loop-i-preserved
 loop-i-preserved c =
-    let a = c.args in
-    let more = sum_more a.weights.now a.arcs.now (c.loop-i.i - 1) (omega (arith, c.loop-i-test.true)) in
+    let more = sum_more c.args.weights.now c.args.arcs.now (c.loop-i.i - 1) (omega (arith, c.loop-i-test.true)) in
     let next : (c.loop-i.i - 1) + 1 ≡ c.loop-i.i = omega (arith, c.loop-i-test.true) in
     (omega arith, omega (arith, c.loop-i-test.true, c.type_inv.weights (get_or c.args.arcs.now (c.loop-i.i - 1) 0)), omega (arith, rw next at more))
 
 pub returns : goal.returns
 returns c =
     let end : c.loop-i.i ≡ 0 = omega (arith, c.loop-i-test.false) in
-    rw end (c.loop-i.i - 1).loop.invariant.2
+    rw end at c.loop-i.invariant.2

@@ -10,14 +10,11 @@ use Rattle.measuring.proofs.sums.column_excess.Goals as goal
 
 pub arc_sum-requires : goal.arc_sum-requires
 arc_sum-requires c =
-    let p = c.requires in
-    let a = c.args in
-    let long = ap length (column_part a.m a.costs.now a.u) ∙ column_full a.m a.u a.costs.now p.0.costs_long p.1.0 p.1.1 in
-    (p.0.steps_few, λ i h. rw long (p.0.arcs_in i h))
+    let long = ap length (column_part c.args.m c.args.costs.now c.args.u) ∙ column_full c.args.m c.args.u c.args.costs.now c.requires.summed.costs_long c.requires.le_u.0 c.requires.le_u.1 in
+    (c.requires.summed.steps_few, λ i h. rw long (c.requires.summed.arcs_in i h))
 
 pub returns : goal.returns
 unfolding excess
 returns c =
     let sum_is : c.arc_sum.result ≡ sum_of (column_costs c.args.m c.args.costs.now c.args.u) c.args.arcs.now = c.arc_sum.ensures ∙ ap (λ (l : List ℕ). sum_of l c.args.arcs.now) (column_part c.args.m c.args.costs.now c.args.u) in
-    let a = c.args in
-    ap (λ (x : ℕ). x - get_or a.bests.now (a.u - 1) 0) sum_is
+    ap (λ (x : ℕ). x - get_or c.args.bests.now (c.args.u - 1) 0) sum_is

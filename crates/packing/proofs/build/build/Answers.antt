@@ -24,15 +24,15 @@ returns-in-Refused c =
 pub write_header-requires : goal.write_header-requires
 unfolding half
 write_header-requires c =
-    let room : 24 + 2 * length c.args.nodes.now + 4 * length c.args.costs.now ≤ length c.args.image.now = let a = c.args in let p = passes in let m = half a.nodes.now in omega (arith, p.fits, total_is m a.k, costs_start_is m, p.counted, twice_half a.edition a.n a.k a.nodes.now a.costs.now p.even p.counted) in
     let passes : BuildSound c.args.edition c.args.n c.args.k c.args.nodes.now c.args.costs.now (length c.args.image.now) = build_sound _ _ _ _ _ _ (sym c.check_lists-lists.ensures ∙ ap verdict c.in_default.is) in
+    let room : 24 + 2 * length c.args.nodes.now + 4 * length c.args.costs.now ≤ length c.args.image.now = let p = passes in let m = half c.args.nodes.now in omega (arith, p.fits, total_is m c.args.k, costs_start_is m, p.counted, twice_half c.args.edition c.args.n c.args.k c.args.nodes.now c.args.costs.now p.even p.counted) in
     let r = passes.ranges in
     (omega (arith, room), omega (arith, edition_to c.args.edition passes.taken), r.nodes_to, r.arcs_to, r.columns_to)
 
 pub write_nodes-requires : goal.write_nodes-requires
 write_nodes-requires c =
     let passes : BuildSound c.args.edition c.args.n c.args.k c.args.nodes.now c.args.costs.now (length c.args.image.now) = build_sound _ _ _ _ _ _ (sym c.check_lists-lists.ensures ∙ ap verdict c.in_default.is) in
-    let room : 24 + 2 * length c.args.nodes.now + 4 * length c.args.costs.now ≤ length c.args.image.now = let a = c.args in let p = passes in let m = half a.nodes.now in omega (arith, p.fits, total_is m a.k, costs_start_is m, p.counted, twice_half a.edition a.n a.k a.nodes.now a.costs.now p.even p.counted) in
+    let room : 24 + 2 * length c.args.nodes.now + 4 * length c.args.costs.now ≤ length c.args.image.now = let p = passes in let m = half c.args.nodes.now in omega (arith, p.fits, total_is m c.args.k, costs_start_is m, p.counted, twice_half c.args.edition c.args.n c.args.k c.args.nodes.now c.args.costs.now p.even p.counted) in
     omega (arith, room, c.write_header.auto.image)
 
 pub costs_start-requires : goal.costs_start-requires
@@ -44,11 +44,10 @@ costs_start-requires c =
 pub write_costs-requires : goal.write_costs-requires
 unfolding half
 write_costs-requires c =
-    let room : 24 + 2 * length c.args.nodes.now + 4 * length c.args.costs.now ≤ length c.args.image.now = let a = c.args in let p = passes in let m = half a.nodes.now in omega (arith, p.fits, total_is m a.k, costs_start_is m, p.counted, twice_half a.edition a.n a.k a.nodes.now a.costs.now p.even p.counted) in
     let passes : BuildSound c.args.edition c.args.n c.args.k c.args.nodes.now c.args.costs.now (length c.args.image.now) = build_sound _ _ _ _ _ _ (sym c.check_lists-lists.ensures ∙ ap verdict c.in_default.is) in
-    let a = c.args in
+    let room : 24 + 2 * length c.args.nodes.now + 4 * length c.args.costs.now ≤ length c.args.image.now = let p = passes in let m = half c.args.nodes.now in omega (arith, p.fits, total_is m c.args.k, costs_start_is m, p.counted, twice_half c.args.edition c.args.n c.args.k c.args.nodes.now c.args.costs.now p.even p.counted) in
     let p = passes in
-    omega (arith, room, c.costs_start.ensures, costs_start_is (half a.nodes.now), twice_half a.edition a.n a.k a.nodes.now a.costs.now p.even p.counted, c.write_nodes.auto.image, c.write_header.auto.image)
+    omega (arith, room, c.costs_start.ensures, costs_start_is (half c.args.nodes.now), twice_half c.args.edition c.args.n c.args.k c.args.nodes.now c.args.costs.now p.even p.counted, c.write_nodes.auto.image, c.write_header.auto.image)
 
 pub image_length-requires : goal.image_length-requires
 unfolding half
@@ -60,8 +59,7 @@ pub returns : goal.returns
 unfolding build_outcome half
 returns c =
     let passes : BuildSound c.args.edition c.args.n c.args.k c.args.nodes.now c.args.costs.now (length c.args.image.now) = build_sound _ _ _ _ _ _ (sym c.check_lists-lists.ensures ∙ ap verdict c.in_default.is) in
-    let a = c.args in
     let p = passes in
     let f = sym c.check_lists-lists.ensures ∙ ap verdict c.in_default.is in
-    let costs_at = subst (λ (i : ℕ). c.write_costs.last.0 ≡ take i c.write_nodes.last.0 ++ (encode 4 a.costs.now ++ drop (i + 4 * length a.costs.now) c.write_nodes.last.0)) c.costs_start.ensures c.write_costs.ensures in
-    record { result_value = ap (λ (x : ℕ). gives (x ∷ [])) c.image_length.ensures ∙ sym (outcome_sound _ f); image_after = image_written a.edition a.n a.k a.nodes.now a.costs.now p.even p.counted a.image.now c.write_header.last.0 c.write_nodes.last.0 c.write_costs.last.0 c.write_header.ensures c.write_nodes.ensures costs_at ∙ sym (after_sound _ _ f); reads_back = λ c. reads_back _ _ _ _ _ _ (build_sound _ _ _ _ _ _ c) }
+    let costs_at = subst (λ (i : ℕ). c.write_costs.last.0 ≡ take i c.write_nodes.last.0 ++ (encode 4 c.args.costs.now ++ drop (i + 4 * length c.args.costs.now) c.write_nodes.last.0)) c.costs_start.ensures c.write_costs.ensures in
+    record { result_value = ap (λ (x : ℕ). gives (x ∷ [])) c.image_length.ensures ∙ sym (outcome_sound _ f); image_after = image_written c.args.edition c.args.n c.args.k c.args.nodes.now c.args.costs.now p.even p.counted c.args.image.now c.write_header.last.0 c.write_nodes.last.0 c.write_costs.last.0 c.write_header.ensures c.write_nodes.ensures costs_at ∙ sym (after_sound _ _ f); reads_back = λ c. reads_back _ _ _ _ _ _ (build_sound _ _ _ _ _ _ c) }

@@ -13,18 +13,16 @@ loop-i-init c = (omega arith, refl)
 
 pub returns-in_default : goal.returns-in_default
 returns-in_default c =
-    let read : get_or (pairs c.args.m c.args.nodes.now) c.loop-i.i (0, 0) ≡ (get_or c.args.nodes.now (2 * c.loop-i.i) 0, get_or c.args.nodes.now (2 * c.loop-i.i + 1) 0) = pairs_at c.args.m c.args.nodes.now c.loop-i.i (omega arith) in
     let here : c.loop-i.i < length (pairs c.args.m c.args.nodes.now) = omega (arith, length_pairs c.args.m c.args.nodes.now) in
+    let read : get_or (pairs c.args.m c.args.nodes.now) c.loop-i.i (0, 0) ≡ (get_or c.args.nodes.now (2 * c.loop-i.i) 0, get_or c.args.nodes.now (2 * c.loop-i.i + 1) 0) = pairs_at c.args.m c.args.nodes.now c.loop-i.i (omega arith) in
     let e = ap verdict c.in_default.is in
     e ∙ sym (c.loop-i.invariant.1 ∙ arc_found _ _ _ _ here read (sym c.check_arc-verdict.ensures ∙ e))
 
 pub loop-i-preserved : goal.loop-i-preserved
 loop-i-preserved c =
-    let read : get_or (pairs c.args.m c.args.nodes.now) c.loop-i.i (0, 0) ≡ (get_or c.args.nodes.now (2 * c.loop-i.i) 0, get_or c.args.nodes.now (2 * c.loop-i.i + 1) 0) = pairs_at c.args.m c.args.nodes.now c.loop-i.i (omega arith) in
     let here : c.loop-i.i < length (pairs c.args.m c.args.nodes.now) = omega (arith, length_pairs c.args.m c.args.nodes.now) in
+    let read : get_or (pairs c.args.m c.args.nodes.now) c.loop-i.i (0, 0) ≡ (get_or c.args.nodes.now (2 * c.loop-i.i) 0, get_or c.args.nodes.now (2 * c.loop-i.i + 1) 0) = pairs_at c.args.m c.args.nodes.now c.loop-i.i (omega arith) in
     (omega arith, c.loop-i.invariant.1 ∙ arc_passed _ _ _ _ here read (sym c.check_arc-verdict.ensures ∙ ap verdict c.in-Sound.is))
 
 pub returns : goal.returns
-returns c =
-    let a = c.args in
-    sym (c.loop-i.invariant.1 ∙ arcs_end _ _ _ _ (omega (arith, length_pairs a.m a.nodes.now)))
+returns c = sym (c.loop-i.invariant.1 ∙ arcs_end _ _ _ _ (omega (arith, length_pairs c.args.m c.args.nodes.now)))

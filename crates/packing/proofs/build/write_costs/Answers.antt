@@ -8,11 +8,7 @@ pub loop-i-init : goal.loop-i-init
 loop-i-init c = (omega arith, refl, write_none 4 c.args.costs.now c.args.image.now c.args.start)
 
 pub loop-i-preserved : goal.loop-i-preserved
-loop-i-preserved c =
-    let a = c.args in
-    (omega arith, c.write32.auto.buffer ∙ c.loop-i.invariant.1, c.write32.ensures ∙ write_more 4 a.costs.now c.loop-i.image a.image.now a.start c.loop-i.i (omega arith) (omega arith) c.loop-i.invariant.2)
+loop-i-preserved c = (omega arith, c.write32.auto.buffer ∙ c.loop-i.invariant.1, c.write32.ensures ∙ write_more 4 c.args.costs.now c.loop-i.image c.args.image.now c.args.start c.loop-i.i (omega arith) (omega arith) c.loop-i.invariant.2)
 
 pub returns : goal.returns
-returns c =
-    let a = c.args in
-    write_all 4 a.costs.now _ a.image.now a.start c.loop-i.i (omega arith) c.loop-i.invariant.2
+returns c = write_all 4 c.args.costs.now _ c.args.image.now c.args.start c.loop-i.i (omega arith) c.loop-i.invariant.2

@@ -11,11 +11,7 @@ pub write16-requires : goal.write16-requires
 write16-requires c = omega (arith, c.type_inv.nodes c.loop-i.i)
 
 pub loop-i-preserved : goal.loop-i-preserved
-loop-i-preserved c =
-    let a = c.args in
-    (omega arith, c.write16.auto.buffer ∙ c.loop-i.invariant.1, c.write16.ensures ∙ write_more 2 a.nodes.now c.loop-i.image a.image.now a.start c.loop-i.i (omega arith) (omega arith) c.loop-i.invariant.2)
+loop-i-preserved c = (omega arith, c.write16.auto.buffer ∙ c.loop-i.invariant.1, c.write16.ensures ∙ write_more 2 c.args.nodes.now c.loop-i.image c.args.image.now c.args.start c.loop-i.i (omega arith) (omega arith) c.loop-i.invariant.2)
 
 pub returns : goal.returns
-returns c =
-    let a = c.args in
-    write_all 2 a.nodes.now _ a.image.now a.start c.loop-i.i (omega arith) c.loop-i.invariant.2
+returns c = write_all 2 c.args.nodes.now _ c.args.image.now c.args.start c.loop-i.i (omega arith) c.loop-i.invariant.2

@@ -13,15 +13,13 @@ loop-i-init c = (omega arith, refl, refl)
 
 pub loop-i-preserved : goal.loop-i-preserved
 loop-i-preserved c =
-    let a = c.args in
-    let s = decode 2 a.count a.source.now in
-    let read : c.read16.result ≡ get_or s c.loop-i.i 0 = c.read16.ensures.0 ∙ sym (decode_at 2 a.count a.source.now c.loop-i.i (omega arith)) in
-    let long = length_decode 2 a.count a.source.now in
-    (omega arith, simp length-set (omega arith), rw (c.loop-i.invariant.2, read) (copy_more s a.nodes.now c.loop-i.i (omega arith) (omega arith)))
+    let s = decode 2 c.args.count c.args.source.now in
+    let read : c.read16.result ≡ get_or s c.loop-i.i 0 = c.read16.ensures.0 ∙ sym (decode_at 2 c.args.count c.args.source.now c.loop-i.i (omega arith)) in
+    let long = length_decode 2 c.args.count c.args.source.now in
+    (omega arith, simp length-set (omega arith), rw (c.loop-i.invariant.2, read) (copy_more s c.args.nodes.now c.loop-i.i (omega arith) (omega arith)))
 
 pub returns : goal.returns
 returns c =
-    let a = c.args in
-    let s = decode 2 a.count a.source.now in
-    let done : c.loop-i.i ≡ a.count = omega arith in
-    c.loop-i.invariant.2 ∙ rw (done, take_all a.count s (omega (arith, length_decode 2 a.count a.source.now)))
+    let s = decode 2 c.args.count c.args.source.now in
+    let done : c.loop-i.i ≡ c.args.count = omega arith in
+    c.loop-i.invariant.2 ∙ rw (done, take_all c.args.count s (omega (arith, length_decode 2 c.args.count c.args.source.now)))

@@ -11,9 +11,7 @@ use Rattle.record_calls.proofs.update.check_both.Goals as goal
 
 pub returns-then-records-eq0 : goal.returns-then-records-eq0
 unfolding check_outcome
-returns-then-records-eq0 c =
-    let b = c.args.image.now in
-    c.check-answer.ensures ∙ ap (λ (f : Fault). outcome f (sizes b)) (sym (fours b c.args.records.now c.if-records-eq0.true))
+returns-then-records-eq0 c = c.check-answer.ensures ∙ ap (λ (f : Fault). outcome f (sizes c.args.image.now)) (sym (fours c.args.image.now c.args.records.now c.if-records-eq0.true))
 
 pub returns-in_default : goal.returns-in_default
 returns-in_default c = sym (outcome_fault _ (only_list _ _ c.if-records-eq0.false (accepted _ (sym (ap checked c.in_default.is) ∙ c.check-answer.ensures)).0))

@@ -2,7 +2,7 @@
 use mathlib.Core.Path.{◌≡◌, sym, ◌∙◌}
 use mathlib.Core.Bool.{true}
 use lib.Dec.{ltb}
-use borrow.Author.Tests.{lt-ltb, le-ltb, le-leb, lt-leb, not-true, not-false}
+use borrow.Author.Tests.{lt-ltb, le-ltb, le-leb, lt-leb}
 use Rattle.image.specs.Outcome.{row, ◌then◌}
 use Rattle.record_calls.specs.Calls.{place, record_fault}
 use Rattle.record_calls.proofs.update.check_record.Goals as goal
@@ -27,10 +27,10 @@ pub returns-then-not-is_cost : goal.returns-then-not-is_cost
 unfolding record_fault row ◌then◌ place
 returns-then-not-is_cost c =
     let in_arcs : ltb c.args.arc c.args.sizes.m ≡ true = lt-ltb _ _ c.if-sizes-arc.false in
-    λ stamp. simp (in_arcs, le-leb _ _ c.if-column-lt1.false, le-leb _ _ c.if-sizes-column.false, sym c.is_cost.ensures ∙ not-true _ c.if-not-is_cost.true)
+    λ stamp. simp (in_arcs, le-leb _ _ c.if-column-lt1.false, le-leb _ _ c.if-sizes-column.false, sym c.is_cost.ensures ∙ c.if-not-is_cost.true)
 
 pub returns : goal.returns
 unfolding record_fault row ◌then◌ place
 returns c =
     let in_arcs : ltb c.args.arc c.args.sizes.m ≡ true = lt-ltb _ _ c.if-sizes-arc.false in
-    λ stamp. simp (in_arcs, le-leb _ _ c.if-column-lt1.false, le-leb _ _ c.if-sizes-column.false, sym c.is_cost.ensures ∙ not-false _ c.if-not-is_cost.false)
+    λ stamp. simp (in_arcs, le-leb _ _ c.if-column-lt1.false, le-leb _ _ c.if-sizes-column.false, sym c.is_cost.ensures ∙ c.if-not-is_cost.false)

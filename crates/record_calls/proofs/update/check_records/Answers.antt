@@ -13,18 +13,16 @@ loop-i-init c = (omega arith, refl)
 
 pub loop-i-preserved : goal.loop-i-preserved
 loop-i-preserved c =
-    let read : get_or (record_list c.args.records.now) c.loop-i.i blank ≡ record_of (get_or c.args.records.now (4 * c.loop-i.i) 0) (get_or c.args.records.now (4 * c.loop-i.i + 1) 0) (get_or c.args.records.now (4 * c.loop-i.i + 2) 0) (get_or c.args.records.now (4 * c.loop-i.i + 3) 0) = list_at _ _ (omega arith) in
     let here : c.loop-i.i < length (record_list c.args.records.now) = omega (arith, length_list c.args.records.now) in
+    let read : get_or (record_list c.args.records.now) c.loop-i.i blank ≡ record_of (get_or c.args.records.now (4 * c.loop-i.i) 0) (get_or c.args.records.now (4 * c.loop-i.i + 1) 0) (get_or c.args.records.now (4 * c.loop-i.i + 2) 0) (get_or c.args.records.now (4 * c.loop-i.i + 3) 0) = list_at _ _ (omega arith) in
     (omega arith, c.loop-i.invariant.1 ∙ record_passed _ _ _ _ _ here read (sym (c.check_record-verdict.ensures _) ∙ ap verdict c.in-Sound.is))
 
 pub returns-in_default : goal.returns-in_default
 returns-in_default c =
-    let read : get_or (record_list c.args.records.now) c.loop-i.i blank ≡ record_of (get_or c.args.records.now (4 * c.loop-i.i) 0) (get_or c.args.records.now (4 * c.loop-i.i + 1) 0) (get_or c.args.records.now (4 * c.loop-i.i + 2) 0) (get_or c.args.records.now (4 * c.loop-i.i + 3) 0) = list_at _ _ (omega arith) in
     let here : c.loop-i.i < length (record_list c.args.records.now) = omega (arith, length_list c.args.records.now) in
+    let read : get_or (record_list c.args.records.now) c.loop-i.i blank ≡ record_of (get_or c.args.records.now (4 * c.loop-i.i) 0) (get_or c.args.records.now (4 * c.loop-i.i + 1) 0) (get_or c.args.records.now (4 * c.loop-i.i + 2) 0) (get_or c.args.records.now (4 * c.loop-i.i + 3) 0) = list_at _ _ (omega arith) in
     let e = ap verdict c.in_default.is in
     e ∙ sym (c.loop-i.invariant.1 ∙ record_found _ _ _ _ _ here read (sym (c.check_record-verdict.ensures _) ∙ e))
 
 pub returns : goal.returns
-returns c =
-    let a = c.args in
-    sym (c.loop-i.invariant.1 ∙ records_end _ _ _ _ _ (omega (arith, length_list a.records.now)))
+returns c = sym (c.loop-i.invariant.1 ∙ records_end _ _ _ _ _ (omega (arith, length_list c.args.records.now)))

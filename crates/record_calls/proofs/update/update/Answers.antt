@@ -13,9 +13,8 @@ use Rattle.record_calls.proofs.update.update.Goals as goal
 pub returns-in_default : goal.returns-in_default
 unfolding update_outcome update_fault
 returns-in_default c =
-    let told = c.in_default.is in
-    let f = then_fault _ (refuses_fault _ _ (sym (ap checked told) ∙ c.check_both-answer.ensures)) in
-    record { result_value = ap refused (c.refusal.ensures _ told) ∙ sym (outcome_fault _ f); image_after = sym (after_fault _ _ f); updates = updates_of _ _ }
+    let f = then_fault _ (refuses_fault _ _ (sym (ap checked c.in_default.is) ∙ c.check_both-answer.ensures)) in
+    record { result_value = ap refused (c.refusal.ensures _ c.in_default.is) ∙ sym (outcome_fault _ f); image_after = sym (after_fault _ _ f); updates = updates_of _ _ }
 
 pub returns-in-Refused : goal.returns-in-Refused
 unfolding update_outcome
@@ -35,8 +34,8 @@ write_records-requires c =
 pub returns : goal.returns
 unfolding update_outcome
 returns c =
-    let decided : update_fault c.args.image.now c.args.records.now ≡ verdict c.check_records-list.result = let g = known in records_decide _ _ g.0 g.1 ∙ sym c.check_records-list.ensures in
-    let bytes_of : AllBytes c.args.image.now = all_bytes _ (λ i. (c.type_inv.image i).fits) in
     let known : (both_fault c.args.image.now c.args.records.now ≡ sound) × Sized c.args.image.now c.in-Network.sizes.n c.in-Network.sizes.m c.in-Network.sizes.k c.in-Network.sizes.edition = let g = gives_sound (both_fault c.args.image.now c.args.records.now) _ (sym (ap checked c.in-Network.is) ∙ c.check_both-answer.ensures) in (g.0, sized _ g.1) in
+    let bytes_of : AllBytes c.args.image.now = all_bytes _ (λ i. (c.type_inv.image i).fits) in
+    let decided : update_fault c.args.image.now c.args.records.now ≡ verdict c.check_records-list.result = let g = known in records_decide _ _ g.0 g.1 ∙ sym c.check_records-list.ensures in
     let f = decided ∙ ap verdict c.in_default-list.is in
-    record { result_value = sym (outcome_sound _ f); image_after = image_written _ _ _ f known.1 bytes_of.write-records.ensures; updates = updates_of _ _ }
+    record { result_value = sym (outcome_sound _ f); image_after = image_written _ _ _ f known.1 bytes_of c.write_records.ensures; updates = updates_of _ _ }

@@ -1,0 +1,46 @@
+-- `laying::lay_out`: the parent's place is lower, and what is laid out for it is the first part. Assumes nothing.
+use Prim.Native.Nat.{ℕ, ◌+◌, ◌-◌, ◌≤◌, min}
+use native.Mathlib.Omega.{arith}
+use mathlib.Core.Path.{◌≡◌, sym, ◌∙◌, ap}
+use mathlib.Core.List.{List, ◌++◌}
+use lib.ListN.{length, take, drop, length-set}
+use Rattle.candidates.specs.Slots.{entry_at}
+use Rattle.candidates.specs.Routes.{size, route_at, Rooted}
+use Rattle.candidates.proofs.RootedLaws.{rooted_fits, parent_rooted, parent_lower, leaves_early, taken, taken_start, taken_parent, taken_length, route_is}
+use Rattle.candidates.proofs.LayingLaws.{both_laid, start_laid, parent_laid}
+use Rattle.candidates.proofs.laying.+lay_out.Goals as goal
+use Rattle.candidates.proofs.laying.+lay_out.Goals.{then-parent-eq0, else-parent-eq0}
+
+pub lay_out-requires : goal.lay_out-requires
+lay_out-requires t c =
+    let root : Rooted c.args.n c.args.work.now c.args.place = c.requires.rooted in
+    let r : ℕ = c.parent_at-parent.result - 1 in
+    let z : (entry_at c.args.n c.args.work.now c.args.place).parent ≡ c.parent_at-parent.result - 1 + 1 = sym c.parent_at-parent.ensures ∙ (omega arith) in
+    (
+      omega (arith, c.decreases, parent_lower c.args.n c.args.work.now c.args.place root r z),
+      (
+        parent_rooted c.args.n c.args.work.now c.args.place root r z,
+        (omega (arith, c.requires.le_count, c.smaller.ensures, c.shared_at-shared.ensures, (rooted_fits c.args.n c.args.work.now c.args.place root).some), omega (arith, c.smaller.ensures, c.shared_at-shared.ensures, leaves_early c.args.n c.args.work.now c.args.place root r z), omega (arith, c.requires.le_count, c.smaller.ensures)),
+      ),
+    )
+
+pub lay_tail-requires-clause-by_index : goal.lay_tail-requires-clause-by_index
+lay_tail-requires-clause-by_index t c = (rooted_fits c.args.n c.args.work.now c.args.place c.requires.rooted).nodes
+
+pub returns : goal.returns
+returns t c =
+    let root : Rooted c.args.n c.args.work.now c.args.place = c.requires.rooted in
+    let same = c.shared_at-shared.ensures in
+    let first : List ℕ = taken c.args.n c.args.work.now c.args.place root c.args.start in
+    let k : ℕ = min c.shared_at-shared.result c.args.count in
+    let began : c.if-parent-eq0.path ≡ take k first ++ drop k c.args.path.now = elim c.if-parent-eq0.branch [
+      then-parent-eq0 w ↦
+        let z = sym c.parent_at-parent.ensures ∙ w.if-parent-eq0.true in
+        w.path-is ∙ start_laid c.args.start c.shared_at-shared.result c.args.count first c.args.path.now (taken_start c.args.n c.args.work.now c.args.place root c.args.start z) (same ∙ (rooted_fits c.args.n c.args.work.now c.args.place root).from_start z) c.requires.le_count.0 (omega arith)
+    | else-parent-eq0 w ↦
+        let z : (entry_at c.args.n c.args.work.now c.args.place).parent ≡ c.parent_at-parent.result - 1 + 1 = sym c.parent_at-parent.ensures ∙ (omega (arith, w.if-parent-eq0.false)) in
+        w.path-is ∙ parent_laid c.shared_at-shared.result c.args.count w.smaller.result first (route_at c.args.start c.args.n c.args.work.now (c.parent_at-parent.result - 1)) c.args.path.now _ (taken_parent c.args.n c.args.work.now c.args.place root c.args.start (c.parent_at-parent.result - 1) z ∙ ap (λ (x : ℕ). take x (route_at c.args.start c.args.n c.args.work.now (c.parent_at-parent.result - 1))) (sym same)) w.smaller.ensures w.lay_out.ensures
+    ] in
+    c.lay_tail.ensures
+    ∙ both_laid c.shared_at-shared.result c.args.count first (entry_at c.args.n c.args.work.now c.args.place).tail c.args.path.now c.if-parent-eq0.path (taken_length c.args.n c.args.work.now c.args.place root c.args.start ∙ sym same) began
+    ∙ ap (λ (r : List ℕ). take c.args.count r ++ drop c.args.count c.args.path.now) (sym (route_is c.args.n c.args.work.now c.args.place root c.args.start))
