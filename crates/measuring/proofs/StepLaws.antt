@@ -65,6 +65,7 @@ module _ {n : ℕ} {ts hs ws : List ℕ} (A : Arcs n ts hs ws) where
 
   -- the nodes of a path of two or more are nodes
   nodes_within : (path : List ℕ) → ByArcs (graph ts hs ws) path → 2 ≤ length path → (i : ℕ) → i < length path → get_or path i 0 ≤ n
+  nodes_within [] x h i l = elim x [ ]
   nodes_within (v ∷ []) single h i l = absurd (omega arith)
   nodes_within (v ∷ x ∷ p) (along a b) h zero l = (tail_within A v x a).1
   nodes_within (v ∷ x ∷ p) (along a b) h (suc i) l = (later_within (graph_within A) v (x ∷ p) (along a b) (get_or_mem (x ∷ p) 0 i (omega arith))).1

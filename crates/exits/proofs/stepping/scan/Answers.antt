@@ -4,6 +4,7 @@ use mathlib.Core.Logic.{⊎_elim}
 use mathlib.Core.Path.{refl}
 use Rattle.exits.proofs.ExitLaws.{scan_start, scan_take, scan_pass, scan_none, scan_best}
 use Rattle.exits.proofs.stepping.scan.Goals as goal
+use Rattle.exits.proofs.stepping.scan.Goals.{then-l-best, else-l-best}
 
 pub loop-i-init : goal.loop-i-init
 loop-i-init c = (omega arith, omega (arith, c.requires.small), scan_start)
@@ -17,8 +18,10 @@ loop-i-preserved c =
     (
       omega arith,
       omega arith,
-      ⊎_elim (λ w. rw (w.1, w.2) (scan_take (omega arith) (c.via_below-l.ensures.is w.0.taken) w.0.taken c.loop-i.invariant.2))
-          (λ w. rw (w.1, w.2) (scan_pass refl (c.via_below-l.ensures.no_less w.0.left) c.via_below-l.ensures.at_most c.loop-i.invariant.2)) c.if-l-best.branch,
+      elim c.if-l-best.branch [
+        then-l-best w ↦ rw (w.best-is, w.node-is) (scan_take (omega arith) (c.via_below-l.ensures.is w.if-l-best.true) w.if-l-best.true c.loop-i.invariant.2)
+      | else-l-best w ↦ rw (w.best-is, w.node-is) (scan_pass refl (c.via_below-l.ensures.no_less w.if-l-best.false) c.via_below-l.ensures.at_most c.loop-i.invariant.2)
+      ],
     )
 
 pub returns-then-best : goal.returns-then-best

@@ -1,4 +1,5 @@
 -- `loading::load_all` makes room for the indices. Assumes nothing.
+use mathlib.Core.Path.{sym}
 use Rattle.terms.proofs.RoomLaws.{part_long}
 use Rattle.loading.proofs.DecodeLaws.{few_arcs}
 use Rattle.loading.proofs.loading.load_all.Goals as goal
@@ -6,3 +7,9 @@ use Rattle.loading.proofs.loading.load_all.Goals as goal
 pub load_all_in-requires : goal.load_all_in-requires
 load_all_in-requires c =
     record { accepted = (c.requires.accepted, part_long 1000 _ (few_arcs c.requires.accepted)); star_len = c.requires.star_len }
+
+pub slice_bounds-kept-end : goal.slice_bounds-kept-end
+slice_bounds-kept-end c = few_arcs c.requires.accepted
+
+pub slice_bounds-load_all_in-end : goal.slice_bounds-load_all_in-end
+slice_bounds-load_all_in-end c = sym (part_long 1000 _ (few_arcs c.requires.accepted))

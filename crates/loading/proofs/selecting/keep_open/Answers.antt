@@ -1,11 +1,12 @@
 -- `selecting::keep_open`: the column lies inside the image, and its costs are those that are tested. Assumes nothing.
+use Prim.Native.Nat.{◌+◌, ◌*◌, ◌≤◌}
 use native.Mathlib.Omega.{arith}
 use mathlib.Core.Path.{◌∙◌, ap}
-use lib.ListN.{take}
+use lib.ListN.{length, take}
 use Rattle.terms.specs.Lists.{keep}
 use Rattle.terms.specs.Network.{open_in}
 use Rattle.loading.specs.Selected.{unmarked_at}
-use Rattle.loading.proofs.DecodeLaws.{few_arcs, column_few, column_bytes, column_read}
+use Rattle.loading.proofs.DecodeLaws.{few_arcs, column_few, column_lies, column_bytes, column_read}
 use Rattle.loading.proofs.selecting.keep_open.Goals as goal
 
 pub column_start-start-requires : goal.column_start-start-requires
@@ -18,3 +19,13 @@ drop_marked-requires c =
 pub returns : goal.returns
 unfolding open_in
 returns c = (c.drop_marked.ensures.0, c.drop_marked.ensures.1 ∙ ap (λ l. keep (unmarked_at l) (take c.args.count c.args.kept.now)) (column_read c.requires.accepted.0 c.requires.accepted.1 c.column_start-start.ensures))
+
+pub overflow_add-start : goal.overflow_add-start
+overflow_add-start c =
+    let inside : (c.column_start-start.result + 4 * c.args.sizes.m ≤ length c.args.image.now) × (length c.args.image.now ≤ 36024) = column_lies c.requires.accepted.0 c.requires.accepted.1 c.column_start-start.ensures in
+    omega (arith, inside)
+
+pub slice_bounds-drop_marked-end : goal.slice_bounds-drop_marked-end
+slice_bounds-drop_marked-end c =
+    let inside : (c.column_start-start.result + 4 * c.args.sizes.m ≤ length c.args.image.now) × (length c.args.image.now ≤ 36024) = column_lies c.requires.accepted.0 c.requires.accepted.1 c.column_start-start.ensures in
+    omega (arith, inside)

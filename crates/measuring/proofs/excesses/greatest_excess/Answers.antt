@@ -8,6 +8,7 @@ use Rattle.terms.proofs.LargestLaws.{none_so_far, raised, kept, greatest}
 use Rattle.measuring.specs.Steps.{excesses}
 use Rattle.measuring.proofs.StepLaws.{excess_within}
 use Rattle.measuring.proofs.excesses.greatest_excess.Goals as goal
+use Rattle.measuring.proofs.excesses.greatest_excess.Goals.{then-figure-excess+else-limit-excess, else-figure-excess}
 
 pub loop-u-init : goal.loop-u-init
 loop-u-init c = (omega arith, omega arith, none_so_far _)
@@ -24,7 +25,7 @@ returns-then-limit-excess c =
     }
 
 pub loop-u-preserved : goal.loop-u-preserved
-loop-u-preserved c = (omega arith, omega arith, ⊎_elim (λ w. raised c.loop-u.invariant.0 c.loop-u.invariant.2 c.column_excess-excess.ensures w.0.taken w.2 w.3) (λ w. kept c.loop-u.invariant.0 c.loop-u.invariant.2 c.column_excess-excess.ensures w.0.left w.1 w.2) c.if-figure-excess.branch)
+loop-u-preserved c = (omega arith, omega arith, elim c.if-figure-excess.branch [ then-figure-excess+else-limit-excess w ↦ raised c.loop-u.invariant.0 c.loop-u.invariant.2 c.column_excess-excess.ensures w.if-figure-excess.true w.figure-is w.worst-is | else-figure-excess w ↦ kept c.loop-u.invariant.0 c.loop-u.invariant.2 c.column_excess-excess.ensures w.if-figure-excess.false w.figure-is w.worst-is ])
 
 pub returns : goal.returns
 unfolding excesses

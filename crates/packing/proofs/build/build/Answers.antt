@@ -61,5 +61,11 @@ returns c =
     let passes : BuildSound c.args.edition c.args.n c.args.k c.args.nodes.now c.args.costs.now (length c.args.image.now) = build_sound _ _ _ _ _ _ (sym c.check_lists-lists.ensures ∙ ap verdict c.in_default.is) in
     let p = passes in
     let f = sym c.check_lists-lists.ensures ∙ ap verdict c.in_default.is in
-    let costs_at = subst (λ (i : ℕ). c.write_costs.last.0 ≡ take i c.write_nodes.last.0 ++ (encode 4 c.args.costs.now ++ drop (i + 4 * length c.args.costs.now) c.write_nodes.last.0)) c.costs_start.ensures c.write_costs.ensures in
-    record { result_value = ap (λ (x : ℕ). gives (x ∷ [])) c.image_length.ensures ∙ sym (outcome_sound _ f); image_after = image_written c.args.edition c.args.n c.args.k c.args.nodes.now c.args.costs.now p.even p.counted c.args.image.now c.write_header.last.0 c.write_nodes.last.0 c.write_costs.last.0 c.write_header.ensures c.write_nodes.ensures costs_at ∙ sym (after_sound _ _ f); reads_back = λ c. reads_back _ _ _ _ _ _ (build_sound _ _ _ _ _ _ c) }
+    let costs_at = subst (λ (i : ℕ). c.write_costs.new.image ≡ take i c.write_nodes.new.image ++ (encode 4 c.args.costs.now ++ drop (i + 4 * length c.args.costs.now) c.write_nodes.new.image)) c.costs_start.ensures c.write_costs.ensures in
+    record { result_value = ap (λ (x : ℕ). gives (x ∷ [])) c.image_length.ensures ∙ sym (outcome_sound _ f); image_after = image_written c.args.edition c.args.n c.args.k c.args.nodes.now c.args.costs.now p.even p.counted c.args.image.now c.write_header.new.image c.write_nodes.new.image c.write_costs.new.image c.write_header.ensures c.write_nodes.ensures costs_at ∙ sym (after_sound _ _ f); reads_back = λ c. reads_back _ _ _ _ _ _ (build_sound _ _ _ _ _ _ c) }
+
+pub overflow_cast-m : goal.overflow_cast-m
+unfolding half
+overflow_cast-m c =
+    let passes : BuildSound c.args.edition c.args.n c.args.k c.args.nodes.now c.args.costs.now (length c.args.image.now) = build_sound _ _ _ _ _ _ (sym c.check_lists-lists.ensures ∙ ap verdict c.in_default.is) in
+    omega (arith, passes.ranges.arcs_to)

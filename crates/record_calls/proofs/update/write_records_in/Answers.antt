@@ -46,3 +46,11 @@ write_record-requires c =
     let low : place_of c.args.sizes.m (record_of (get_or c.args.records.now (4 * c.loop-i.i) 0) (get_or c.args.records.now (4 * c.loop-i.i + 1) 0) (get_or c.args.records.now (4 * c.loop-i.i + 2) 0) (get_or c.args.records.now (4 * c.loop-i.i + 3) 0)) < c.args.sizes.m * c.args.sizes.k = let f = fit in place_to _ _ _ _ f.arc_to f.column_from f.column_to in
     let p = low in
     (omega (arith, c.requires.stamps_len.0, c.loop-i.invariant.2), omega (arith, c.loop-i.invariant.1, c.requires.m_bound.2, total_is c.args.sizes.m c.args.sizes.k, c.costs_start-start.ensures))
+
+pub overflow_sub-place : goal.overflow_sub-place
+overflow_sub-place c =
+    let here : c.loop-i.i < length (record_list c.args.records.now) = omega (arith, length_list c.args.records.now) in
+    let read : get_or (record_list c.args.records.now) c.loop-i.i blank ≡ (record_of (get_or c.args.records.now (4 * c.loop-i.i) 0) (get_or c.args.records.now (4 * c.loop-i.i + 1) 0) (get_or c.args.records.now (4 * c.loop-i.i + 2) 0) (get_or c.args.records.now (4 * c.loop-i.i + 3) 0)) = list_at _ _ (omega arith) in
+    let all : AllFit c.args.sizes.edition c.args.sizes.m c.args.sizes.k (record_list c.args.records.now) = all_fit _ _ _ 0 _ c.requires.m_bound.3 in
+    let fit : Fits c.args.sizes.edition c.args.sizes.m c.args.sizes.k (record_of (get_or c.args.records.now (4 * c.loop-i.i) 0) (get_or c.args.records.now (4 * c.loop-i.i + 1) 0) (get_or c.args.records.now (4 * c.loop-i.i + 2) 0) (get_or c.args.records.now (4 * c.loop-i.i + 3) 0)) = rw read at (fit_at all c.loop-i.i here) in
+    let f = fit in omega arith
