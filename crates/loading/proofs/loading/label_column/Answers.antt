@@ -25,5 +25,5 @@ returns c =
     let some : selected c.args.kept.now (net_of c.args.image.now) ≡ restrict c.requires.open_indices.0.test (net_of c.args.image.now) = selected_restrict (admitted c.requires.accepted.0) c.requires.open_indices.0.test c.requires.accepted.0.arcs_are c.requires.open_indices.0.are in
     let shape : Shape (restrict c.requires.open_indices.0.test (net_of c.args.image.now)) c.fill_star.new.star = subst (λ net. Shape net c.fill_star.new.star) some c.fill_star.ensures in
     let weights : c.read_column.new.weights ≡ cost_column (restrict c.requires.open_indices.0.test (net_of c.args.image.now)) c.args.u = c.read_column.ensures ∙ sym (selected_costs c.args.kept.now (net_of c.args.image.now) c.args.u c.requires.accepted.1.from c.requires.accepted.1.upto) ∙ ap (λ net. cost_column net c.args.u) some in
-    subst (λ net. Loaded net c.args.u c.args.goal c.fill_star.last.1.1.1.0 c.read_column.new.weights c.label_nodes.new.overall) (sym some)
+    subst (λ net. Loaded net c.args.u c.args.goal c.fill_star.new.star c.read_column.new.weights c.label_nodes.new.overall) (sym some)
     (loaded (admitted c.requires.accepted.0) c.requires.accepted.1.from c.requires.accepted.1.upto c.requires.open_indices.0.test c.requires.open_indices.0.opened shape weights c.label_nodes.ensures (c.label_nodes.auto.overall ∙ c.requires.open_indices.1.labels_long ∙ ap (λ (x : ℕ). x + 1) c.requires.accepted.0.nodes_are))

@@ -37,22 +37,3 @@ loop-i-preserved c =
         let closed : left c.args.closed.now (get_or (numbers 0 (length c.args.kept.now)) c.loop-i.i 0) ≡ false = ap (λ (j : ℕ). not (shut c.args.closed.now j)) (sym own) ∙ ap not (sym c.is_closed.ensures ∙ w.if-not-is_closed.false) in
         rw (w.kept-is, w.front-is) (omega (arith, here, length_numbers 0 (length c.args.kept.now)), omega (arith, c.loop-i.invariant.1), c.loop-i.invariant.2, index_dropped (left c.args.closed.now) (numbers 0 (length c.args.kept.now)) c.loop-i.kept c.loop-i.i c.loop-i.front here c.loop-i.invariant.3 closed)
     ]
-
-pub returns : goal.returns
-returns c =
-    let done : c.loop-i.i ≡ length c.args.kept.now = omega (arith, c.loop-i-test.false, c.loop-i.invariant.0, c.loop-i.invariant.2) in
-    (omega (arith, c.loop-i.invariant.1, done), c.loop-i.invariant.3 ∙ ap (keep (left c.args.closed.now)) (take_all c.loop-i.i (numbers 0 (length c.args.kept.now)) (omega (arith, done, length_numbers 0 (length c.args.kept.now)))))
-
-pub loop-i-init : goal.loop-i-init
-unfolding keep
-loop-i-init c = (omega arith, omega arith, refl, refl)
-
-pub loop-i-preserved : goal.loop-i-preserved
-unfolding left
-loop-i-preserved c =
-    let Kept : List ℕ → ℕ → Type 0 = λ kept front. invariant-loop c.args.closed.now c.args.kept.now 0 0 kept front (c.loop-i.i + 1) in
-    let own : c.loop-i.i ≡ get_or (numbers 0 (length c.args.kept.now)) c.loop-i.i 0 = number_at (length c.args.kept.now) c.loop-i.i (omega (arith, c.loop-i-test.true, c.loop-i.invariant.2)) in
-    let here : c.loop-i.i < length (numbers 0 (length c.args.kept.now)) = omega (arith, c.loop-i-test.true, c.loop-i.invariant.2, length_numbers 0 (length c.args.kept.now)) in
-    let moved : not c.is_closed.result ≡ true → {kept : List ℕ} {front : ℕ} → kept ≡ set c.loop-i.kept c.loop-i.front c.loop-i.i → front ≡ c.loop-i.front + 1 → Kept kept front = λ h {kept} {front} k f. let opened : left c.args.closed.now (get_or (numbers 0 (length c.args.kept.now)) c.loop-i.i 0) ≡ true = ap (λ (j : ℕ). not (shut c.args.closed.now j)) (sym own) ∙ ap not (sym c.is_closed.ensures) ∙ h in let k' : kept ≡ set c.loop-i.kept c.loop-i.front (get_or (numbers 0 (length c.args.kept.now)) c.loop-i.i 0) = k ∙ ap (λ (x : ℕ). set c.loop-i.kept c.loop-i.front x) own in rw (k', f) (omega (arith, here, length_numbers 0 (length c.args.kept.now)), omega (arith, c.loop-i.invariant.1), simp length-set c.loop-i.invariant.2, index_kept (left c.args.closed.now) (numbers 0 (length c.args.kept.now)) c.loop-i.kept c.loop-i.i c.loop-i.front here c.loop-i.invariant.3 (omega (arith, c.loop-i-test.true, c.loop-i.invariant.1, c.loop-i.invariant.2)) opened) in
-    let dropped : not c.is_closed.result ≡ false → {kept : List ℕ} {front : ℕ} → kept ≡ c.loop-i.kept → front ≡ c.loop-i.front → Kept kept front = λ h {kept} {front} k f. let closed : left c.args.closed.now (get_or (numbers 0 (length c.args.kept.now)) c.loop-i.i 0) ≡ false = ap (λ (j : ℕ). not (shut c.args.closed.now j)) (sym own) ∙ ap not (sym c.is_closed.ensures) ∙ h in rw (k, f) (omega (arith, here, length_numbers 0 (length c.args.kept.now)), omega (arith, c.loop-i.invariant.1), c.loop-i.invariant.2, index_dropped (left c.args.closed.now) (numbers 0 (length c.args.kept.now)) c.loop-i.kept c.loop-i.i c.loop-i.front here c.loop-i.invariant.3 closed) in
-    ⊎_elim (λ w. moved w.0.taken w.1 w.2) (λ w. dropped w.0.left w.1 w.2) c.if-not-is_closed.branch

@@ -1,7 +1,6 @@
 -- `rows::check_ends`: each return is the first of the rows that applies. Assumes nothing.
 use mathlib.Core.Path.{◌≡◌, sym, ◌∙◌, ap}
 use mathlib.Core.Bool.{true}
-use borrow.Author.Tests.{not-true, not-false}
 use Rattle.image.specs.Outcome.{gives}
 use Rattle.image.specs.Rows.{is_node}
 use Rattle.image.specs.Answers.{checked}
@@ -16,25 +15,25 @@ returns-in_default c = refused_first _ _ _ (ap checked c.in_default.is) c.check-
 pub returns-then-not-is_node : goal.returns-then-not-is_node
 returns-then-not-is_node c =
     let known : Accepted c.args.image.now c.in-Network.sizes = given_network (sym (ap checked c.in-Network.is) ∙ c.check-answer.ensures) in
-    sym (outcome_fault _ (wrong_start known _ _ (sym c.is_node.ensures ∙ not-true _ c.if-not-is_node.true)))
+    sym (outcome_fault _ (wrong_start known _ _ (sym c.is_node.ensures ∙ c.if-not-is_node.true)))
 
 pub returns-then-not-is_node-2 : goal.returns-then-not-is_node-2
 returns-then-not-is_node-2 c =
-    let start_is_node : is_node c.in-Network.sizes.n c.args.start ≡ true = sym c.is_node.ensures ∙ not-false _ c.if-not-is_node.false in
     let known : Accepted c.args.image.now c.in-Network.sizes = given_network (sym (ap checked c.in-Network.is) ∙ c.check-answer.ensures) in
-    sym (outcome_fault _ (wrong_goal known _ _ start_is_node (sym c.is_node-2.ensures ∙ not-true _ c.if-not-is_node-2.true)))
+    let start_is_node : is_node c.in-Network.sizes.n c.args.start ≡ true = sym c.is_node.ensures ∙ c.if-not-is_node.false in
+    sym (outcome_fault _ (wrong_goal known _ _ start_is_node (sym c.is_node-2.ensures ∙ c.if-not-is_node-2.true)))
 
 pub returns-then-start-goal : goal.returns-then-start-goal
 returns-then-start-goal c =
-    let goal_is_node : is_node c.in-Network.sizes.n c.args.goal ≡ true = sym c.is_node-2.ensures ∙ not-false _ c.if-not-is_node-2.false in
-    let start_is_node : is_node c.in-Network.sizes.n c.args.start ≡ true = sym c.is_node.ensures ∙ not-false _ c.if-not-is_node.false in
     let known : Accepted c.args.image.now c.in-Network.sizes = given_network (sym (ap checked c.in-Network.is) ∙ c.check-answer.ensures) in
-    sym (outcome_fault _ (same_ends known _ _ start_is_node goal_is_node.if3.true))
+    let start_is_node : is_node c.in-Network.sizes.n c.args.start ≡ true = sym c.is_node.ensures ∙ c.if-not-is_node.false in
+    let goal_is_node : is_node c.in-Network.sizes.n c.args.goal ≡ true = sym c.is_node-2.ensures ∙ c.if-not-is_node-2.false in
+    sym (outcome_fault _ (same_ends known _ _ start_is_node goal_is_node c.if-start-goal.true))
 
 pub returns : goal.returns
 returns c =
-    let goal_is_node : is_node c.in-Network.sizes.n c.args.goal ≡ true = sym c.is_node-2.ensures ∙ not-false _ c.if-not-is_node-2.false in
-    let start_is_node : is_node c.in-Network.sizes.n c.args.start ≡ true = sym c.is_node.ensures ∙ not-false _ c.if-not-is_node.false in
     let known : Accepted c.args.image.now c.in-Network.sizes = given_network (sym (ap checked c.in-Network.is) ∙ c.check-answer.ensures) in
+    let start_is_node : is_node c.in-Network.sizes.n c.args.start ≡ true = sym c.is_node.ensures ∙ c.if-not-is_node.false in
+    let goal_is_node : is_node c.in-Network.sizes.n c.args.goal ≡ true = sym c.is_node-2.ensures ∙ c.if-not-is_node-2.false in
     let k = known in
-    ap gives (sizes_of k) ∙ sym (outcome_sound _ (right_ends k _ _ start_is_node goal_is_node.if3.false))
+    ap gives (sizes_of k) ∙ sym (outcome_sound _ (right_ends k _ _ start_is_node goal_is_node c.if-start-goal.false))

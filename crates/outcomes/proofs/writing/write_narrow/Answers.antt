@@ -18,15 +18,13 @@ narrow-requires c = c.requires.by_index (c.loop-i.i + 1) c.loop-i-test.true
 
 pub loop-i-preserved : goal.loop-i-preserved
 loop-i-preserved c =
-    let a = c.args in
-    let s = map narrowed (drop 1 a.exact.now) in
-    let new : c.narrow.result ≡ get_or s c.loop-i.i 0 = c.narrow.ensures ∙ sym (narrowed_at a.exact.now c.loop-i.i) in
-    let long = length_narrowed a.exact.now in
-    (omega arith, simp length-set (omega arith), rw (c.loop-i.invariant.2, new) (copy_more s a.labels.now c.loop-i.i (omega arith) (omega arith)))
+    let s = map narrowed (drop 1 c.args.exact.now) in
+    let new : c.narrow.result ≡ get_or s c.loop-i.i 0 = c.narrow.ensures ∙ sym (narrowed_at c.args.exact.now c.loop-i.i) in
+    let long = length_narrowed c.args.exact.now in
+    (omega arith, simp length-set (omega arith), rw (c.loop-i.invariant.2, new) (copy_more s c.args.labels.now c.loop-i.i (omega arith) (omega arith)))
 
 pub returns : goal.returns
 returns c =
-    let a = c.args in
-    let s = map narrowed (drop 1 a.exact.now) in
-    let done : c.loop-i.i ≡ length a.exact.now - 1 = omega arith in
-    c.loop-i.invariant.2 ∙ rw (done, take_all (length a.exact.now - 1) s (omega (arith, length_narrowed a.exact.now)))
+    let s = map narrowed (drop 1 c.args.exact.now) in
+    let done : c.loop-i.i ≡ length c.args.exact.now - 1 = omega arith in
+    c.loop-i.invariant.2 ∙ rw (done, take_all (length c.args.exact.now - 1) s (omega (arith, length_narrowed c.args.exact.now)))

@@ -9,12 +9,9 @@ pub loop-i-init : goal.loop-i-init
 loop-i-init c = (omega arith, refl, refl)
 
 pub loop-i-preserved : goal.loop-i-preserved
-loop-i-preserved c =
-    let a = c.args in
-    (omega arith, simp length-set (omega arith), rw c.loop-i.invariant.2 (copy_more a.route.now a.path.now c.loop-i.i (omega arith) (omega arith)))
+loop-i-preserved c = (omega arith, simp length-set (omega arith), rw c.loop-i.invariant.2 (copy_more c.args.route.now c.args.path.now c.loop-i.i (omega arith) (omega arith)))
 
 pub returns : goal.returns
 returns c =
-    let a = c.args in
-    let done : c.loop-i.i ≡ a.count = omega arith in
+    let done : c.loop-i.i ≡ c.args.count = omega arith in
     c.loop-i.invariant.2 ∙ rw done

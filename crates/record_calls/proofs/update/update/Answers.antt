@@ -35,7 +35,7 @@ pub returns : goal.returns
 unfolding update_outcome
 returns c =
     let known : (both_fault c.args.image.now c.args.records.now ≡ sound) × Sized c.args.image.now c.in-Network.sizes.n c.in-Network.sizes.m c.in-Network.sizes.k c.in-Network.sizes.edition = let g = gives_sound (both_fault c.args.image.now c.args.records.now) _ (sym (ap checked c.in-Network.is) ∙ c.check_both-answer.ensures) in (g.0, sized _ g.1) in
-    let bytes_of : AllBytes c.args.image.now = all_bytes _ (λ i. (c.type_inv.image i).fits) in
+    let bytes_of : AllBytes c.args.image.now = all_bytes _ (λ i. (c.slice_known-1.given i).fits) in
     let decided : update_fault c.args.image.now c.args.records.now ≡ verdict c.check_records-list.result = let g = known in records_decide _ _ g.0 g.1 ∙ sym c.check_records-list.ensures in
     let f = decided ∙ ap verdict c.in_default-list.is in
     record { result_value = sym (outcome_sound _ f); image_after = image_written _ _ _ f known.1 bytes_of c.write_records.ensures; updates = updates_of _ _ }

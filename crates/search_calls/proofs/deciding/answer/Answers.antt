@@ -10,31 +10,26 @@ use Rattle.search_calls.proofs.deciding.answer.Goals as goal
 
 pub search_image-run-requires : goal.search_image-run-requires
 search_image-run-requires c =
-    let p = c.requires in
-    record { accepted = p.0; n_in_bounds = p.1.1.0 }
+    record { accepted = c.requires.accepted; n_in_bounds = c.requires.n_in_bounds.0 }
 
 pub returns-in_default : goal.returns-in_default
 returns-in_default c =
-    let k = c.args.task in
-    let e = cut_many c.args.image.now k.start k.goal k.limit c.search_image-run.ensures c.in_default.is in
+    let e = cut_many c.args.image.now c.args.task.start c.args.task.goal c.args.task.limit c.search_image-run.ensures c.in_default.is in
     record { result_value = sym (outcome_fault _ e); path_after = sym (after_fault _ _ e) }
 
 pub measure_path-found-requires : goal.measure_path-found-requires
 measure_path-found-requires c =
-    let told : let k = c.args.task in Found c.args.image.now k.start k.goal k.limit c.search_image-run.last.1.1.1.0 c.in-Going.held = let k = c.args.task in found c.args.image.now k.start k.goal k.limit (admitted c.requires.accepted.0) c.requires.accepted.2 c.in-Going.held c.search_image-run.ensures c.in-Going.is in
-    let p = c.requires in
-    let k = c.args.task in
+    let told : Found c.args.image.now c.args.task.start c.args.task.goal c.args.task.limit c.search_image-run.new.best c.in-Going.held = found c.args.image.now c.args.task.start c.args.task.goal c.args.task.limit (admitted c.requires.accepted.0) c.requires.accepted.2 c.in-Going.held c.search_image-run.ensures c.in-Going.is in
     let F = told in
-    record { accepted = (p.0.0, p.1.0.0, p.1.0.1); ends = (p.0.2.ends, subst (OpenPath (net_of c.args.image.now) k.start k.goal) (sym F.path_is) F.is_open) }
+    record { accepted = (c.requires.accepted.0, c.requires.shared.0, c.requires.shared.1); ends = (c.requires.accepted.2.ends, subst (OpenPath (net_of c.args.image.now) c.args.task.start c.args.task.goal) (sym F.path_is) F.is_open) }
 
 pub write_path-requires : goal.write_path-requires
 write_path-requires c =
-    let told : let k = c.args.task in Found c.args.image.now k.start k.goal k.limit c.search_image-run.last.1.1.1.0 c.in-Going.held = let k = c.args.task in found c.args.image.now k.start k.goal k.limit (admitted c.requires.accepted.0) c.requires.accepted.2 c.in-Going.held c.search_image-run.ensures c.in-Going.is in
+    let told : Found c.args.image.now c.args.task.start c.args.task.goal c.args.task.limit c.search_image-run.new.best c.in-Going.held = found c.args.image.now c.args.task.start c.args.task.goal c.args.task.limit (admitted c.requires.accepted.0) c.requires.accepted.2 c.in-Going.held c.search_image-run.ensures c.in-Going.is in
     let F = told in
     (F.fits, omega (arith, F.short, c.requires.accepted.0.nodes_are, c.requires.n_in_bounds.1))
 
 pub returns : goal.returns
 returns c =
-    let told : let k = c.args.task in Found c.args.image.now k.start k.goal k.limit c.search_image-run.last.1.1.1.0 c.in-Going.held = let k = c.args.task in found c.args.image.now k.start k.goal k.limit (admitted c.requires.accepted.0) c.requires.accepted.2 c.in-Going.held c.search_image-run.ensures c.in-Going.is in
-    let M = c.measure_path-found.ensures in
-    record { result_value = values_are told M.0 M.1; path_after = written_is told.args.path.now c.write_path.ensures }
+    let told : Found c.args.image.now c.args.task.start c.args.task.goal c.args.task.limit c.search_image-run.new.best c.in-Going.held = found c.args.image.now c.args.task.start c.args.task.goal c.args.task.limit (admitted c.requires.accepted.0) c.requires.accepted.2 c.in-Going.held c.search_image-run.ensures c.in-Going.is in
+    record { result_value = values_are told c.measure_path-found.ensures.0 c.measure_path-found.ensures.1; path_after = written_is told c.args.path.now c.write_path.ensures }

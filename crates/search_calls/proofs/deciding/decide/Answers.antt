@@ -11,6 +11,5 @@ use Rattle.search_calls.proofs.deciding.decide.Goals as goal
 pub decide_in-requires : goal.decide_in-requires
 decide_in-requires c =
     let ready : Accepted c.args.image.now c.args.sizes = c.requires.0 in
-    let p = c.requires in
     let a = ready in
-    record { accepted = (a, record { nodes_are = refl; arcs_are = refl; limit_to = omega arith }, p.1); choice_room = (choice_room a, part_long 201 _ (places_fit a)); n_in_bounds = (omega (arith, few_nodes a), omega (arith, a.nodes_are, p.2)) }
+    record { accepted = (a, record { nodes_are = refl; arcs_are = refl; limit_to = omega arith }, c.requires.1); choice_room = (choice_room a, part_long 201 _ (places_fit a)); n_in_bounds = (omega (arith, few_nodes a), omega (arith, a.nodes_are, c.requires.2)) }

@@ -15,20 +15,19 @@ use Rattle.search_calls.proofs.search.check_room.Goals as goal
 pub returns-in_default : goal.returns-in_default
 unfolding entry_rows
 returns-in_default c =
-    let a = c.args in
     let told = ap checked c.in_default.is in
-    told ∙ sym (outcome_fault _ (then_fault _ (refuses_fault (image_fault a.image.now then ends_row (net_of a.image.now) a.start a.goal) (sizes a.image.now) (sym told ∙ c.check_ends-answer.ensures))))
+    told ∙ sym (outcome_fault _ (then_fault _ (refuses_fault (image_fault c.args.image.now then ends_row (net_of c.args.image.now) c.args.start c.args.goal) (sizes c.args.image.now) (sym told ∙ c.check_ends-answer.ensures))))
 
 pub returns-then-room-sizes : goal.returns-then-room-sizes
 unfolding entry_rows
 returns-then-room-sizes c =
-    let passes : let a = c.args in ((image_fault a.image.now then ends_row (net_of a.image.now) a.start a.goal) ≡ sound) × Accepted a.image.now c.in-Network.sizes = given_sizes _ (λ e. (then_sound _ _ e).0) (sym (ap checked c.in-Network.is) ∙ c.check_ends-answer.ensures) in
+    let passes : ((image_fault c.args.image.now then ends_row (net_of c.args.image.now) c.args.start c.args.goal) ≡ sound) × Accepted c.args.image.now c.in-Network.sizes = given_sizes _ (λ e. (then_sound _ _ e).0) (sym (ap checked c.in-Network.is) ∙ c.check_ends-answer.ensures) in
     let p = passes in
     sym (outcome_fault _ (then_next _ p.0 ∙ too_short _ _ (omega (arith, p.1.nodes_are, c.if-room-sizes.true))))
 
 pub returns : goal.returns
 unfolding entry_rows
 returns c =
-    let passes : let a = c.args in ((image_fault a.image.now then ends_row (net_of a.image.now) a.start a.goal) ≡ sound) × Accepted a.image.now c.in-Network.sizes = given_sizes _ (λ e. (then_sound _ _ e).0) (sym (ap checked c.in-Network.is) ∙ c.check_ends-answer.ensures) in
+    let passes : ((image_fault c.args.image.now then ends_row (net_of c.args.image.now) c.args.start c.args.goal) ≡ sound) × Accepted c.args.image.now c.in-Network.sizes = given_sizes _ (λ e. (then_sound _ _ e).0) (sym (ap checked c.in-Network.is) ∙ c.check_ends-answer.ensures) in
     let p = passes in
     ap gives (sizes_of p.1) ∙ sym (outcome_sound _ (then_next _ p.0 ∙ long_enough _ _ (omega (arith, p.1.nodes_are, c.if-room-sizes.false))))

@@ -8,5 +8,4 @@ use Rattle.search_calls.proofs.tables.label_columns.Goals as goal
 pub label_columns_in-requires : goal.label_columns_in-requires
 label_columns_in-requires c =
     let ready : Accepted c.args.image.now c.args.sizes = c.requires.accepted.0 in
-    let p = c.requires in
-    record { accepted = p.0; star_len = (part_long 3403 _ (star_fits ready), part_long 1000 _ (few_arcs ready)); labels_len = p.1 }
+    record { accepted = c.requires.accepted; star_len = (part_long 3403 _ (star_fits ready), part_long 1000 _ (few_arcs ready)); labels_len = c.requires.labels_len }

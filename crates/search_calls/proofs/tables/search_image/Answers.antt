@@ -9,8 +9,7 @@ use Rattle.search_calls.proofs.tables.search_image.Goals as goal
 
 pub search_tables-requires : goal.search_tables-requires
 search_tables-requires c =
-    let rows_fit : c.args.sizes.k * (c.args.sizes.n + 1) ≤ 1608 = mul-le-mul (few_columns ready) (places_fit ready) in
     let ready : Accepted c.args.image.now c.args.sizes = c.requires.accepted.0 in
-    let p = c.requires in
+    let rows_fit : c.args.sizes.k * (c.args.sizes.n + 1) ≤ 1608 = mul-le-mul (few_columns ready) (places_fit ready) in
     let a = ready in
-    record { accepted = p.0; table_room = (record { star_long = part_long 3403 _ (star_fits a); costs_long = part_long 8000 _ (all_fit a); labels_long = part_long 1608 _ rows_fit; bests_long = part_long 8 _ (few_columns a) }, p.1) }
+    record { accepted = c.requires.accepted; table_room = (record { star_long = part_long 3403 _ (star_fits a); costs_long = part_long 8000 _ (all_fit a); labels_long = part_long 1608 _ rows_fit; bests_long = part_long 8 _ (few_columns a) }, c.requires.n_in_bounds) }

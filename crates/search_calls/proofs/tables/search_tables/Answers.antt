@@ -8,33 +8,24 @@ use Rattle.search_calls.proofs.tables.search_tables.Goals as goal
 
 pub load_all-requires : goal.load_all-requires
 load_all-requires c =
-    let p = c.requires in
-    record { accepted = p.0.0; star_len = (p.1.0.star_long, p.1.0.costs_long) }
+    record { accepted = c.requires.accepted.0; star_len = (c.requires.table_room.0.star_long, c.requires.table_room.0.costs_long) }
 
 pub label_columns-requires : goal.label_columns-requires
 label_columns-requires c =
-    let p = c.requires in
-    record { accepted = (p.0.0, p.0.2.ends.goal_in); labels_len = p.1.0.labels_long }
+    record { accepted = (c.requires.accepted.0, c.requires.accepted.2.ends.goal_in); labels_len = c.requires.table_room.0.labels_long }
 
 pub take_bests-requires : goal.take_bests-requires
 take_bests-requires c =
-    let p = c.requires in
-    let n = p.0.1.nodes_are in (
-      c.label_columns.auto.labels ∙ p.1.0.labels_long ∙ ap₂ (λ (k n : ℕ). k * (n + 1)) (sym p.1.0.bests_long) (sym n),
-      omega (arith, n, p.0.0.nodes_are, p.0.2.ends.start_in.upto),
-      omega (arith, p.1.0.bests_long, few_columns p.0.0),
-      omega (arith, n, few_nodes p.0.0),
+    (
+      c.label_columns.auto.labels ∙ c.requires.table_room.0.labels_long ∙ ap₂ (λ (k c.requires.accepted.1.nodes_are : ℕ). k * (c.requires.accepted.1.nodes_are + 1)) (sym c.requires.table_room.0.bests_long) (sym c.requires.accepted.1.nodes_are),
+      omega (arith, c.requires.accepted.1.nodes_are, c.requires.accepted.0.nodes_are, c.requires.accepted.2.ends.start_in.upto),
+      omega (arith, c.requires.table_room.0.bests_long, few_columns c.requires.accepted.0),
+      omega (arith, c.requires.accepted.1.nodes_are, few_nodes c.requires.accepted.0),
     )
 
 pub search-requires : goal.search-requires
 search-requires c =
-    let p = c.requires in
-    let n = p.0.1.nodes_are in
-    let E = c.load_all.ensures in
-    record { fits = task_fits p.0.0 c.args.task p.0.1 E.0 E.1 c.label_columns.ensures c.take_bests.last.1.1.1.0 (c.take_bests.auto.bests ∙ p.1.0.bests_long); le_start = (p.0.2.ends.start_in.from, omega (arith, n, p.0.0.nodes_are, p.0.2.ends.start_in.upto), omega (arith, n, p.1.1)) }
+    record { fits = task_fits c.requires.accepted.0 c.args.task c.requires.accepted.1 c.load_all.ensures.0 c.load_all.ensures.1 c.label_columns.ensures c.take_bests.new.bests (c.take_bests.auto.bests ∙ c.requires.table_room.0.bests_long); le_start = (c.requires.accepted.2.ends.start_in.from, omega (arith, c.requires.accepted.1.nodes_are, c.requires.accepted.0.nodes_are, c.requires.accepted.2.ends.start_in.upto), omega (arith, c.requires.accepted.1.nodes_are, c.requires.table_room.1)) }
 
 pub returns : goal.returns
-returns c =
-    let p = c.requires in
-    let E = c.load_all.ensures in
-    c.search.ensures _ (task_tables p.0.0 c.args.task p.0.1 E.0 E.1 c.label_columns.ensures c.take_bests.last.1.1.1.0 (c.take_bests.auto.bests ∙ p.1.0.bests_long) p.0.2 c.take_bests.ensures)
+returns c = c.search.ensures _ (task_tables c.requires.accepted.0 c.args.task c.requires.accepted.1 c.load_all.ensures.0 c.load_all.ensures.1 c.label_columns.ensures c.take_bests.new.bests (c.take_bests.auto.bests ∙ c.requires.table_room.0.bests_long) c.requires.accepted.2 c.take_bests.ensures)

@@ -15,13 +15,11 @@ loop-u-smaller c = omega (arith, c.loop-u-test.true, c.loop-u.invariant.1)
 
 pub loop-u-preserved : goal.loop-u-preserved
 loop-u-preserved c =
-    let a = c.args in
-    let u = c.loop-u.u in
-    let room : u < length c.loop-u.bests = c.loop-u-test.true in
-    let x = get_or a.labels.now (u * a.places + a.start) 0 in (
+    let room : c.loop-u.u < length c.loop-u.bests = c.loop-u-test.true in
+    let x = get_or c.args.labels.now (c.loop-u.u * c.args.places + c.args.start) 0 in (
       omega (arith, room, c.loop-u.invariant.1),
       simp length-set c.loop-u.invariant.1,
-      λ w h. set_each (λ w y. w < u + 1 → y ≡ at_row a.places a.labels.now w a.start) c.loop-u.bests u x room (λ _. refl) (λ w n k. c.loop-u.invariant.2 w (omega arith)) w h,
+      λ w h. set_each (λ w y. w < c.loop-u.u + 1 → y ≡ at_row c.args.places c.args.labels.now w c.args.start) c.loop-u.bests c.loop-u.u x room (λ _. refl) (λ w n k. c.loop-u.invariant.2 w (omega arith)) w h,
     )
 
 pub returns : goal.returns

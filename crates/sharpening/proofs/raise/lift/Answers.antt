@@ -6,12 +6,9 @@ use Rattle.sharpening.proofs.SharpLaws.{raises_set, small_set}
 use Rattle.sharpening.proofs.raise.lift.Goals as goal
 
 pub returns-then-level-eq-FAR : goal.returns-then-level-eq-FAR
-returns-then-level-eq-FAR c =
-    let p = c.requires in
-    (small_set _ _ p.1 (λ h. absurd (omega arith)) p.0, raises_set _ _ _ (omega (arith, p.0.long)) (omega (arith, c.type_inv.labels c.args.x)))
+returns-then-level-eq-FAR c = (small_set _ _ c.requires.1 (λ h. absurd (omega arith)) c.requires.0, raises_set _ _ _ (omega (arith, c.requires.0.long)) (omega (arith, c.type_inv.labels c.args.x)))
 
 pub returns : goal.returns
 returns c =
     let level_small : c.args.level ≤ longest = c.requires.2 (omega (arith, c.if-level-eq-FAR.false, c.ranges.level)) in
-    let p = c.requires in
-    (small_set _ _ p.1 (λ _. omega (arith, level_small)) p.0, raises_set _ _ _ (omega (arith, p.0.long)) (omega arith))
+    (small_set _ _ c.requires.1 (λ _. omega (arith, level_small)) c.requires.0, raises_set _ _ _ (omega (arith, c.requires.0.long)) (omega arith))

@@ -13,10 +13,10 @@ lift-requires c = (c.loop-i.invariant.1, c.requires.1.below _, c.requires.2)
 
 pub loop-i-preserved : goal.loop-i-preserved
 loop-i-preserved c =
-    let l = c.loop-i in (
+    (
       omega arith,
-      ⊎_elim (λ w. rw w.5 w.2.ensures.0) (λ w. rw w.1 l.invariant.1) c.if-x-goal.branch,
-      ⊎_elim (λ w. rw w.5 (lifted_more refl w.0.taken w.2.ensures.1 l.invariant.2)) (λ w. rw w.1 (lifted_pass l.invariant.2)) c.if-x-goal.branch,
+      ⊎_elim (λ w. rw w.5 w.2.ensures.0) (λ w. rw w.1 c.loop-i.invariant.1) c.if-x-goal.branch,
+      ⊎_elim (λ w. rw w.5 (lifted_more refl w.0.taken w.2.ensures.1 c.loop-i.invariant.2)) (λ w. rw w.1 (lifted_pass c.loop-i.invariant.2)) c.if-x-goal.branch,
     )
 
 pub returns : goal.returns

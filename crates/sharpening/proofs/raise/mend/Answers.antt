@@ -13,14 +13,12 @@ use Rattle.sharpening.proofs.raise.mend.Goals as goal
 pub least_exit-requires : goal.least_exit-requires
 least_exit-requires c =
     -- WANTS record of network, small, used_len
-    let p = c.requires in
-    rw p.1.0.long ((p.0, p.1.1), (p.1.0, (refl, refl)))
+    rw c.requires.small.long ((c.requires.network, c.requires.x_in_bounds), (c.requires.small, (refl, refl)))
 
 pub returns-in_default : goal.returns-in_default
 returns-in_default c =
-    let label_in : c.args.x < length c.args.labels.now = let p = c.requires.1 in omega (arith, p.0.long, p.1) in
-    let p = c.requires.1 in
-    record { small_2 = small_set _ _ p.1 (λ h. absurd (omega arith)) p.0; mends = λ _. mends_far label_in (omega (arith, c.slice_known-1.given c.args.x)) (chosen_nothing c.least_exit.ensures.chosen c.in_default.is) }
+    let label_in : c.args.x < length c.args.labels.now = omega (arith, c.requires.small.long, c.requires.x_in_bounds) in
+    record { small_2 = small_set _ _ c.requires.x_in_bounds (λ h. absurd (omega arith)) c.requires.small; mends = λ _. mends_far label_in (omega (arith, c.slice_known-1.given c.args.x)) (chosen_nothing c.least_exit.ensures.chosen c.in_default.is) }
 
 pub returns-then-l-old : goal.returns-then-l-old
 returns-then-l-old c =
@@ -32,6 +30,5 @@ returns-then-l-gt-LONGEST c =
 
 pub returns : goal.returns
 returns c =
-    let label_in : c.args.x < length c.args.labels.now = let p = c.requires.1 in omega (arith, p.0.long, p.1) in
-    let p = c.requires.1 in
-    record { small_2 = small_set _ _ p.1 (λ _. c.if-l-gt-LONGEST.false) p.0; mends = λ e. mends_least _ label_in (chosen_node c.least_exit.ensures.chosen c.in-Node.is) c.if-l-old.false (omega arith) (omega (arith, c.if-l-gt-LONGEST.false)) }
+    let label_in : c.args.x < length c.args.labels.now = omega (arith, c.requires.small.long, c.requires.x_in_bounds) in
+    record { small_2 = small_set _ _ c.requires.x_in_bounds (λ _. c.if-l-gt-LONGEST.false) c.requires.small; mends = λ e. mends_least _ label_in (chosen_node c.least_exit.ensures.chosen c.in-Node.is) c.if-l-old.false (omega arith) (omega (arith, c.if-l-gt-LONGEST.false)) }

@@ -10,8 +10,7 @@ loop-i-init c = (omega arith, c.requires.small, λ os z l. mending_start l)
 
 pub mend-requires : goal.mend-requires
 mend-requires c =
-    let p = c.requires in
-    record { network = p.0; small = c.loop-i.invariant.1; x_in_bounds = p.1.1.below _ }
+    record { network = c.requires.network; small = c.loop-i.invariant.1; x_in_bounds = c.requires.listed.below _ }
 
 pub returns-then-not-mend : goal.returns-then-not-mend
 returns-then-not-mend c =
@@ -21,12 +20,9 @@ pub loop-i-preserved-else-not-mend : goal.loop-i-preserved-else-not-mend
 loop-i-preserved-else-not-mend c = (omega arith, c.mend.ensures.small_2, λ os z l. mending_next refl c.if-x-goal.true (c.mend.ensures.mends (from_not _ c.if-not-mend.false)) (mending_at (omega arith) (c.loop-i.invariant.2 os z l)))
 
 pub loop-i-preserved : goal.loop-i-preserved
-loop-i-preserved c =
-    let i = c.loop-i.invariant in
-    (omega arith, i.1, λ os z l. mending_goal refl c.if-x-goal.false z (mending_at (omega arith) (i.2 os z l)))
+loop-i-preserved c = (omega arith, c.loop-i.invariant.1, λ os z l. mending_goal refl c.if-x-goal.false z (mending_at (omega arith) (c.loop-i.invariant.2 os z l)))
 
 pub returns : goal.returns
 returns c =
-    let l = c.loop-i in
-    let h : l.i ≡ 0 = omega arith in
-    record { small_2 = l.invariant.1; by_index = λ os bar e k free g. mending_end free g (mending_at h (l.invariant.2 os g.goal_zero k)) }
+    let h : c.loop-i.i ≡ 0 = omega arith in
+    record { small_2 = c.loop-i.invariant.1; by_index = λ os bar e k free g. mending_end free g (mending_at h (c.loop-i.invariant.2 os g.goal_zero k)) }

@@ -6,8 +6,7 @@ use Rattle.sharpening.proofs.search.leads.Goals as goal
 
 pub tight_exit-requires : goal.tight_exit-requires
 tight_exit-requires c =
-    let p = c.requires in
-    record { network = (p.0, c.loop-at.invariant); used_len = p.1.1 }
+    record { network = (c.requires.network, c.loop-at.invariant); used_len = c.requires.x_in_bounds.1 }
 
 pub loop-at-preserved : goal.loop-at-preserved
 loop-at-preserved c =

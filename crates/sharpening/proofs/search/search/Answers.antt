@@ -12,7 +12,7 @@ pub loop-taken-init : goal.loop-taken-init
 loop-taken-init c = (c.requires.front, refl, refl)
 
 pub pick-at-requires : goal.pick-at-requires
-pick-at-requires c = let f = c.loop-taken.invariant.0 in rw f.keyed.long (f, c.loop-taken-test.true)
+pick-at-requires c = rw c.loop-taken.invariant.0.keyed.long (c.loop-taken.invariant.0, c.loop-taken-test.true)
 
 pub beyond-requires : goal.beyond-requires
 beyond-requires c =
@@ -20,29 +20,26 @@ beyond-requires c =
     most_small
 
 pub returns-then-most-key : goal.returns-then-most-key
-returns-then-most-key c = let l = c.loop-taken in (listed_to (omega arith) (omega (arith, l.inv.0.listed)) l.inv.0.listed, c.beyond.ensures)
+returns-then-most-key c = (listed_to (omega arith) (omega (arith, c.loop-taken.invariant.0.listed)) c.loop-taken.invariant.0.listed, c.beyond.ensures)
 
 pub leads-requires : goal.leads-requires
 leads-requires c =
     let node_in : (get_or c.loop-taken.nodes c.pick-at.result 0) < length c.args.overall.now = c.loop-taken.invariant.0.listed.below _ in
-    let p = c.requires in
-    record { network = p.0; x_in_bounds = (node_in, p.1.0.1, c.loop-taken.invariant.0.keyed.long) }
+    record { network = c.requires.network; x_in_bounds = (node_in, c.requires.small.1, c.loop-taken.invariant.0.keyed.long) }
 
 pub returns-then-leads : goal.returns-then-leads
 returns-then-leads c =
     let most_small : c.args.most ≤ longest = c.requires.small.2 in
-    let l = c.loop-taken in (listed_to (omega arith) (omega (arith, l.inv.0.listed)) l.inv.0.listed, λ _. omega (arith, c.if-most-key.false, most_small))
+    (listed_to (omega arith) (omega (arith, c.loop-taken.invariant.0.listed)) c.loop-taken.invariant.0.listed, λ _. omega (arith, c.if-most-key.false, most_small))
 
 pub spread-listed-requires : goal.spread-listed-requires
 spread-listed-requires c =
-    let first_in : c.loop-taken.true < length c.loop-taken.nodes = omega (arith, c.loop-taken-test.true, c.loop-taken.invariant.0.listed.upto) in
-    let place_in : c.pick-at.result < length c.loop-taken.nodes = omega (arith, c.pick-at.ensures, c.loop-taken.invariant.0.listed.upto) in
-    let exchanged : let l = c.loop-taken in Listed (length c.args.overall.now) (set (set l.nodes c.pick-at.result (get_or l.nodes l.taken 0)) l.taken (get_or c.loop-taken.nodes c.pick-at.result 0)) (l.taken + 1) l.listed = let l = c.loop-taken in let f = l.inv.0.listed in let more : l.taken + 1 ≤ l.listed = omega (arith, c.loop-taken-test.true) in listed_set {taken = l.taken} {met = l.listed} _ _ (simp length-set first_in) node_in more (simp length-set f.upto) (listed_set _ _ place_in (f.below _) f.part f.upto f) in
-    let node_in : (get_or c.loop-taken.nodes c.pick-at.result 0) < length c.args.overall.now = c.loop-taken.invariant.0.listed.below _ in
     let most_small : c.args.most ≤ longest = c.requires.small.2 in
-    let p = c.requires in
-    let f = c.loop-taken.invariant.0 in
-    record { network = p.0; small = (p.1.0.0, node_in, omega (arith, c.if-most-key.false, most_small)); used_len = (p.1.0.1, p.1.0.1); front = record { few = f.few; keyed = f.keyed; listed = exchanged } }
+    let node_in : (get_or c.loop-taken.nodes c.pick-at.result 0) < length c.args.overall.now = c.loop-taken.invariant.0.listed.below _ in
+    let place_in : c.pick-at.result < length c.loop-taken.nodes = omega (arith, c.pick-at.ensures, c.loop-taken.invariant.0.listed.upto) in
+    let first_in : c.loop-taken.true < length c.loop-taken.nodes = omega (arith, c.loop-taken-test.true, c.loop-taken.invariant.0.listed.upto) in
+    let exchanged : Listed (length c.args.overall.now) (set (set c.loop-taken.nodes c.pick-at.result (get_or c.loop-taken.nodes c.loop-taken.true 0)) c.loop-taken.true (get_or c.loop-taken.nodes c.pick-at.result 0)) (c.loop-taken.true + 1) c.loop-taken.listed = let more : c.loop-taken.true + 1 ≤ c.loop-taken.listed = omega (arith, c.loop-taken-test.true) in listed_set {taken = c.loop-taken.true} {met = c.loop-taken.listed} _ _ (simp length-set first_in) node_in more (simp length-set c.loop-taken.invariant.0.listed.upto) (listed_set _ _ place_in (c.loop-taken.invariant.0.listed.below _) c.loop-taken.invariant.0.listed.part c.loop-taken.invariant.0.listed.upto c.loop-taken.invariant.0.listed) in
+    record { network = c.requires.network; small = (c.requires.small.0, node_in, omega (arith, c.if-most-key.false, most_small)); used_len = (c.requires.small.1, c.requires.small.1); front = record { few = c.loop-taken.invariant.0.few; keyed = c.loop-taken.invariant.0.keyed; listed = exchanged } }
 
 pub loop-taken-smaller : goal.loop-taken-smaller
 loop-taken-smaller c =
@@ -50,9 +47,7 @@ loop-taken-smaller c =
     omega (arith, first_in, c.loop-taken.invariant.2)
 
 pub loop-taken-preserved : goal.loop-taken-preserved
-loop-taken-preserved c =
-    let i = c.loop-taken.invariant in
-    (c.spread-listed.ensures, c.spread-listed.auto.keys ∙ i.1, c.spread-listed.auto.nodes ∙ simp length-set i.2)
+loop-taken-preserved c = (c.spread-listed.ensures, c.spread-listed.auto.keys ∙ c.loop-taken.invariant.1, c.spread-listed.auto.nodes ∙ simp length-set c.loop-taken.invariant.2)
 
 pub beyond-requires-2 : goal.beyond-requires-2
 beyond-requires-2 c =
@@ -60,4 +55,4 @@ beyond-requires-2 c =
     most_small
 
 pub returns : goal.returns
-returns c = let l = c.loop-taken in (listed_to (omega arith) (omega (arith, l.invariant.0.listed)) l.invariant.0.listed, c.beyond-2.ensures)
+returns c = (listed_to (omega arith) (omega (arith, c.loop-taken.invariant.0.listed)) c.loop-taken.invariant.0.listed, c.beyond-2.ensures)

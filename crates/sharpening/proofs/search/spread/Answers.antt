@@ -8,15 +8,14 @@ use Rattle.star.proofs.NetworkLaws.{network_heads, network_starts}
 use Rattle.sharpening.proofs.search.spread.Goals as goal
 
 pub loop-i-init : goal.loop-i-init
-loop-i-init c = let p = c.requires in (p.1.1.1, refl, refl)
+loop-i-init c = (c.requires.front, refl, refl)
 
 pub via_below-l-requires : goal.via_below-l-requires
 unfolding heads_of outs_of
 via_below-l-requires c =
     let arc_in : c.loop-i.i < length (heads_of (length c.args.weights.now) c.args.star.now) = omega (arith, (network_starts c.requires.network).within (c.args.hub.node + 1) (omega (arith, c.requires.small.1))) in
     let head_in : get_or (heads_of (length c.args.weights.now) c.args.star.now) c.loop-i.i 0 < length c.args.overall.now = (network_heads c.requires.network).head_in _ arc_in in
-    let p = c.requires in
-    record { y_in_bounds = (head_in, p.1.0.0.low _); used_len = p.1.1.0 }
+    record { y_in_bounds = (head_in, c.requires.small.0.low _); used_len = c.requires.used_len }
 
 pub reach-listed-requires : goal.reach-listed-requires
 unfolding heads_of outs_of
@@ -24,10 +23,7 @@ reach-listed-requires c =
     let arc_in : c.loop-i.i < length (heads_of (length c.args.weights.now) c.args.star.now) = omega (arith, (network_starts c.requires.network).within (c.args.hub.node + 1) (omega (arith, c.requires.small.1))) in
     let head_in : get_or (heads_of (length c.args.weights.now) c.args.star.now) c.loop-i.i 0 < length c.args.overall.now = (network_heads c.requires.network).head_in _ arc_in in
     -- WANTS record of front, y_in_bounds
-    let f = c.loop-i.invariant.0 in
-    rw f.keyed.long (f, (head_in, c.requires.small.2))
+    rw c.loop-i.invariant.0.keyed.long (c.loop-i.invariant.0, (head_in, c.requires.small.2))
 
 pub loop-i-preserved : goal.loop-i-preserved
-loop-i-preserved c =
-    let i = c.loop-i.invariant in
-    (rw i.0.keyed.long at c.reach-listed.ensures, c.reach-listed.auto.keys ∙ i.1, c.reach-listed.auto.nodes ∙ i.2)
+loop-i-preserved c = (rw c.loop-i.invariant.0.keyed.long at c.reach-listed.ensures, c.reach-listed.auto.keys ∙ c.loop-i.invariant.1, c.reach-listed.auto.nodes ∙ c.loop-i.invariant.2)

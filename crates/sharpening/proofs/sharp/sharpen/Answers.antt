@@ -8,5 +8,4 @@ use Rattle.sharpening.proofs.sharp.sharpen.Goals as goal
 pub sharpen_in-requires : goal.sharpen_in-requires
 sharpen_in-requires c =
     let few : length c.args.overall.now ≤ 201 = c.requires.used_len.2 in
-    let p = c.requires in
-    record { network = p.0; small = p.1.0; used_len = (p.1.1.0, p.1.1.1); front = record { few = few; keyed = marks_small 201 _ few; listed = listed_none (length c.args.overall.now) 201 (omega (arith, p.1.0.1)) } }
+    record { network = c.requires.network; small = c.requires.small; used_len = (c.requires.used_len.0, c.requires.used_len.1); front = record { few = few; keyed = marks_small 201 _ few; listed = listed_none (length c.args.overall.now) 201 (omega (arith, c.requires.small.1)) } }
