@@ -6,7 +6,7 @@ use Rattle.sharpening.proofs.SharpLaws.{raises_set, small_set}
 use Rattle.sharpening.proofs.raise.lift.Goals as goal
 
 pub returns-then-level-eq-FAR : goal.returns-then-level-eq-FAR
-returns-then-level-eq-FAR c = (small_set _ _ c.requires.1 (λ h. absurd (omega arith)) c.requires.0, raises_set _ _ _ (omega (arith, c.requires.0.long)) (omega (arith, c.type_inv.labels c.args.x)))
+returns-then-level-eq-FAR c = (small_set _ _ c.requires.1 (λ h. absurd (omega arith)) c.requires.0, raises_set _ _ _ (omega (arith, c.requires.0.long)) (omega (arith, c.slice_known-1.given c.args.x)))
 
 pub returns : goal.returns
 returns c =

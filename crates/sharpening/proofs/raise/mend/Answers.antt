@@ -12,8 +12,7 @@ use Rattle.sharpening.proofs.raise.mend.Goals as goal
 
 pub least_exit-requires : goal.least_exit-requires
 least_exit-requires c =
-    -- WANTS record of network, small, used_len
-    rw c.requires.small.long ((c.requires.network, c.requires.x_in_bounds), (c.requires.small, (refl, refl)))
+    rw c.requires.small.long (record { network = (c.requires.network, c.requires.x_in_bounds); small = c.requires.small; used_len = (refl, refl) })
 
 pub returns-in_default : goal.returns-in_default
 returns-in_default c =

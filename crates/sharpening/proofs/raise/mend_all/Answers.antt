@@ -2,7 +2,7 @@
 use native.Mathlib.Omega.{arith}
 use mathlib.Core.Path.{◌≡◌, refl}
 use Rattle.terms.proofs.ListLaws.{clash}
-use Rattle.sharpening.proofs.SharpLaws.{mending_start, mending_next, mending_goal, mending_at, mending_end, from_not}
+use Rattle.sharpening.proofs.SharpLaws.{mending_start, mending_next, mending_goal, mending_at, mending_end}
 use Rattle.sharpening.proofs.raise.mend_all.Goals as goal
 
 pub loop-i-init : goal.loop-i-init
@@ -17,7 +17,7 @@ returns-then-not-mend c =
     record { small_2 = c.mend.ensures.small_2; by_index = λ os bar e l free k. clash e refl }
 
 pub loop-i-preserved-else-not-mend : goal.loop-i-preserved-else-not-mend
-loop-i-preserved-else-not-mend c = (omega arith, c.mend.ensures.small_2, λ os z l. mending_next refl c.if-x-goal.true (c.mend.ensures.mends (from_not _ c.if-not-mend.false)) (mending_at (omega arith) (c.loop-i.invariant.2 os z l)))
+loop-i-preserved-else-not-mend c = (omega arith, c.mend.ensures.small_2, λ os z l. mending_next refl c.if-x-goal.true (c.mend.ensures.mends c.if-not-mend.false) (mending_at (omega arith) (c.loop-i.invariant.2 os z l)))
 
 pub loop-i-preserved : goal.loop-i-preserved
 loop-i-preserved c = (omega arith, c.loop-i.invariant.1, λ os z l. mending_goal refl c.if-x-goal.false z (mending_at (omega arith) (c.loop-i.invariant.2 os z l)))

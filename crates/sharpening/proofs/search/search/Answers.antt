@@ -37,13 +37,13 @@ spread-listed-requires c =
     let most_small : c.args.most ≤ longest = c.requires.small.2 in
     let node_in : (get_or c.loop-taken.nodes c.pick-at.result 0) < length c.args.overall.now = c.loop-taken.invariant.0.listed.below _ in
     let place_in : c.pick-at.result < length c.loop-taken.nodes = omega (arith, c.pick-at.ensures, c.loop-taken.invariant.0.listed.upto) in
-    let first_in : c.loop-taken.true < length c.loop-taken.nodes = omega (arith, c.loop-taken-test.true, c.loop-taken.invariant.0.listed.upto) in
-    let exchanged : Listed (length c.args.overall.now) (set (set c.loop-taken.nodes c.pick-at.result (get_or c.loop-taken.nodes c.loop-taken.true 0)) c.loop-taken.true (get_or c.loop-taken.nodes c.pick-at.result 0)) (c.loop-taken.true + 1) c.loop-taken.listed = let more : c.loop-taken.true + 1 ≤ c.loop-taken.listed = omega (arith, c.loop-taken-test.true) in listed_set {taken = c.loop-taken.true} {met = c.loop-taken.listed} _ _ (simp length-set first_in) node_in more (simp length-set c.loop-taken.invariant.0.listed.upto) (listed_set _ _ place_in (c.loop-taken.invariant.0.listed.below _) c.loop-taken.invariant.0.listed.part c.loop-taken.invariant.0.listed.upto c.loop-taken.invariant.0.listed) in
+    let first_in : c.loop-taken.taken < length c.loop-taken.nodes = omega (arith, c.loop-taken-test.true, c.loop-taken.invariant.0.listed.upto) in
+    let exchanged : Listed (length c.args.overall.now) (set (set c.loop-taken.nodes c.pick-at.result (get_or c.loop-taken.nodes c.loop-taken.taken 0)) c.loop-taken.taken (get_or c.loop-taken.nodes c.pick-at.result 0)) (c.loop-taken.taken + 1) c.loop-taken.listed = let more : c.loop-taken.taken + 1 ≤ c.loop-taken.listed = omega (arith, c.loop-taken-test.true) in listed_set {taken = c.loop-taken.taken} {met = c.loop-taken.listed} _ _ (simp length-set first_in) node_in more (simp length-set c.loop-taken.invariant.0.listed.upto) (listed_set _ _ place_in (c.loop-taken.invariant.0.listed.below _) c.loop-taken.invariant.0.listed.part c.loop-taken.invariant.0.listed.upto c.loop-taken.invariant.0.listed) in
     record { network = c.requires.network; small = (c.requires.small.0, node_in, omega (arith, c.if-most-key.false, most_small)); used_len = (c.requires.small.1, c.requires.small.1); front = record { few = c.loop-taken.invariant.0.few; keyed = c.loop-taken.invariant.0.keyed; listed = exchanged } }
 
 pub loop-taken-smaller : goal.loop-taken-smaller
 loop-taken-smaller c =
-    let first_in : c.loop-taken.true < length c.loop-taken.nodes = omega (arith, c.loop-taken-test.true, c.loop-taken.invariant.0.listed.upto) in
+    let first_in : c.loop-taken.taken < length c.loop-taken.nodes = omega (arith, c.loop-taken-test.true, c.loop-taken.invariant.0.listed.upto) in
     omega (arith, first_in, c.loop-taken.invariant.2)
 
 pub loop-taken-preserved : goal.loop-taken-preserved

@@ -22,8 +22,19 @@ unfolding heads_of outs_of
 reach-listed-requires c =
     let arc_in : c.loop-i.i < length (heads_of (length c.args.weights.now) c.args.star.now) = omega (arith, (network_starts c.requires.network).within (c.args.hub.node + 1) (omega (arith, c.requires.small.1))) in
     let head_in : get_or (heads_of (length c.args.weights.now) c.args.star.now) c.loop-i.i 0 < length c.args.overall.now = (network_heads c.requires.network).head_in _ arc_in in
-    -- WANTS record of front, y_in_bounds
-    rw c.loop-i.invariant.0.keyed.long (c.loop-i.invariant.0, (head_in, c.requires.small.2))
+    rw c.loop-i.invariant.0.keyed.long (record { front = c.loop-i.invariant.0; y_in_bounds = (head_in, c.requires.small.2) })
 
 pub loop-i-preserved : goal.loop-i-preserved
 loop-i-preserved c = (rw c.loop-i.invariant.0.keyed.long at c.reach-listed.ensures, c.reach-listed.auto.keys ∙ c.loop-i.invariant.1, c.reach-listed.auto.nodes ∙ c.loop-i.invariant.2)
+
+pub bounds-heads-i : goal.bounds-heads-i
+unfolding heads_of outs_of
+bounds-heads-i c =
+    let arc_in : c.loop-i.i < length (heads_of (length c.args.weights.now) c.args.star.now) = omega (arith, (network_starts c.requires.network).within (c.args.hub.node + 1) (omega (arith, c.requires.small.1))) in
+    arc_in
+
+pub bounds-weights-i : goal.bounds-weights-i
+unfolding heads_of outs_of
+bounds-weights-i c =
+    let arc_in : c.loop-i.i < length (heads_of (length c.args.weights.now) c.args.star.now) = omega (arith, (network_starts c.requires.network).within (c.args.hub.node + 1) (omega (arith, c.requires.small.1))) in
+    omega (arith, arc_in, (network_heads c.requires.network).weights_long)

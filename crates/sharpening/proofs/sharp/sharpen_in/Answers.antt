@@ -19,8 +19,7 @@ lift_all-requires c =
 pub mend_all-requires : goal.mend_all-requires
 mend_all-requires c =
     let keys_long : length c.search_from-level.new.keys ≡ length c.args.overall.now = c.search_from-level.auto.keys ∙ c.requires.front.keyed.long in
-    -- WANTS record of network, small, listed
-    rw c.requires.used_len.0 (c.requires.network, (rw keys_long at c.lift_all.ensures.0, c.search_from-level.ensures.0))
+    rw c.requires.used_len.0 (record { network = c.requires.network; small = rw keys_long at c.lift_all.ensures.0; listed = c.search_from-level.ensures.0 })
 
 pub returns : goal.returns
 returns c =
