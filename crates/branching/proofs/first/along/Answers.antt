@@ -9,27 +9,24 @@ use Rattle.branching.proofs.first.along.Goals as goal
 
 pub attempt-end-requires : goal.attempt-end-requires
 attempt-end-requires c =
-    -- WANTS record of network, laid
-    let p = c.requires in
-    rw p.1.1.1.0.1.long (p.0, ((p.1.0.laid, choice_fresh p.0 p.1.1.1.1)))
+    rw c.requires.consistent.1.long (record { network = c.requires.network; laid = ((c.requires.begun.laid, choice_fresh c.requires.network c.requires.choice)) })
 
 pub returns-then-end : goal.returns-then-end
 returns-then-end c =
     let walk_tried : Tried c.args.used.now c.args.path.now c.args.d c.attempt-end.new.used c.attempt-end.new.path c.attempt-end.result.len = c.attempt-end.ensures.tried in
-    let p = c.requires in
-    let choice = p.1.1.1.1 in
-    record { kept = tried_kept walk_tried; by_index = λ s F B h.
-          let r = branch_walked p.1.0 h B choice p.1.1.1.0.0 (c.attempt-end.ensures.arrives choice.exit.reached c.if-end.true) in
-          FirstFound.found r.0 r.1 }
+    record {
+      kept = tried_kept walk_tried;
+      by_index = λ s F B h.
+          let r = branch_walked c.requires.begun h B c.requires.choice c.requires.consistent.0 (c.attempt-end.ensures.arrives c.requires.choice.exit.reached c.if-end.true) in
+          FirstFound.found r.0 r.1;
+    }
 
 pub exact_path-requires : goal.exact_path-requires
 exact_path-requires c =
     let walk_tried : Tried c.args.used.now c.args.path.now c.args.d c.attempt-end.new.used c.attempt-end.new.path c.attempt-end.result.len = c.attempt-end.ensures.tried in
-    -- WANTS record of network, begun, ahead
-    let p = c.requires in
-    rw walk_tried.flags (p.0, (record { laid = laid_kept walk_tried.kept c.attempt-end.auto.path p.1.0.laid; some = p.1.0.some; barred_long = p.1.0.barred_long }, p.1.1.0))
+    rw walk_tried.flags (record { network = c.requires.network; begun = record { laid = laid_kept walk_tried.kept c.attempt-end.auto.path c.requires.begun.laid; some = c.requires.begun.some; barred_long = c.requires.begun.barred_long }; ahead = c.requires.ahead })
 
 pub returns : goal.returns
 returns c =
     let walk_tried : Tried c.args.used.now c.args.path.now c.args.d c.attempt-end.new.used c.attempt-end.new.path c.attempt-end.result.len = c.attempt-end.ensures.tried in
-    record { kept = kept_again walk_tried.exact-path.ensures.0; by_index = λ s F B h. rw walk_tried.kept at (c.exact_path.ensures.by_index s F (rw walk_tried.kept B) h) }
+    record { kept = kept_again walk_tried c.exact_path.ensures.kept; by_index = λ s F B h. rw walk_tried.kept at (c.exact_path.ensures.by_index s F (rw walk_tried.kept B) h) }

@@ -21,72 +21,69 @@ use Rattle.branching.proofs.first.by_labels.Goals as goal
 
 pub least-requires : goal.least-requires
 least-requires c =
-    -- WANTS record of network, goal
-    let p = c.requires in
-    rw p.1.1.1 ((p.0, p.1.0.laid.flags_long), record { place = p.1.1.0.place; free = p.1.1.0.unmet })
+    rw c.requires.labels_len (record { network = (c.requires.network, c.requires.begun.laid.flags_long); goal = record { place = c.requires.ahead.place; free = c.requires.ahead.unmet } })
 
 pub least_exit-requires : goal.least_exit-requires
 least_exit-requires c =
-    let made_least : Least (graph_of c.args.star.now c.args.weights.now) c.args.used.now c.args.goal c.least.new.labels = c.least.ensures in
-    let made_long : length c.least.new.labels ≡ length c.args.used.now = c.least.auto.labels ∙ c.requires.labels_len in
-    let begun : Begun (length c.args.used.now) c.args.used.now c.args.barred.now c.args.path.now c.args.d = c.requires.begun in
     let network : Network (length c.args.used.now) c.args.star.now c.args.weights.now = c.requires.network in
-    -- WANTS record of network, small, used_len
+    let begun : Begun (length c.args.used.now) c.args.used.now c.args.barred.now c.args.path.now c.args.d = c.requires.begun in
+    let made_long : length c.least.new.labels ≡ length c.args.used.now = c.least.auto.labels ∙ c.requires.labels_len in
+    let made_least : Least (graph_of c.args.star.now c.args.weights.now) c.args.used.now c.args.goal c.least.new.labels = c.least.ensures in
     let n = network in
-    rw made_long ((n, laid_place (c.args.d - 1) (omega (arith, begun.some)) begun.laid), (network_small n made_long made_least, (refl, begun.barred_long)))
+    rw made_long (record { network = (n, laid_place (c.args.d - 1) (omega (arith, begun.some)) begun.laid); small = network_small n made_long made_least; used_len = (refl, begun.barred_long) })
 
 pub returns-in_default : goal.returns-in_default
 returns-in_default c =
-    let made_least : Least (graph_of c.args.star.now c.args.weights.now) c.args.used.now c.args.goal c.least.new.labels = c.least.ensures in
-    let made_long : length c.least.new.labels ≡ length c.args.used.now = c.least.auto.labels ∙ c.requires.labels_len in
-    let made_exact : Exact (graph_of c.args.star.now c.args.weights.now) c.args.goal c.least.new.labels (take c.args.d c.args.path.now) = network_exact network made_long made_least begun.laid.flagged (unflagged begun.laid.flagged _ c.requires.ahead.unmet) in
-    let begun : Begun (length c.args.used.now) c.args.used.now c.args.barred.now c.args.path.now c.args.d = c.requires.begun in
     let network : Network (length c.args.used.now) c.args.star.now c.args.weights.now = c.requires.network in
+    let begun : Begun (length c.args.used.now) c.args.used.now c.args.barred.now c.args.path.now c.args.d = c.requires.begun in
+    let made_long : length c.least.new.labels ≡ length c.args.used.now = c.least.auto.labels ∙ c.requires.labels_len in
+    let made_least : Least (graph_of c.args.star.now c.args.weights.now) c.args.used.now c.args.goal c.least.new.labels = c.least.ensures in
+    let made_exact : Exact (graph_of c.args.star.now c.args.weights.now) c.args.goal c.least.new.labels (take c.args.d c.args.path.now) = network_exact network made_long made_least begun.laid.flagged (unflagged begun.laid.flagged _ c.requires.ahead.unmet) in
     let n = network in
     record { kept = record { flags = refl; kept = refl; reach = Extent.nothing }; by_index = λ s F B h. FirstFound.none (branch_empty begun h B made_exact.consistent (chosen_nothing c.least_exit.ensures.chosen c.in_default.is)) }
 
 pub attempt-end-requires : goal.attempt-end-requires
 attempt-end-requires c =
-    let usable : Fresh (length c.args.used.now) c.args.used.now c.in-Node.y = rw made_long at (usable_node c.least_exit.ensures.usable c.in-Node.is) in
-    let made_long : length c.least.new.labels ≡ length c.args.used.now = c.least.auto.labels ∙ c.requires.labels_len in
-    let begun : Begun (length c.args.used.now) c.args.used.now c.args.barred.now c.args.path.now c.args.d = c.requires.begun in
     let network : Network (length c.args.used.now) c.args.star.now c.args.weights.now = c.requires.network in
-    -- WANTS record of network, laid
+    let begun : Begun (length c.args.used.now) c.args.used.now c.args.barred.now c.args.path.now c.args.d = c.requires.begun in
+    let made_long : length c.least.new.labels ≡ length c.args.used.now = c.least.auto.labels ∙ c.requires.labels_len in
+    let usable : Fresh (length c.args.used.now) c.args.used.now c.in-Node.y = rw made_long at (usable_node c.least_exit.ensures.usable c.in-Node.is) in
     let n = network in
-    rw made_long (n, ((begun.laid, usable)))
+    rw made_long (record { network = n; laid = ((begun.laid, usable)) })
 
 pub returns-then-end : goal.returns-then-end
 returns-then-end c =
-    let made_least : Least (graph_of c.args.star.now c.args.weights.now) c.args.used.now c.args.goal c.least.new.labels = c.least.ensures in
-    let made_long : length c.least.new.labels ≡ length c.args.used.now = c.least.auto.labels ∙ c.requires.labels_len in
-    let walk_tried : Tried c.args.used.now c.args.path.now c.args.d c.attempt-end.new.used c.attempt-end.new.path c.attempt-end.result.len = c.attempt-end.ensures.tried in
-    let choice : Choice (graph_of c.args.star.now c.args.weights.now) c.least.new.labels (Unmarked c.args.used.now c.args.barred.now) (get_or c.args.path.now (c.args.d - 1) 0) c.in-Node.l c.in-Node.y = let n = network in chosen_node c.least_exit.ensures.chosen c.in-Node.is in
-    let made_exact : Exact (graph_of c.args.star.now c.args.weights.now) c.args.goal c.least.new.labels (take c.args.d c.args.path.now) = network_exact network made_long made_least begun.laid.flagged (unflagged begun.laid.flagged _ c.requires.ahead.unmet) in
-    let begun : Begun (length c.args.used.now) c.args.used.now c.args.barred.now c.args.path.now c.args.d = c.requires.begun in
     let network : Network (length c.args.used.now) c.args.star.now c.args.weights.now = c.requires.network in
+    let begun : Begun (length c.args.used.now) c.args.used.now c.args.barred.now c.args.path.now c.args.d = c.requires.begun in
+    let made_long : length c.least.new.labels ≡ length c.args.used.now = c.least.auto.labels ∙ c.requires.labels_len in
+    let made_least : Least (graph_of c.args.star.now c.args.weights.now) c.args.used.now c.args.goal c.least.new.labels = c.least.ensures in
+    let made_exact : Exact (graph_of c.args.star.now c.args.weights.now) c.args.goal c.least.new.labels (take c.args.d c.args.path.now) = network_exact network made_long made_least begun.laid.flagged (unflagged begun.laid.flagged _ c.requires.ahead.unmet) in
+    let choice : Choice (graph_of c.args.star.now c.args.weights.now) c.least.new.labels (Unmarked c.args.used.now c.args.barred.now) (get_or c.args.path.now (c.args.d - 1) 0) c.in-Node.l c.in-Node.y = let n = network in chosen_node c.least_exit.ensures.chosen c.in-Node.is in
+    let walk_tried : Tried c.args.used.now c.args.path.now c.args.d c.attempt-end.new.used c.attempt-end.new.path c.attempt-end.result.len = c.attempt-end.ensures.tried in
     let n = network in
     record { kept = tried_kept walk_tried; by_index = λ s F B h. let r = branch_walked begun h B choice made_exact.consistent (c.attempt-end.ensures.arrives choice.exit.reached c.if-end.true) in FirstFound.found r.0 r.1 }
 
 pub by_steps-len-requires : goal.by_steps-len-requires
 by_steps-len-requires c =
+    let made_long : length c.least.new.labels ≡ length c.args.used.now = c.least.auto.labels ∙ c.requires.labels_len in
+    let usable : Fresh (length c.args.used.now) c.args.used.now c.in-Node.y = rw made_long at (usable_node c.least_exit.ensures.usable c.in-Node.is) in
+    let walk_tried : Tried c.args.used.now c.args.path.now c.args.d c.attempt-end.new.used c.attempt-end.new.path c.attempt-end.result.len = c.attempt-end.ensures.tried in
     let begun : Begun (length c.args.used.now) c.args.used.now c.args.barred.now c.args.path.now c.args.d = c.requires.begun in
     let walk_laid : Laid (length c.args.used.now) c.args.used.now c.attempt-end.new.path c.args.d = laid_kept walk_tried.kept c.attempt-end.auto.path begun.laid in
-    let walk_tried : Tried c.args.used.now c.args.path.now c.args.d c.attempt-end.new.used c.attempt-end.new.path c.attempt-end.result.len = c.attempt-end.ensures.tried in
-    let usable : Fresh (length c.args.used.now) c.args.used.now c.in-Node.y = rw made_long at (usable_node c.least_exit.ensures.usable c.in-Node.is) in
-    let made_long : length c.least.new.labels ≡ length c.args.used.now = c.least.auto.labels ∙ c.requires.labels_len in
-    -- WANTS record of network, laid, ahead, labels_len
-    let p = c.requires in
-    rw walk_tried.flags (p.0, ((walk_laid, usable), (p.1.1.0, made_long)))
+    rw walk_tried.flags (record { network = c.requires.network; laid = (walk_laid, usable); ahead = c.requires.ahead; labels_len = made_long })
 
 pub returns : goal.returns
 returns c =
-    let made_least : Least (graph_of c.args.star.now c.args.weights.now) c.args.used.now c.args.goal c.least.new.labels = c.least.ensures in
-    let made_long : length c.least.new.labels ≡ length c.args.used.now = c.least.auto.labels ∙ c.requires.labels_len in
-    let network : Network (length c.args.used.now) c.args.star.now c.args.weights.now = c.requires.network in
-    let walk_tried : Tried c.args.used.now c.args.path.now c.args.d c.attempt-end.new.used c.attempt-end.new.path c.attempt-end.result.len = c.attempt-end.ensures.tried in
-    let choice : Choice (graph_of c.args.star.now c.args.weights.now) c.least.new.labels (Unmarked c.args.used.now c.args.barred.now) (get_or c.args.path.now (c.args.d - 1) 0) c.in-Node.l c.in-Node.y = let n = network in chosen_node c.least_exit.ensures.chosen c.in-Node.is in
-    let made_exact : Exact (graph_of c.args.star.now c.args.weights.now) c.args.goal c.least.new.labels (take c.args.d c.args.path.now) = network_exact network made_long made_least begun.laid.flagged (unflagged begun.laid.flagged _ c.requires.ahead.unmet) in
     let begun : Begun (length c.args.used.now) c.args.used.now c.args.barred.now c.args.path.now c.args.d = c.requires.begun in
-    record { kept = tried_kept (tried_again walk_tried.by-steps.ensures.0); by_index = λ s F B h.
+    let network : Network (length c.args.used.now) c.args.star.now c.args.weights.now = c.requires.network in
+    let made_long : length c.least.new.labels ≡ length c.args.used.now = c.least.auto.labels ∙ c.requires.labels_len in
+    let made_least : Least (graph_of c.args.star.now c.args.weights.now) c.args.used.now c.args.goal c.least.new.labels = c.least.ensures in
+    let made_exact : Exact (graph_of c.args.star.now c.args.weights.now) c.args.goal c.least.new.labels (take c.args.d c.args.path.now) = network_exact network made_long made_least begun.laid.flagged (unflagged begun.laid.flagged _ c.requires.ahead.unmet) in
+    let choice : Choice (graph_of c.args.star.now c.args.weights.now) c.least.new.labels (Unmarked c.args.used.now c.args.barred.now) (get_or c.args.path.now (c.args.d - 1) 0) c.in-Node.l c.in-Node.y = let n = network in chosen_node c.least_exit.ensures.chosen c.in-Node.is in
+    let walk_tried : Tried c.args.used.now c.args.path.now c.args.d c.attempt-end.new.used c.attempt-end.new.path c.attempt-end.result.len = c.attempt-end.ensures.tried in
+    record {
+      kept = tried_kept (tried_again walk_tried c.by_steps-len.ensures.tried);
+      by_index = λ s F B h.
           let r = branch_stepped begun h B choice made_exact (λ p i. rw walk_tried.kept at (c.by_steps-len.ensures.by_index s p (rw walk_tried.kept i))) in
-          FirstFound.found r.0 r.1 }
+          FirstFound.found r.0 r.1;
+    }

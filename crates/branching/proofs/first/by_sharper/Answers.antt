@@ -9,7 +9,6 @@ use Rattle.star.specs.Layout.{graph_of}
 use Rattle.exits.specs.Small.{Small}
 use Rattle.exits.specs.Walks.{Consistent, Choice}
 use Rattle.exits.proofs.ExitLaws.{chosen_node, chosen_nothing}
-use Rattle.sharpening.proofs.SharpLaws.{from_not}
 use Rattle.branching.specs.Found.{Extent, FirstFound, FirstWithin}
 use Rattle.branching.proofs.FirstLaws.{branch_empty, branch_floor}
 use Rattle.branching.proofs.LaidLaws.{laid_place}
@@ -18,14 +17,11 @@ use Rattle.branching.proofs.first.by_sharper.Goals as goal
 
 pub sharpen-sharp-requires : goal.sharpen-sharp-requires
 sharpen-sharp-requires c =
-    -- WANTS record of network, small, used_len
-    let p = c.requires in
-    rw p.1.1.1.0.1.long (p.0, ((p.1.1.1.0.1, laid_place (c.args.d - 1) (omega (arith, p.1.0.some)) p.1.0.laid, p.1.1.1.1.1, p.1.1.1.1.0), (refl, p.1.0.barred_long, network_few p.0)))
+    rw c.requires.consistent.1.long (record { network = c.requires.network; small = (c.requires.consistent.1, laid_place (c.args.d - 1) (omega (arith, c.requires.begun.some)) c.requires.begun.laid, c.requires.labels_len.1, c.requires.labels_len.0); used_len = (refl, c.requires.begun.barred_long, network_few c.requires.network) })
 
 pub exact_path-requires : goal.exact_path-requires
 exact_path-requires c =
-    let p = c.requires in
-    record { network = p.0; begun = p.1.0; ahead = p.1.1.0 }
+    record { network = c.requires.network; begun = c.requires.begun; ahead = c.requires.ahead }
 
 pub returns-then-not-sharp : goal.returns-then-not-sharp
 returns-then-not-sharp c =
@@ -34,31 +30,26 @@ returns-then-not-sharp c =
 pub least_exit-requires : goal.least_exit-requires
 least_exit-requires c =
     let small : Small (length c.args.used.now) c.sharpen-sharp.new.labels = rw c.requires.consistent.1.long at c.sharpen-sharp.ensures.small_2 in
-    -- WANTS record of network, small, used_len
-    let p = c.requires in
-    rw small.long ((p.0, laid_place (c.args.d - 1) (omega (arith, p.1.0.some)) p.1.0.laid), (small, (refl, p.1.0.barred_long)))
+    rw small.long (record { network = (c.requires.network, laid_place (c.args.d - 1) (omega (arith, c.requires.begun.some)) c.requires.begun.laid); small = small; used_len = (refl, c.requires.begun.barred_long) })
 
 pub returns-in_default : goal.returns-in_default
 returns-in_default c =
-    let consistent : Consistent (graph_of c.args.star.now c.args.weights.now) c.args.goal c.sharpen-sharp.last.1.1.1.1.1.1.0 (take c.args.d c.args.path.now) = let p = c.requires in c.sharpen-sharp.ensures.by_index _ (from_not _ c.if-not-sharp.false) p.1.0.laid.flagged.outside p.1.1.1.0.0 in
-    let p = c.requires in
-    record { kept = record { flags = refl; kept = refl; reach = Extent.nothing }; by_index = λ s F B h. FirstWithin.is (FirstFound.none (branch_empty p.1.0 h B consistent (chosen_nothing c.least_exit.ensures.chosen c.in_default.is))) }
+    let consistent : Consistent (graph_of c.args.star.now c.args.weights.now) c.args.goal c.sharpen-sharp.new.labels (take c.args.d c.args.path.now) = c.sharpen-sharp.ensures.by_index _ c.if-not-sharp.false c.requires.begun.laid.flagged.outside c.requires.consistent.0 in
+    record { kept = record { flags = refl; kept = refl; reach = Extent.nothing }; by_index = λ s F B h. FirstWithin.is (FirstFound.none (branch_empty c.requires.begun h B consistent (chosen_nothing c.least_exit.ensures.chosen c.in_default.is))) }
 
 pub returns-then-is_dear : goal.returns-then-is_dear
 returns-then-is_dear c =
-    let choice : Choice (graph_of c.args.star.now c.args.weights.now) c.sharpen-sharp.last.1.1.1.1.1.1.0 (Unmarked c.args.used.now c.args.barred.now) (get_or c.args.path.now (c.args.d - 1) 0) c.in-Node.l c.in-Node.y = let n = c.requires.network in chosen_node c.least_exit.ensures.chosen c.in-Node.is in
-    let consistent : Consistent (graph_of c.args.star.now c.args.weights.now) c.args.goal c.sharpen-sharp.last.1.1.1.1.1.1.0 (take c.args.d c.args.path.now) = let p = c.requires in c.sharpen-sharp.ensures.by_index _ (from_not _ c.if-not-sharp.false) p.1.0.laid.flagged.outside p.1.1.1.0.0 in
-    let p = c.requires in
+    let consistent : Consistent (graph_of c.args.star.now c.args.weights.now) c.args.goal c.sharpen-sharp.new.labels (take c.args.d c.args.path.now) = c.sharpen-sharp.ensures.by_index _ c.if-not-sharp.false c.requires.begun.laid.flagged.outside c.requires.consistent.0 in
+    let choice : Choice (graph_of c.args.star.now c.args.weights.now) c.sharpen-sharp.new.labels (Unmarked c.args.used.now c.args.barred.now) (get_or c.args.path.now (c.args.d - 1) 0) c.in-Node.l c.in-Node.y = chosen_node c.least_exit.ensures.chosen c.in-Node.is in
     let d = c.is_dear.ensures c.if-is_dear.true in
-    record { kept = record { flags = refl; kept = refl; reach = Extent.nothing }; by_index = λ s F B h. FirstWithin.dear _ d.0 d.1 (branch_floor p.1.0 h B choice consistent) }
+    record { kept = record { flags = refl; kept = refl; reach = Extent.nothing }; by_index = λ s F B h. FirstWithin.dear _ d.0 d.1 (branch_floor c.requires.begun h B choice consistent) }
 
 pub along-requires : goal.along-requires
 along-requires c =
-    let choice : Choice (graph_of c.args.star.now c.args.weights.now) c.sharpen-sharp.last.1.1.1.1.1.1.0 (Unmarked c.args.used.now c.args.barred.now) (get_or c.args.path.now (c.args.d - 1) 0) c.in-Node.l c.in-Node.y = let n = c.requires.network in chosen_node c.least_exit.ensures.chosen c.in-Node.is in
-    let consistent : Consistent (graph_of c.args.star.now c.args.weights.now) c.args.goal c.sharpen-sharp.last.1.1.1.1.1.1.0 (take c.args.d c.args.path.now) = let p = c.requires in c.sharpen-sharp.ensures.by_index _ (from_not _ c.if-not-sharp.false) p.1.0.laid.flagged.outside p.1.1.1.0.0 in
     let small : Small (length c.args.used.now) c.sharpen-sharp.new.labels = rw c.requires.consistent.1.long at c.sharpen-sharp.ensures.small_2 in
-    let p = c.requires in
-    record { network = p.0; begun = p.1.0; ahead = p.1.1.0; consistent = (consistent, small); choice = choice }
+    let consistent : Consistent (graph_of c.args.star.now c.args.weights.now) c.args.goal c.sharpen-sharp.new.labels (take c.args.d c.args.path.now) = c.sharpen-sharp.ensures.by_index _ c.if-not-sharp.false c.requires.begun.laid.flagged.outside c.requires.consistent.0 in
+    let choice : Choice (graph_of c.args.star.now c.args.weights.now) c.sharpen-sharp.new.labels (Unmarked c.args.used.now c.args.barred.now) (get_or c.args.path.now (c.args.d - 1) 0) c.in-Node.l c.in-Node.y = chosen_node c.least_exit.ensures.chosen c.in-Node.is in
+    record { network = c.requires.network; begun = c.requires.begun; ahead = c.requires.ahead; consistent = (consistent, small); choice = choice }
 
 pub returns : goal.returns
 returns c =

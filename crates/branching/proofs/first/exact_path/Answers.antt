@@ -8,5 +8,4 @@ use Rattle.branching.proofs.first.exact_path.Goals as goal
 pub by_labels-requires : goal.by_labels-requires
 by_labels-requires c =
     let nodes_fit : length c.args.used.now ≤ 201 = network_few c.requires.network in
-    let p = c.requires in
-    record { network = p.0; begun = p.1.0; ahead = p.1.1; labels_len = part_long 201 _ nodes_fit }
+    record { network = c.requires.network; begun = c.requires.begun; ahead = c.requires.ahead; labels_len = part_long 201 _ nodes_fit }

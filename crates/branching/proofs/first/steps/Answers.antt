@@ -16,36 +16,27 @@ use Rattle.branching.proofs.NetworkLaws.{network_small, network_exact}
 use Rattle.branching.proofs.first.steps.Goals as goal
 
 pub loop-x-init : goal.loop-x-init
-loop-x-init c =
-    let p = c.requires in
-    (record { longer = record { no_shorter = omega arith; laid = p.1.0.0; kept = refl }; same = refl; some = p.1.0.1; last = refl; goal_ahead = p.1.1.0.1 }, p.1.1.1, λ s r i. onward_start i)
+loop-x-init c = (record { longer = record { no_shorter = omega arith; laid = c.requires.laid.0; kept = refl }; same = refl; some = c.requires.laid.1; last = refl; goal_ahead = c.requires.goal_in_bounds.1 }, c.requires.labels_len, λ s r i. onward_start i)
 
 pub least-requires : goal.least-requires
 least-requires c =
-    -- WANTS record of network, goal
-    let i = c.loop-x.invariant in
-    let p = c.requires in
-    rw i.1 ((p.0, i.0.longer.laid.flags_long), record { place = p.1.1.0.0; free = i.0.goal_ahead c.loop-x-test.true })
+    rw c.loop-x.invariant.1 (record { network = (c.requires.network, c.loop-x.invariant.0.longer.laid.flags_long); goal = record { place = c.requires.goal_in_bounds.0; free = c.loop-x.invariant.0.goal_ahead c.loop-x-test.true } })
 
 pub least_exit-requires : goal.least_exit-requires
 least_exit-requires c =
-    let made_least : Least (graph_of c.args.star.now c.args.weights.now) c.loop-x.used c.args.goal c.least.new.labels = c.least.ensures in
-    let made_long : length c.least.new.labels ≡ length c.args.used.now = c.least.auto.labels ∙ c.loop-x.invariant.1 in
     let network : Network (length c.args.used.now) c.args.star.now c.args.weights.now = c.requires.network in
-    -- WANTS record of network, small, used_len
+    let made_long : length c.least.new.labels ≡ length c.args.used.now = c.least.auto.labels ∙ c.loop-x.invariant.1 in
+    let made_least : Least (graph_of c.args.star.now c.args.weights.now) c.loop-x.used c.args.goal c.least.new.labels = c.least.ensures in
     let n = network in
-    let flags = c.loop-x.invariant.0.longer.laid.flags_long in
-    rw made_long ((n, stepping_place c.loop-x.invariant.0), (network_small n made_long made_least, (flags, flags)))
+    rw made_long (record { network = (n, stepping_place c.loop-x.invariant.0); small = network_small n made_long made_least; used_len = (c.loop-x.invariant.0.longer.laid.flags_long, c.loop-x.invariant.0.longer.laid.flags_long) })
 
 pub returns-in_default : goal.returns-in_default
 returns-in_default c =
-    let made_least : Least (graph_of c.args.star.now c.args.weights.now) c.loop-x.used c.args.goal c.least.new.labels = c.least.ensures in
-    let made_long : length c.least.new.labels ≡ length c.args.used.now = c.least.auto.labels ∙ c.loop-x.invariant.1 in
     let network : Network (length c.args.used.now) c.args.star.now c.args.weights.now = c.requires.network in
-    let made_exact : Exact (graph_of c.args.star.now c.args.weights.now) c.args.goal c.least.new.labels (take c.loop-x.len c.loop-x.path) = let S = c.loop-x.invariant.0 in network_exact network made_long made_least S.longer.laid.flagged (unflagged S.longer.laid.flagged _ (S.goal_ahead c.loop-x-test.true)) in
-    let i = c.loop-x.invariant in
-    let n = c.loop-x-test.true in
-    record { longer = i.0.longer; by_index = λ s p k. absurd (stepping_stuck i.0 (i.2 s p k) n made_exact (chosen_nothing c.least_exit.ensures.chosen c.in_default.is)) }
+    let made_long : length c.least.new.labels ≡ length c.args.used.now = c.least.auto.labels ∙ c.loop-x.invariant.1 in
+    let made_least : Least (graph_of c.args.star.now c.args.weights.now) c.loop-x.used c.args.goal c.least.new.labels = c.least.ensures in
+    let made_exact : Exact (graph_of c.args.star.now c.args.weights.now) c.args.goal c.least.new.labels (take c.loop-x.len c.loop-x.path) = network_exact network made_long made_least c.loop-x.invariant.0.longer.laid.flagged (unflagged c.loop-x.invariant.0.longer.laid.flagged _ (c.loop-x.invariant.0.goal_ahead c.loop-x-test.true)) in
+    record { longer = c.loop-x.invariant.0.longer; by_index = λ s p k. absurd (stepping_stuck c.loop-x.invariant.0 (c.loop-x.invariant.2 s p k) c.loop-x-test.true made_exact (chosen_nothing c.least_exit.ensures.chosen c.in_default.is)) }
 
 pub loop-x-smaller : goal.loop-x-smaller
 loop-x-smaller c =
@@ -56,19 +47,23 @@ loop-x-smaller c =
 
 pub loop-x-preserved : goal.loop-x-preserved
 loop-x-preserved c =
-    let made_least : Least (graph_of c.args.star.now c.args.weights.now) c.loop-x.used c.args.goal c.least.new.labels = c.least.ensures in
-    let network : Network (length c.args.used.now) c.args.star.now c.args.weights.now = c.requires.network in
-    let usable : Fresh (length c.args.used.now) c.loop-x.used c.in-Node.y = rw made_long at (usable_node c.least_exit.ensures.usable c.in-Node.is) in
-    let made_exact : Exact (graph_of c.args.star.now c.args.weights.now) c.args.goal c.least.new.labels (take c.loop-x.len c.loop-x.path) = let S = c.loop-x.invariant.0 in network_exact network made_long made_least S.longer.laid.flagged (unflagged S.longer.laid.flagged _ (S.goal_ahead c.loop-x-test.true)) in
     let made_long : length c.least.new.labels ≡ length c.args.used.now = c.least.auto.labels ∙ c.loop-x.invariant.1 in
-    let i = c.loop-x.invariant in
-    let n = c.loop-x-test.true in (
-      stepping_more n usable i.0,
+    let network : Network (length c.args.used.now) c.args.star.now c.args.weights.now = c.requires.network in
+    let made_least : Least (graph_of c.args.star.now c.args.weights.now) c.loop-x.used c.args.goal c.least.new.labels = c.least.ensures in
+    let made_exact : Exact (graph_of c.args.star.now c.args.weights.now) c.args.goal c.least.new.labels (take c.loop-x.len c.loop-x.path) = network_exact network made_long made_least c.loop-x.invariant.0.longer.laid.flagged (unflagged c.loop-x.invariant.0.longer.laid.flagged _ (c.loop-x.invariant.0.goal_ahead c.loop-x-test.true)) in
+    let usable : Fresh (length c.args.used.now) c.loop-x.used c.in-Node.y = rw made_long at (usable_node c.least_exit.ensures.usable c.in-Node.is) in (
+      stepping_more c.loop-x-test.true usable c.loop-x.invariant.0,
       made_long,
-      λ s p k. stepping_onward i.0 (i.2 s p k) n made_exact usable (chosen_node c.least_exit.ensures.chosen c.in-Node.is),
+      λ s p k. stepping_onward c.loop-x.invariant.0 (c.loop-x.invariant.2 s p k) c.loop-x-test.true made_exact usable (chosen_node c.least_exit.ensures.chosen c.in-Node.is),
     )
 
 pub returns : goal.returns
 returns c =
-    let i = c.loop-x.invariant in
-    record { longer = i.0.longer; by_index = λ s p k. stepping_end i.0 (i.2 s p k) c.loop-x-test.false }
+    record { longer = c.loop-x.invariant.0.longer; by_index = λ s p k. stepping_end c.loop-x.invariant.0 (c.loop-x.invariant.2 s p k) c.loop-x-test.false }
+
+pub bounds-path-len : goal.bounds-path-len
+bounds-path-len c =
+    let made_long : length c.least.new.labels ≡ length c.args.used.now = c.least.auto.labels ∙ c.loop-x.invariant.1 in
+    let usable : Fresh (length c.args.used.now) c.loop-x.used c.in-Node.y = rw made_long at (usable_node c.least_exit.ensures.usable c.in-Node.is) in
+    let room : c.loop-x.len < length c.loop-x.path = laid_room c.loop-x.invariant.0.longer.laid usable in
+    room

@@ -1,7 +1,8 @@
 -- `walk::unmark` takes the last node off the path until `from` are left. The loop: the first i nodes are laid out. Assumes nothing.
 use mathlib.Core.Path.{◌≡◌}
+use Prim.Native.Nat.{◌-◌}
 use native.Mathlib.Omega.{arith}
-use Rattle.branching.proofs.LaidLaws.{laid_less}
+use Rattle.branching.proofs.LaidLaws.{laid_less, laid_place}
 use Rattle.branching.proofs.walk.unmark.Goals as goal
 
 pub loop-i-init : goal.loop-i-init
@@ -14,3 +15,6 @@ pub returns : goal.returns
 returns c =
     let e : c.loop-i.i ≡ c.args.from = omega arith in
     rw e at c.loop-i.invariant.2
+
+pub bounds-used-path : goal.bounds-used-path
+bounds-used-path c = omega (arith, laid_place (c.loop-i.i - 1) (omega arith) c.loop-i.invariant.2, c.loop-i.invariant.2.flags_long)

@@ -12,19 +12,15 @@ use Rattle.branching.proofs.LaidLaws.{take_more, walking_start, walking_step, wa
 use Rattle.branching.proofs.walk.walk.Goals as goal
 
 pub loop-x-init : goal.loop-x-init
-loop-x-init c =
-    let l = c.requires.laid.0 in
-    (omega arith, refl, refl, l, laid_place (c.args.at - 1) (omega arith) l, λ r. (walking_start, r))
+loop-x-init c = (omega arith, refl, refl, c.requires.laid.0, laid_place (c.args.at - 1) (omega arith) c.requires.laid.0, λ r. (walking_start, r))
 
 pub tight_exit-requires : goal.tight_exit-requires
 tight_exit-requires c =
-    let p = c.requires in
-    record { network = (p.0, c.loop-x.invariant.4); used_len = c.loop-x.invariant.3.flags_long }
+    record { network = (c.requires.network, c.loop-x.invariant.4); used_len = c.loop-x.invariant.3.flags_long }
 
 pub returns-in_default : goal.returns-in_default
 returns-in_default c =
-    let i = c.loop-x.invariant in
-    record { longer = record { no_shorter = i.0; laid = i.3; kept = i.2 }; arrives = λ r e. clash e refl }
+    record { longer = record { no_shorter = c.loop-x.invariant.0; laid = c.loop-x.invariant.3; kept = c.loop-x.invariant.2 }; arrives = λ r e. clash e refl }
 
 pub loop-x-smaller : goal.loop-x-smaller
 loop-x-smaller c =
@@ -34,23 +30,27 @@ loop-x-smaller c =
 
 pub loop-x-preserved : goal.loop-x-preserved
 loop-x-preserved c =
-    let room : c.loop-x.len < length c.loop-x.path = laid_room c.loop-x.invariant.3 usable in
     let usable : Fresh (length c.args.labels.now) c.loop-x.used c.in-Node.y = usable_node c.tight_exit.ensures.usable c.in-Node.is in
-    let i = c.loop-x.invariant in
+    let room : c.loop-x.len < length c.loop-x.path = laid_room c.loop-x.invariant.3 usable in
     let u = usable in
     let e = take_more c.loop-x.path c.loop-x.len c.in-Node.y room in (
-      omega (arith, i.0),
-      simp length-set i.1,
-      take-set-le _ _ _ c.in-Node.y i.0 ∙ i.2,
-      laid_more i.3 u,
+      omega (arith, c.loop-x.invariant.0),
+      simp length-set c.loop-x.invariant.1,
+      take-set-le _ _ _ c.in-Node.y c.loop-x.invariant.0 ∙ c.loop-x.invariant.2,
+      laid_more c.loop-x.invariant.3 u,
       u.upto,
       λ r.
-          let w = i.5 r in
+          let w = c.loop-x.invariant.5 r in
           let t = stepped_node (c.tight_exit.ensures.stepped w.1) c.in-Node.is in
-          (rw e (walking_step i.3.flagged c.loop-x-test.true t w.0), t.exit.reached),
+          (rw e (walking_step c.loop-x.invariant.3.flagged c.loop-x-test.true t w.0), t.exit.reached),
     )
 
 pub returns : goal.returns
 returns c =
-    let i = c.loop-x.invariant in
-    record { longer = record { no_shorter = i.0; laid = i.3; kept = i.2 }; arrives = λ r e. walking_end c.loop-x-test.false (i.5 r).0 }
+    record { longer = record { no_shorter = c.loop-x.invariant.0; laid = c.loop-x.invariant.3; kept = c.loop-x.invariant.2 }; arrives = λ r e. walking_end c.loop-x-test.false (c.loop-x.invariant.5 r).0 }
+
+pub bounds-path-len : goal.bounds-path-len
+bounds-path-len c =
+    let usable : Fresh (length c.args.labels.now) c.loop-x.used c.in-Node.y = usable_node c.tight_exit.ensures.usable c.in-Node.is in
+    let room : c.loop-x.len < length c.loop-x.path = laid_room c.loop-x.invariant.3 usable in
+    room

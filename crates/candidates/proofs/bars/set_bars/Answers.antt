@@ -52,7 +52,7 @@ loop-n-preserved c =
     let parent_is : (c.parent_at-parent.result ≡ 0 → ⊥) → (entry_at c.args.n c.args.work.now c.loop-n.p).parent ≡ c.parent_at-parent.result - 1 + 1 = λ d. sym c.parent_at-parent.ensures ∙ (omega arith) in
     let r = c.parent_at-parent.result - 1 in
     let z = parent_is c.if-parent-eq0.false in
- let d : c.args.at ≡ (entry_at c.args.n c.args.work.now c.loop-n.p).shared = omega (arith, c.shared_at-shared.ensures) in (
+    let d : c.args.at ≡ (entry_at c.args.n c.args.work.now c.loop-n.p).shared = omega (arith, c.shared_at-shared.ensures) in (
       simp length-set c.loop-n.invariant.0,
       omega (arith, parent_lower c.args.n c.args.work.now c.loop-n.p c.loop-n.invariant.2 r z),
       parent_rooted c.args.n c.args.work.now c.loop-n.p c.loop-n.invariant.2 r z,

@@ -15,8 +15,7 @@ pub lay_out-requires : goal.lay_out-requires
 lay_out-requires t c =
     let root : Rooted c.args.n c.args.work.now c.args.place = c.requires.rooted in
     let r : ℕ = c.parent_at-parent.result - 1 in
-    let z : (entry_at c.args.n c.args.work.now c.args.place).parent ≡ c.parent_at-parent.result - 1 + 1 = sym c.parent_at-parent.ensures ∙ (omega arith) in
-    (
+    let z : (entry_at c.args.n c.args.work.now c.args.place).parent ≡ c.parent_at-parent.result - 1 + 1 = sym c.parent_at-parent.ensures ∙ (omega arith) in (
       omega (arith, c.decreases, parent_lower c.args.n c.args.work.now c.args.place root r z),
       (
         parent_rooted c.args.n c.args.work.now c.args.place root r z,
@@ -34,12 +33,12 @@ returns t c =
     let first : List ℕ = taken c.args.n c.args.work.now c.args.place root c.args.start in
     let k : ℕ = min c.shared_at-shared.result c.args.count in
     let began : c.if-parent-eq0.path ≡ take k first ++ drop k c.args.path.now = elim c.if-parent-eq0.branch [
-      then-parent-eq0 w ↦
-        let z = sym c.parent_at-parent.ensures ∙ w.if-parent-eq0.true in
-        w.path-is ∙ start_laid c.args.start c.shared_at-shared.result c.args.count first c.args.path.now (taken_start c.args.n c.args.work.now c.args.place root c.args.start z) (same ∙ (rooted_fits c.args.n c.args.work.now c.args.place root).from_start z) c.requires.le_count.0 (omega arith)
-    | else-parent-eq0 w ↦
-        let z : (entry_at c.args.n c.args.work.now c.args.place).parent ≡ c.parent_at-parent.result - 1 + 1 = sym c.parent_at-parent.ensures ∙ (omega (arith, w.if-parent-eq0.false)) in
-        w.path-is ∙ parent_laid c.shared_at-shared.result c.args.count w.smaller.result first (route_at c.args.start c.args.n c.args.work.now (c.parent_at-parent.result - 1)) c.args.path.now _ (taken_parent c.args.n c.args.work.now c.args.place root c.args.start (c.parent_at-parent.result - 1) z ∙ ap (λ (x : ℕ). take x (route_at c.args.start c.args.n c.args.work.now (c.parent_at-parent.result - 1))) (sym same)) w.smaller.ensures w.lay_out.ensures
+      | then-parent-eq0 w ↦
+          let z = sym c.parent_at-parent.ensures ∙ w.if-parent-eq0.true in
+          w.path-is ∙ start_laid c.args.start c.shared_at-shared.result c.args.count first c.args.path.now (taken_start c.args.n c.args.work.now c.args.place root c.args.start z) (same ∙ (rooted_fits c.args.n c.args.work.now c.args.place root).from_start z) c.requires.le_count.0 (omega arith)
+      | else-parent-eq0 w ↦
+          let z : (entry_at c.args.n c.args.work.now c.args.place).parent ≡ c.parent_at-parent.result - 1 + 1 = sym c.parent_at-parent.ensures ∙ (omega (arith, w.if-parent-eq0.false)) in
+          w.path-is ∙ parent_laid c.shared_at-shared.result c.args.count w.smaller.result first (route_at c.args.start c.args.n c.args.work.now (c.parent_at-parent.result - 1)) c.args.path.now _ (taken_parent c.args.n c.args.work.now c.args.place root c.args.start (c.parent_at-parent.result - 1) z ∙ ap (λ (x : ℕ). take x (route_at c.args.start c.args.n c.args.work.now (c.parent_at-parent.result - 1))) (sym same)) w.smaller.ensures w.lay_out.ensures
     ] in
     c.lay_tail.ensures
     ∙ both_laid c.shared_at-shared.result c.args.count first (entry_at c.args.n c.args.work.now c.args.place).tail c.args.path.now c.if-parent-eq0.path (taken_length c.args.n c.args.work.now c.args.place root c.args.start ∙ sym same) began

@@ -24,5 +24,5 @@ nodes_before-requires c =
 pub returns : goal.returns
 returns c =
     let r = route_at c.args.start c.args.n c.args.work.now c.args.place in
- let laid : take c.length_at-count.result c.lay_out.new.path ≡ r = all_laid c.length_at-count.result r c.args.scratch.now c.lay_out.new.path (c.length_at-count.ensures ∙ sym (route_size c.args.n c.args.work.now c.args.place c.requires.0 c.args.start)) c.lay_out.ensures in
+    let laid : take c.length_at-count.result c.lay_out.new.path ≡ r = all_laid c.length_at-count.result r c.args.scratch.now c.lay_out.new.path (c.length_at-count.ensures ∙ sym (route_size c.args.n c.args.work.now c.args.place c.requires.0 c.args.start)) c.lay_out.ensures in
     c.nodes_before.ensures ∙ ap (λ (l : List ℕ). lex l c.args.route.now) laid

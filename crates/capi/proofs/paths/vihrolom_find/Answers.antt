@@ -5,5 +5,4 @@ use Rattle.capi.proofs.paths.vihrolom_find.Goals as goal
 
 pub returns : goal.returns
 returns c =
-    let e = c.find-answer.ensures in
-    record { result_value = c.of_found.ensures ∙ ap reply_of e.0; finds_arc = e.1 }
+    record { result_value = c.of_found.ensures ∙ ap reply_of c.find-answer.ensures.result_value; finds_arc = c.find-answer.ensures.finds_arc }

@@ -5,5 +5,4 @@ use Rattle.capi.proofs.weeks.vihrolom_week_event.Goals as goal
 
 pub returns : goal.returns
 returns c =
-    let e = c.event-answer.ensures in
-    record { result_value = c.of_weekly.ensures.result_value ∙ ap week_reply_of e.1.0; week_value = c.of_weekly.ensures.week_value ∙ e.0; work_after = e.1.1 }
+    record { result_value = c.of_weekly.ensures.result_value ∙ ap week_reply_of c.event-answer.ensures.tally_value; week_value = c.of_weekly.ensures.week_value ∙ c.event-answer.ensures.week_value; work_after = c.event-answer.ensures.work_after }

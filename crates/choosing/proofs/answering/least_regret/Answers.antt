@@ -17,32 +17,29 @@ use Rattle.choosing.proofs.answering.least_regret.Goals as goal
 
 pub search-found-requires : goal.search-found-requires
 search-found-requires c =
-    let p = c.requires in
-    record { problem = p.0; priced = p.1.0; in_column = p.1.1.0; le_wanted = p.1.1.1.0 }
+    record { problem = c.requires.problem; priced = c.requires.priced; in_column = c.requires.in_column; le_wanted = c.requires.le_wanted }
 
 pub lay_out-requires : goal.lay_out-requires
 lay_out-requires c =
-    let short : c.length_at-length.result ≤ c.args.task.n = omega (arith, c.length_at-length.ensures, fits.short) in
+    let decided : Decided c.args.task.n c.args.task.start c.search-found.new.work (robust_over (network c.args.task.n (length c.args.weights.now) (length c.args.bests.now) c.args.star.now c.args.costs.now) c.args.bests.now c.args.task.column c.args.task.start c.args.task.goal c.args.task.wanted) c.search-found.result = c.search-found.ensures.decided in
     let fits : Fits c.args.task.n (entries c.args.task.n c.search-found.new.work (c.search-found.result.place + 1)) c.search-found.result.place (entry_at c.args.task.n c.search-found.new.work c.search-found.result.place) = rooted_fits c.args.task.n c.search-found.new.work c.search-found.result.place decided.rooted in
-    let decided : Decided c.args.task.n c.args.task.c.search.new.1.1.1.1.1.1.0 (robust_over (network c.args.task.n (length c.args.weights.now) (length c.args.bests.now) c.args.star.now c.args.costs.now) c.args.bests.now c.args.task.column c.args.task.c.args.task.goal c.args.task.wanted) c.search-found.result = c.search-found.ensures.decided in
+    let short : c.length_at-length.result ≤ c.args.task.n = omega (arith, c.length_at-length.ensures, fits.short) in
     record { rooted = decided.rooted; le_count = (omega (arith, c.length_at-length.ensures, fits.some), omega (arith, c.length_at-length.ensures), omega (arith, short, c.requires.n_in_bounds)) }
 
 pub state-requires : goal.state-requires
 state-requires c =
+    let decided : Decided c.args.task.n c.args.task.start c.search-found.new.work (robust_over (network c.args.task.n (length c.args.weights.now) (length c.args.bests.now) c.args.star.now c.args.costs.now) c.args.bests.now c.args.task.column c.args.task.start c.args.task.goal c.args.task.wanted) c.search-found.result = c.search-found.ensures.decided in
     let fits : Fits c.args.task.n (entries c.args.task.n c.search-found.new.work (c.search-found.result.place + 1)) c.search-found.result.place (entry_at c.args.task.n c.search-found.new.work c.search-found.result.place) = rooted_fits c.args.task.n c.search-found.new.work c.search-found.result.place decided.rooted in
     let short : c.length_at-length.result ≤ c.args.task.n = omega (arith, c.length_at-length.ensures, fits.short) in
-    let decided : Decided c.args.task.n c.args.task.c.search.new.1.1.1.1.1.1.0 (robust_over (network c.args.task.n (length c.args.weights.now) (length c.args.bests.now) c.args.star.now c.args.costs.now) c.args.bests.now c.args.task.column c.args.task.c.args.task.goal c.args.task.wanted) c.search-found.result = c.search-found.ensures.decided in
     let D = decided in
     (D.figure_small, D.floor_small, D.count_small, omega (arith, short, D.rooted.readable.few))
 
 pub returns : goal.returns
 returns c =
-    let long : c.length_at-length.result ≡ length (route_at c.args.task.c.args.task.n c.search-found.new.work c.search-found.result.place) = c.length_at-length.ensures ∙ sym (route_size c.args.task.n c.search-found.new.work c.search-found.result.place decided.rooted c.args.task.start) in
+    let decided : Decided c.args.task.n c.args.task.start c.search-found.new.work (robust_over (network c.args.task.n (length c.args.weights.now) (length c.args.bests.now) c.args.star.now c.args.costs.now) c.args.bests.now c.args.task.column c.args.task.start c.args.task.goal c.args.task.wanted) c.search-found.result = c.search-found.ensures.decided in
     let fits : Fits c.args.task.n (entries c.args.task.n c.search-found.new.work (c.search-found.result.place + 1)) c.search-found.result.place (entry_at c.args.task.n c.search-found.new.work c.search-found.result.place) = rooted_fits c.args.task.n c.search-found.new.work c.search-found.result.place decided.rooted in
-    let behind : c.lay_out.new.path ≡ take c.length_at-length.result c.lay_out.new.path ++ drop c.length_at-length.result c.args.route.now = behind_laid c.length_at-length.result (route_at c.args.task.c.args.task.n c.search-found.new.work c.search-found.result.place) c.args.route.now c.lay_out.new.path long.lay-out.ensures in
-    let laid : take c.length_at-length.result c.lay_out.new.path ≡ (route_at c.args.task.c.args.task.n c.search-found.new.work c.search-found.result.place) = all_laid c.length_at-length.result (route_at c.args.task.c.args.task.n c.search-found.new.work c.search-found.result.place) c.args.route.now c.lay_out.new.path long.lay-out.ensures in
     let short : c.length_at-length.result ≤ c.args.task.n = omega (arith, c.length_at-length.ensures, fits.short) in
-    let decided : Decided c.args.task.n c.args.task.c.search.new.1.1.1.1.1.1.0 (robust_over (network c.args.task.n (length c.args.weights.now) (length c.args.bests.now) c.args.star.now c.args.costs.now) c.args.bests.now c.args.task.column c.args.task.c.args.task.goal c.args.task.wanted) c.search-found.result = c.search-found.ensures.decided in
-    let E = c.search-found.ensures in
-    let S = c.state.ensures in
-    record { work_unchanged = E.0; result_after = S.1 _ ∙ ap (λ (p : Route). told p c.search-found.result) (ap (λ (i : ℕ). take i c.lay_out.new.path) S.0 ∙ laid) ∙ decided.answers; route_after = (subst (λ (i : ℕ). c.lay_out.new.path ≡ take i c.lay_out.new.path ++ drop i c.args.route.now) (sym S.0) behind, omega (arith, S.0, short)) }
+    let long : c.length_at-length.result ≡ length (route_at c.args.task.start c.args.task.n c.search-found.new.work c.search-found.result.place) = c.length_at-length.ensures ∙ sym (route_size c.args.task.n c.search-found.new.work c.search-found.result.place decided.rooted c.args.task.start) in
+    let laid : take c.length_at-length.result c.lay_out.new.path ≡ (route_at c.args.task.start c.args.task.n c.search-found.new.work c.search-found.result.place) = all_laid c.length_at-length.result (route_at c.args.task.start c.args.task.n c.search-found.new.work c.search-found.result.place) c.args.route.now c.lay_out.new.path long c.lay_out.ensures in
+    let behind : c.lay_out.new.path ≡ take c.length_at-length.result c.lay_out.new.path ++ drop c.length_at-length.result c.args.route.now = behind_laid c.length_at-length.result (route_at c.args.task.start c.args.task.n c.search-found.new.work c.search-found.result.place) c.args.route.now c.lay_out.new.path long c.lay_out.ensures in
+    record { work_unchanged = c.search-found.ensures.work_unchanged; result_after = c.state.ensures.1 _ ∙ ap (λ (p : Route). told p c.search-found.result) (ap (λ (i : ℕ). take i c.lay_out.new.path) c.state.ensures.0 ∙ laid) ∙ decided.answers; route_after = (subst (λ (i : ℕ). c.lay_out.new.path ≡ take i c.lay_out.new.path ++ drop i c.args.route.now) (sym c.state.ensures.0) behind, omega (arith, c.state.ensures.0, short)) }

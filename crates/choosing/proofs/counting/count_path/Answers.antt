@@ -10,8 +10,7 @@ use Rattle.choosing.proofs.counting.count_path.Goals as goal
 
 pub measure_at-found-requires : goal.measure_at-found-requires
 measure_at-found-requires c =
-    let p = c.requires in
-    record { priced = p.0; ends = (p.1.0, omega (arith, columns_nodes p.0.columns)); rooted = p.1.1 }
+    record { priced = c.requires.priced; ends = (c.requires.ends, omega (arith, columns_nodes c.requires.priced.columns)); rooted = c.requires.rooted }
 
 pub returns-then-found-limit : goal.returns-then-found-limit
 returns-then-found-limit c =

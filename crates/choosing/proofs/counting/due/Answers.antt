@@ -16,12 +16,12 @@ cost_at-requires c =
 
 pub returns-then-figure-deviation : goal.returns-then-figure-deviation
 returns-then-figure-deviation c =
-    let most : c.args.best ≤ c.cost_at.result = omega (arith, c.cost_at.ensures, c.requires.best_bound inside) in
     let inside : c.args.place < c.args.count = omega (arith, c.if-place-count.false, c.requires.readable.1) in
+    let most : c.args.best ≤ c.cost_at.result = omega (arith, c.cost_at.ensures, c.requires.best_bound inside) in
     Outlook.late inside (omega (arith, c.if-figure-deviation.true, c.cost_at.ensures, most))
 
 pub returns : goal.returns
 returns c =
-    let most : c.args.best ≤ c.cost_at.result = omega (arith, c.cost_at.ensures, c.requires.best_bound inside) in
     let inside : c.args.place < c.args.count = omega (arith, c.if-place-count.false, c.requires.readable.1) in
+    let most : c.args.best ≤ c.cost_at.result = omega (arith, c.cost_at.ensures, c.requires.best_bound inside) in
     outlook_last inside (omega (arith, c.if-figure-deviation.false, c.cost_at.ensures, most))

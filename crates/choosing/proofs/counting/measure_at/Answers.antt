@@ -18,23 +18,22 @@ use Rattle.choosing.proofs.counting.measure_at.Goals as goal
 
 pub lay_out-requires : goal.lay_out-requires
 lay_out-requires c =
-    let short : c.length_at-len.result ≤ c.args.task.n = omega (arith, c.length_at-len.ensures, fits.short) in
     let fits : Fits c.args.task.n (entries c.args.task.n c.args.work.now (c.args.rank + 1)) c.args.rank (entry_at c.args.task.n c.args.work.now c.args.rank) = rooted_fits c.args.task.n c.args.work.now c.args.rank c.requires.rooted.0 in
+    let short : c.length_at-len.result ≤ c.args.task.n = omega (arith, c.length_at-len.ensures, fits.short) in
     record { rooted = c.requires.rooted.0; le_count = (omega (arith, c.length_at-len.ensures, fits.some), omega (arith, c.length_at-len.ensures), omega (arith, short, c.requires.ends.1)) }
 
 pub measure-requires : goal.measure-requires
 measure-requires c =
-    let long : c.length_at-len.result ≡ length (route_at c.args.task.c.args.task.n c.args.work.now c.args.rank) = c.length_at-len.ensures ∙ sym (route_size c.args.task.n c.args.work.now c.args.rank c.requires.rooted.0 c.args.task.start) in
-    let laid : take c.length_at-len.result c.lay_out.new.path ≡ (route_at c.args.task.c.args.task.n c.args.work.now c.args.rank) = all_laid c.length_at-len.result (route_at c.args.task.c.args.task.n c.args.work.now c.args.rank) c.args.path.now c.lay_out.new.path long.lay-out.ensures in
-    let is_path : Path (column (network c.args.task.n c.args.m (length c.args.bests.now) c.args.star.now c.args.costs.now) 1) c.args.task.c.args.task.goal (route_at c.args.task.c.args.task.n c.args.work.now c.args.rank) = c.requires.rooted.1 in
-    let laid_path : Path (column (network c.args.task.n c.args.m (length c.args.bests.now) c.args.star.now c.args.costs.now) 1) c.args.task.c.args.task.goal (take c.length_at-len.result c.lay_out.new.path) = subst (Path (column (network c.args.task.n c.args.m (length c.args.bests.now) c.args.star.now c.args.costs.now) 1) c.args.task.c.args.task.goal) (sym laid) is_path in
-    let priced : Priced c.args.task.n c.args.m c.args.task.c.args.task.goal c.args.star.now c.args.costs.now c.args.bests.now = c.requires.priced in
-    let ends = c.requires.ends.0 in
-    let both = measurable priced ends.start_from (omega (arith, ends.start_place)) ends.apart laid_path in
+    let priced : Priced c.args.task.n c.args.m c.args.task.start c.args.task.goal c.args.star.now c.args.costs.now c.args.bests.now = c.requires.priced in
+    let is_path : Path (column (network c.args.task.n c.args.m (length c.args.bests.now) c.args.star.now c.args.costs.now) 1) c.args.task.start c.args.task.goal (route_at c.args.task.start c.args.task.n c.args.work.now c.args.rank) = c.requires.rooted.1 in
+    let long : c.length_at-len.result ≡ length (route_at c.args.task.start c.args.task.n c.args.work.now c.args.rank) = c.length_at-len.ensures ∙ sym (route_size c.args.task.n c.args.work.now c.args.rank c.requires.rooted.0 c.args.task.start) in
+    let laid : take c.length_at-len.result c.lay_out.new.path ≡ (route_at c.args.task.start c.args.task.n c.args.work.now c.args.rank) = all_laid c.length_at-len.result (route_at c.args.task.start c.args.task.n c.args.work.now c.args.rank) c.args.path.now c.lay_out.new.path long c.lay_out.ensures in
+    let laid_path : Path (column (network c.args.task.n c.args.m (length c.args.bests.now) c.args.star.now c.args.costs.now) 1) c.args.task.start c.args.task.goal (take c.length_at-len.result c.lay_out.new.path) = subst (Path (column (network c.args.task.n c.args.m (length c.args.bests.now) c.args.star.now c.args.costs.now) 1) c.args.task.start c.args.task.goal) (sym laid) is_path in
+    let both = measurable priced c.requires.ends.0.start_from (omega (arith, c.requires.ends.0.start_place)) c.requires.ends.0.apart laid_path in
     record { columns = both.0; by_arcs = both.1.0; in_bounds = both.1.1.0; by_index = both.1.1.1 }
 
 pub returns : goal.returns
 returns c =
-    let long : c.length_at-len.result ≡ length (route_at c.args.task.c.args.task.n c.args.work.now c.args.rank) = c.length_at-len.ensures ∙ sym (route_size c.args.task.n c.args.work.now c.args.rank c.requires.rooted.0 c.args.task.start) in
-    let laid : take c.length_at-len.result c.lay_out.new.path ≡ (route_at c.args.task.c.args.task.n c.args.work.now c.args.rank) = all_laid c.length_at-len.result (route_at c.args.task.c.args.task.n c.args.work.now c.args.rank) c.args.path.now c.lay_out.new.path long.lay-out.ensures in
-    subst (λ p. Measured c.args.limit (figure_over (network c.args.task.n c.args.m (length c.args.bests.now) c.args.star.now c.args.costs.now) c.args.bests.now p) (worst_over (network c.args.task.n c.args.m (length c.args.bests.now) c.args.star.now c.args.costs.now) c.args.bests.now p) c.measure.result.figure c.measure.result.worst) laid.measure.ensures
+    let long : c.length_at-len.result ≡ length (route_at c.args.task.start c.args.task.n c.args.work.now c.args.rank) = c.length_at-len.ensures ∙ sym (route_size c.args.task.n c.args.work.now c.args.rank c.requires.rooted.0 c.args.task.start) in
+    let laid : take c.length_at-len.result c.lay_out.new.path ≡ (route_at c.args.task.start c.args.task.n c.args.work.now c.args.rank) = all_laid c.length_at-len.result (route_at c.args.task.start c.args.task.n c.args.work.now c.args.rank) c.args.path.now c.lay_out.new.path long c.lay_out.ensures in
+    subst (λ p. Measured c.args.limit (figure_over (network c.args.task.n c.args.m (length c.args.bests.now) c.args.star.now c.args.costs.now) c.args.bests.now p) (worst_over (network c.args.task.n c.args.m (length c.args.bests.now) c.args.star.now c.args.costs.now) c.args.bests.now p) c.measure.result.figure c.measure.result.worst) laid c.measure.ensures

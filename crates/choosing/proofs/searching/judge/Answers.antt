@@ -16,12 +16,12 @@ cost_at-next-requires c =
 
 pub returns-then-figure-deviation : goal.returns-then-figure-deviation
 returns-then-figure-deviation c =
-    let most : c.args.best ≤ c.cost_at-next.result = omega (arith, c.cost_at-next.ensures, c.requires.best_bound inside) in
     let inside : c.args.counted < c.args.count = omega (arith, c.if-counted-count.false, c.requires.readable.1) in
+    let most : c.args.best ≤ c.cost_at-next.result = omega (arith, c.cost_at-next.ensures, c.requires.best_bound inside) in
     record { place_is = refl; figure_is = refl; worst_is = refl; count_is = refl; ended = Ended.late inside (omega (arith, c.if-figure-deviation.true, c.cost_at-next.ensures, most)) refl }
 
 pub returns : goal.returns
 returns c =
-    let most : c.args.best ≤ c.cost_at-next.result = omega (arith, c.cost_at-next.ensures, c.requires.best_bound inside) in
     let inside : c.args.counted < c.args.count = omega (arith, c.if-counted-count.false, c.requires.readable.1) in
+    let most : c.args.best ≤ c.cost_at-next.result = omega (arith, c.cost_at-next.ensures, c.requires.best_bound inside) in
     record { place_is = refl; figure_is = refl; worst_is = refl; count_is = refl; ended = Ended.more inside (omega (arith, c.if-figure-deviation.false, c.cost_at-next.ensures, most)) (omega (arith, c.cost_at-next.ensures)) }

@@ -4,5 +4,4 @@ use Rattle.column_calls.proofs.first_path.find.Goals as goal
 
 pub find_in-requires : goal.find_in-requires
 find_in-requires c =
-    let p = c.requires in
-    record { accepted = p.0; room = local_room p.0.0; route_len = p.1 }
+    record { accepted = c.requires.accepted; room = local_room c.requires.accepted.0; route_len = c.requires.route_len }

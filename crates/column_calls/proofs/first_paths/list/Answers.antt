@@ -6,5 +6,4 @@ use Rattle.column_calls.proofs.first_paths.list.Goals as goal
 
 pub list_in-requires : goal.list_in-requires
 list_in-requires c =
-    let p = c.requires in
-    record { accepted = p.0; n_value = (refl, refl, local_room p.0.0); list_slices = slices_for p.0.0.nodes_are p.1 }
+    record { accepted = c.requires.accepted; n_value = (refl, refl, local_room c.requires.accepted.0); list_slices = slices_for c.requires.accepted.0.nodes_are c.requires.list_slices }

@@ -9,13 +9,8 @@ use Rattle.column_calls.proofs.first_paths.list_loaded.Goals as goal
 
 pub write_rows-requires : goal.write_rows-requires
 write_rows-requires c =
-    let R = c.rank_paths-count.ensures in
-    let p = c.requires in
-    record { readable = (kept_readable R.kept, R.entered.family); n_in_bounds = entry_room R p.1.0; by_index = entry_costs R p.1.1 }
+    record { readable = (kept_readable c.rank_paths-count.ensures.kept, c.rank_paths-count.ensures.entered.family); n_in_bounds = entry_room c.rank_paths-count.ensures c.requires.list_slices; by_index = entry_costs c.rank_paths-count.ensures c.requires.p_bound }
 
 pub returns : goal.returns
 returns c =
-    let R = c.rank_paths-count.ensures in
-    let p = c.requires in
-    let o = c.write_rows in
-    record { value = ranked_count R; rows_after = entry_rows R _ (entry_room R p.1.0).0 o.auto.1.1.1.1.0 o.ensures.0; costs_after = entry_costs_out R _ o.ensures.1; work_after = c.clear.ensures ∙ ap (λ (k : ℕ). replicate k 0) c.rank_paths-count.auto.work }
+    record { value = ranked_count c.rank_paths-count.ensures; rows_after = entry_rows c.rank_paths-count.ensures _ (entry_room c.rank_paths-count.ensures c.requires.list_slices).0 c.write_rows.auto.rows c.write_rows.ensures.rows_after; costs_after = entry_costs_out c.rank_paths-count.ensures _ c.write_rows.ensures.costs_after; work_after = c.clear.ensures ∙ ap (λ (k : ℕ). replicate k 0) c.rank_paths-count.auto.work }

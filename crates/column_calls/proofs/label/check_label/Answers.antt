@@ -2,7 +2,6 @@
 use mathlib.Core.Path.{◌≡◌, sym, ◌∙◌, ap}
 use mathlib.Core.Bool.{true, ◌&&◌}
 use lib.Dec.{leb}
-use borrow.Author.Tests.{not-true, not-false}
 use Rattle.image.specs.Outcome.{gives}
 use Rattle.image.specs.Rows.{is_node}
 use Rattle.image.specs.Answers.{checked}
@@ -19,25 +18,25 @@ returns-in_default c = refused_first _ _ _ (ap checked c.in_default.is) c.check-
 pub returns-then-not-is_node : goal.returns-then-not-is_node
 returns-then-not-is_node c =
     let known : Accepted c.args.image.now c.in-Network.sizes = given_network (sym (ap checked c.in-Network.is) ∙ c.check-answer.ensures) in
-    sym (outcome_fault _ (no_goal known _ _ _ (sym c.is_node.ensures ∙ not-true _ c.if-not-is_node.true)))
+    sym (outcome_fault _ (no_goal known _ _ _ (sym c.is_node.ensures ∙ c.if-not-is_node.true)))
 
 pub returns-then-not-is_column : goal.returns-then-not-is_column
 returns-then-not-is_column c =
-    let goal_right : is_node c.in-Network.sizes.n c.args.goal ≡ true = sym c.is_node.ensures ∙ not-false _ c.if-not-is_node.false in
     let known : Accepted c.args.image.now c.in-Network.sizes = given_network (sym (ap checked c.in-Network.is) ∙ c.check-answer.ensures) in
-    sym (outcome_fault _ (no_column known _ _ _ goal_right (sym c.is_column.ensures ∙ not-true _ c.if-not-is_column.true)))
+    let goal_right : is_node c.in-Network.sizes.n c.args.goal ≡ true = sym c.is_node.ensures ∙ c.if-not-is_node.false in
+    sym (outcome_fault _ (no_column known _ _ _ goal_right (sym c.is_column.ensures ∙ c.if-not-is_column.true)))
 
 pub returns-then-room-sizes : goal.returns-then-room-sizes
 returns-then-room-sizes c =
-    let column_right : (leb 1 c.args.column && leb c.args.column c.in-Network.sizes.k) ≡ true = sym c.is_column.ensures ∙ not-false _ c.if-not-is_column.false in
-    let goal_right : is_node c.in-Network.sizes.n c.args.goal ≡ true = sym c.is_node.ensures ∙ not-false _ c.if-not-is_node.false in
     let known : Accepted c.args.image.now c.in-Network.sizes = given_network (sym (ap checked c.in-Network.is) ∙ c.check-answer.ensures) in
-    sym (outcome_fault _ (no_room known _ _ _ goal_right column_right.if3.true))
+    let goal_right : is_node c.in-Network.sizes.n c.args.goal ≡ true = sym c.is_node.ensures ∙ c.if-not-is_node.false in
+    let column_right : (leb 1 c.args.column && leb c.args.column c.in-Network.sizes.k) ≡ true = sym c.is_column.ensures ∙ c.if-not-is_column.false in
+    sym (outcome_fault _ (no_room known _ _ _ goal_right column_right c.if-room-sizes.true))
 
 pub returns : goal.returns
 returns c =
-    let column_right : (leb 1 c.args.column && leb c.args.column c.in-Network.sizes.k) ≡ true = sym c.is_column.ensures ∙ not-false _ c.if-not-is_column.false in
-    let goal_right : is_node c.in-Network.sizes.n c.args.goal ≡ true = sym c.is_node.ensures ∙ not-false _ c.if-not-is_node.false in
     let known : Accepted c.args.image.now c.in-Network.sizes = given_network (sym (ap checked c.in-Network.is) ∙ c.check-answer.ensures) in
+    let goal_right : is_node c.in-Network.sizes.n c.args.goal ≡ true = sym c.is_node.ensures ∙ c.if-not-is_node.false in
+    let column_right : (leb 1 c.args.column && leb c.args.column c.in-Network.sizes.k) ≡ true = sym c.is_column.ensures ∙ c.if-not-is_column.false in
     let k = known in
-    ap gives (sizes_of k) ∙ sym (outcome_sound _ (label_passes k _ _ _ goal_right column_right.if3.false))
+    ap gives (sizes_of k) ∙ sym (outcome_sound _ (label_passes k _ _ _ goal_right column_right c.if-room-sizes.false))

@@ -16,15 +16,14 @@ use Rattle.column_calls.proofs.label.label.Goals as goal
 pub returns-in_default : goal.returns-in_default
 unfolding label_outcome
 returns-in_default c =
-    let a = c.args in
-    let e = refuses_fault (label_fault a.image.now a.column a.goal (length a.labels.now)) (sizes a.image.now) (sym (ap checked c.in_default.is) ∙ c.check_label-answer.ensures) in
+    let e = refuses_fault (label_fault c.args.image.now c.args.column c.args.goal (length c.args.labels.now)) (sizes c.args.image.now) (sym (ap checked c.in_default.is) ∙ c.check_label-answer.ensures) in
     record { result_value = ap refused (c.refusal.ensures _ c.in_default.is) ∙ sym (outcome_fault _ e); labels_after = sym (after_fault _ _ e) }
 
 pub write_labels-requires : goal.write_labels-requires
 write_labels-requires c =
     let passes : (label_fault c.args.image.now c.args.column c.args.goal (length c.args.labels.now) ≡ sound) × Accepted c.args.image.now c.in-Network.sizes = given_sizes _ (λ e. (label_sound _ _ _ _ e).accepted) (sym (ap checked c.in-Network.is) ∙ c.check_label-answer.ensures) in
-    let known : Accepted c.args.image.now c.in-Network.sizes = passes.1 in
     let given : LabelSound c.args.image.now c.args.column c.args.goal (length c.args.labels.now) = label_sound _ _ _ _ passes.0 in
+    let known : Accepted c.args.image.now c.in-Network.sizes = passes.1 in
     let g = given in
     let k = known in
     record { accepted = (k, record { from = g.from; upto = g.upto }, g.goal); image_in_bounds = g.room_for }
@@ -34,5 +33,4 @@ unfolding label_outcome labels_of
 returns c =
     let passes : (label_fault c.args.image.now c.args.column c.args.goal (length c.args.labels.now) ≡ sound) × Accepted c.args.image.now c.in-Network.sizes = given_sizes _ (λ e. (label_sound _ _ _ _ e).accepted) (sym (ap checked c.in-Network.is) ∙ c.check_label-answer.ensures) in
     let e = passes.0 in
-    let s = c.args in
-    record { result_value = sym (outcome_sound _ e); labels_after = c.write_labels.ensures ∙ ap (λ (n : ℕ). labels_of s.image.now s.column s.goal ++ drop n s.labels.now) (sym (length_labels _ _ _)) ∙ sym (after_sound _ _ e) }
+    record { result_value = sym (outcome_sound _ e); labels_after = c.write_labels.ensures ∙ ap (λ (n : ℕ). labels_of c.args.image.now c.args.column c.args.goal ++ drop n c.args.labels.now) (sym (length_labels _ _ _)) ∙ sym (after_sound _ _ e) }

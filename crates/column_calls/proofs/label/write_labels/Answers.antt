@@ -4,5 +4,4 @@ use Rattle.column_calls.proofs.label.write_labels.Goals as goal
 
 pub write_labels_in-requires : goal.write_labels_in-requires
 write_labels_in-requires c =
-    let p = c.requires in
-    record { accepted = p.0; room = (local_room p.0.0, p.1) }
+    record { accepted = c.requires.accepted; room = (local_room c.requires.accepted.0, c.requires.image_in_bounds) }

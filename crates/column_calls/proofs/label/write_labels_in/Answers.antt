@@ -13,17 +13,10 @@ use Rattle.column_calls.proofs.label.write_labels_in.Goals as goal
 
 pub write_narrow-requires : goal.write_narrow-requires
 write_narrow-requires c =
-    let p = c.requires in
-    let i = p.0.1 in
-    let L = c.load.ensures.1 in
-    record { exact_in_bounds = omega (arith, L.labels_long, p.1.1); by_index = narrow_at (admitted p.0.0) i.from i.upto L.labels_long (loaded_least L) }
+    record { exact_in_bounds = omega (arith, c.load.ensures.1.labels_long, c.requires.room.1); by_index = narrow_at (admitted c.requires.accepted.0) c.requires.accepted.1.from c.requires.accepted.1.upto c.load.ensures.1.labels_long (loaded_least c.load.ensures.1) }
 
 pub returns : goal.returns
 unfolding labels_of
 returns c =
-    let a = c.args in
-    let p = c.requires in
-    let i = p.0.1 in
-    let L = c.load.ensures.1 in
-    let count : length c.load.last.1.1.1.1.1.1.0 - 1 ≡ (net_of a.image.now).nodes = omega (arith, L.labels_long) in
-    c.write_narrow.ensures ∙ ap₂ (λ (new : List ℕ) (n : ℕ). new ++ drop n a.labels.now) (labels_are (admitted p.0.0) i.from i.upto L.labels_long (loaded_least L)) count
+    let count : length c.load.new.overall - 1 ≡ (net_of c.args.image.now).nodes = omega (arith, c.load.ensures.1.labels_long) in
+    c.write_narrow.ensures ∙ ap₂ (λ (new : List ℕ) (n : ℕ). new ++ drop n c.args.labels.now) (labels_are (admitted c.requires.accepted.0) c.requires.accepted.1.from c.requires.accepted.1.upto c.load.ensures.1.labels_long (loaded_least c.load.ensures.1)) count

@@ -12,15 +12,11 @@ use Rattle.column_calls.proofs.rank.write_ranked.Goals as goal
 
 pub returns-then-count-eq0 : goal.returns-then-count-eq0
 returns-then-count-eq0 c =
-    let s = c.args in
-    let p = c.requires in
-    let z = none_listed s.image.now s.column s.start s.goal s.wanted p.0.0.passes p.0.1 p.0.2 p.1.wanted_from (sym c.list-count.ensures.value ∙ c.if-count-eq0.true) in
-    record { result_value = sym (outcome_fault _ z.0); rows_after = c.list-count.ensures.rows_after ∙ no_rows s.image.now s.column s.start s.goal s.wanted z.1 _ ∙ sym (after_fault _ _ z.0); costs_after = c.list-count.ensures.costs_after ∙ no_costs s.image.now s.column s.start s.goal s.wanted z.1 _ ∙ sym (after_fault _ _ z.0); work_after = work_unused c.if-count-eq0.true c.list-count.ensures.listed_work ∙ sym (cleared_not _ z.0) }
+    let z = none_listed c.args.image.now c.args.column c.args.start c.args.goal c.args.wanted c.requires.accepted.0.passes c.requires.accepted.1 c.requires.accepted.2 c.requires.list_slices.wanted_from (sym c.list-count.ensures.value ∙ c.if-count-eq0.true) in
+    record { result_value = sym (outcome_fault _ z.0); rows_after = c.list-count.ensures.rows_after ∙ no_rows c.args.image.now c.args.column c.args.start c.args.goal c.args.wanted z.1 _ ∙ sym (after_fault _ _ z.0); costs_after = c.list-count.ensures.costs_after ∙ no_costs c.args.image.now c.args.column c.args.start c.args.goal c.args.wanted z.1 _ ∙ sym (after_fault _ _ z.0); work_after = work_unused c.if-count-eq0.true c.list-count.ensures.listed_work ∙ sym (cleared_not _ z.0) }
 
 pub returns : goal.returns
 returns c =
-    let s = c.args in
-    let p = c.requires in
     let one : 1 ≤ c.list-count.result = omega (arith, c.if-count-eq0.false) in
-    let e = some_listed s.image.now s.column s.start s.goal s.wanted p.0.0.passes p.0.1 p.0.2 (omega (arith, c.list-count.ensures.value)) in
-    record { result_value = ap (λ (x : ℕ). gives (x ∷ [])) c.list-count.ensures.value ∙ sym (outcome_sound _ e); rows_after = c.list-count.ensures.rows_after ∙ ap (λ f. after f (rank_rows_of s.image.now s.column s.start s.goal s.wanted) s.rows.now) (sym e); costs_after = c.list-count.ensures.costs_after ∙ ap (λ f. after f (rank_costs_of s.image.now s.column s.start s.goal s.wanted) s.costs.now) (sym e); work_after = work_emptied one c.list-count.ensures.listed_work ∙ cleared_is s.work.now ∙ ap (λ f. cleared f s.work.now) (sym e) }
+    let e = some_listed c.args.image.now c.args.column c.args.start c.args.goal c.args.wanted c.requires.accepted.0.passes c.requires.accepted.1 c.requires.accepted.2 (omega (arith, c.list-count.ensures.value)) in
+    record { result_value = ap (λ (x : ℕ). gives (x ∷ [])) c.list-count.ensures.value ∙ sym (outcome_sound _ e); rows_after = c.list-count.ensures.rows_after ∙ ap (λ f. after f (rank_rows_of c.args.image.now c.args.column c.args.start c.args.goal c.args.wanted) c.args.rows.now) (sym e); costs_after = c.list-count.ensures.costs_after ∙ ap (λ f. after f (rank_costs_of c.args.image.now c.args.column c.args.start c.args.goal c.args.wanted) c.args.costs.now) (sym e); work_after = work_emptied one c.list-count.ensures.listed_work ∙ cleared_is c.args.work.now ∙ ap (λ f. cleared f c.args.work.now) (sym e) }

@@ -14,14 +14,13 @@ use Rattle.column_calls.proofs.shortest.shortest.Goals as goal
 pub returns-in_default : goal.returns-in_default
 unfolding shortest_outcome shortest_fault
 returns-in_default c =
-    let a = c.args in
-    let e = refuses_fault (shortest_rows a.image.now a.column a.start a.goal (length a.path.now)) (sizes a.image.now) (sym (ap checked c.in_default.is) ∙ c.check_shortest-answer.ensures) in
+    let e = refuses_fault (shortest_rows c.args.image.now c.args.column c.args.start c.args.goal (length c.args.path.now)) (sizes c.args.image.now) (sym (ap checked c.in_default.is) ∙ c.check_shortest-answer.ensures) in
     record { result_value = ap refused (c.refusal.ensures _ c.in_default.is) ∙ sym (outcome_fault _ (then_fault _ e)); path_after = sym (after_fault _ _ (then_fault _ e)) }
 
 pub write_shortest-requires : goal.write_shortest-requires
 write_shortest-requires c =
-    let given : ShortestSound c.args.image.now c.args.column c.args.c.args.goal (length c.args.path.now) = shortest_sound _ _ _ _ _ passes.0 in
-    let passes : (shortest_rows c.args.image.now c.args.column c.args.c.args.goal (length c.args.path.now) ≡ sound) × Accepted c.args.image.now c.in-Network.sizes = given_sizes _ (λ e. (shortest_sound _ _ _ _ _ e).search.accepted) (sym (ap checked c.in-Network.is) ∙ c.check_shortest-answer.ensures) in
+    let passes : (shortest_rows c.args.image.now c.args.column c.args.start c.args.goal (length c.args.path.now) ≡ sound) × Accepted c.args.image.now c.in-Network.sizes = given_sizes _ (λ e. (shortest_sound _ _ _ _ _ e).search.accepted) (sym (ap checked c.in-Network.is) ∙ c.check_shortest-answer.ensures) in
+    let given : ShortestSound c.args.image.now c.args.column c.args.start c.args.goal (length c.args.path.now) = shortest_sound _ _ _ _ _ passes.0 in
     let g = given in
     let k = passes.1 in
     record { accepted = (k, record { from = g.search.from; upto = g.search.upto }, g.search.ends); image_in_bounds = g.room_for }
@@ -29,7 +28,6 @@ write_shortest-requires c =
 pub returns : goal.returns
 unfolding shortest_outcome shortest_fault
 returns c =
-    let passes : (shortest_rows c.args.image.now c.args.column c.args.c.args.goal (length c.args.path.now) ≡ sound) × Accepted c.args.image.now c.in-Network.sizes = given_sizes _ (λ e. (shortest_sound _ _ _ _ _ e).search.accepted) (sym (ap checked c.in-Network.is) ∙ c.check_shortest-answer.ensures) in
-    let s = c.args in
-    let e = sym (then_next (path_row s.image.now s.column s.start s.goal) passes.0) in
-    record { result_value = c.write_shortest.ensures.result_value ∙ ap (λ f. outcome f (shortest_values s.image.now s.column s.start s.goal)) e; path_after = c.write_shortest.ensures.path_after ∙ ap (λ f. after f (shortest_of s.image.now s.column s.start s.goal) s.path.now) e }
+    let passes : (shortest_rows c.args.image.now c.args.column c.args.start c.args.goal (length c.args.path.now) ≡ sound) × Accepted c.args.image.now c.in-Network.sizes = given_sizes _ (λ e. (shortest_sound _ _ _ _ _ e).search.accepted) (sym (ap checked c.in-Network.is) ∙ c.check_shortest-answer.ensures) in
+    let e = sym (then_next (path_row c.args.image.now c.args.column c.args.start c.args.goal) passes.0) in
+    record { result_value = c.write_shortest.ensures.result_value ∙ ap (λ f. outcome f (shortest_values c.args.image.now c.args.column c.args.start c.args.goal)) e; path_after = c.write_shortest.ensures.path_after ∙ ap (λ f. after f (shortest_of c.args.image.now c.args.column c.args.start c.args.goal) c.args.path.now) e }

@@ -16,20 +16,17 @@ use Rattle.column_calls.proofs.shortest.write_first.Goals as goal
 
 pub returns-in_default : goal.returns-in_default
 returns-in_default c =
-    let p = c.requires in
-    let e = path_none p.0.0.passes p.0.1 p.0.2 (found_empty c.find-found.ensures.first_found c.in_default.is) in
+    let e = path_none c.requires.accepted.0.passes c.requires.accepted.1 c.requires.accepted.2 (found_empty c.find-found.ensures.first_found c.in_default.is) in
     record { result_value = sym (outcome_fault _ e); path_after = sym (after_fault _ _ e) }
 
 pub write_path-requires : goal.write_path-requires
 write_path-requires c =
     let reach : (1 < c.in-Tail.len) × (c.in-Tail.len ≤ length c.find-found.new.route) = extent_tail c.find-found.ensures.extent c.in-Tail.is in
-    let p = c.requires in
-    (reach.1, omega (arith, reach.1, c.find-found.auto, p.1))
+    (reach.1, omega (arith, reach.1, c.find-found.auto, c.requires.route_len))
 
 pub returns : goal.returns
 returns c =
+    let first : let g = column (net_of c.args.image.now) c.args.column in First g c.args.start c.args.goal (everything c.args.start) (take c.in-Tail.len c.find-found.new.route) × (cost g (take c.in-Tail.len c.find-found.new.route) ≡ cost g (c.args.start ∷ []) + c.in-Tail.cost) = found_tail c.find-found.ensures.first_found c.in-Tail.is in
     let reach : (1 < c.in-Tail.len) × (c.in-Tail.len ≤ length c.find-found.new.route) = extent_tail c.find-found.ensures.extent c.in-Tail.is in
-    let first : let a = c.args in let g = column (net_of a.image.now) a.column in First g a.start a.goal (everything a.start) (take c.in-Tail.len c.find-found.new.route) × (cost g (take c.in-Tail.len c.find-found.new.route) ≡ cost g (a.start ∷ []) + c.in-Tail.cost) = found_tail c.find-found.ensures.first_found c.in-Tail.is in
-    let p = c.requires in
     let f = first in
-    record { result_value = ap gives (values_are p.0.0.passes p.0.1 p.0.2 f.0 _ _ refl reach.1 f.1) ∙ sym (outcome_sound _ (path_some p.0.0.passes p.0.1 p.0.2 f.0)); path_after = c.write_path.ensures ∙ written_is p.0.0.passes p.0.1 p.0.2 f.0 _ _ refl reach.1 f.1 _ }
+    record { result_value = ap gives (values_are c.requires.accepted.0.passes c.requires.accepted.1 c.requires.accepted.2 f.0 _ _ refl reach.1 f.1) ∙ sym (outcome_sound _ (path_some c.requires.accepted.0.passes c.requires.accepted.1 c.requires.accepted.2 f.0)); path_after = c.write_path.ensures ∙ written_is c.requires.accepted.0.passes c.requires.accepted.1 c.requires.accepted.2 f.0 _ _ refl reach.1 f.1 _ }

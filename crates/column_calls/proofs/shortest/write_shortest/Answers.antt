@@ -8,5 +8,4 @@ use Rattle.column_calls.proofs.shortest.write_shortest.Goals as goal
 pub write_first-requires : goal.write_first-requires
 write_first-requires c =
     let fits : c.args.sizes.n ≤ 200 = few_nodes c.requires.accepted.0 in
-    let p = c.requires in
-    record { accepted = p.0; route_len = (part_long 200 _ fits ∙ p.0.0.nodes_are, p.1) }
+    record { accepted = c.requires.accepted; route_len = (part_long 200 _ fits ∙ c.requires.accepted.0.nodes_are, c.requires.image_in_bounds) }

@@ -2,11 +2,11 @@
 use Prim.Native.Nat.{◌+◌}
 use native.Mathlib.Omega.{arith}
 use mathlib.Core.Path.{◌≡◌, refl, ◌∙◌}
-use mathlib.Core.Logic.{⊎_elim}
 use lib.ListN.{length}
 use Rattle.descent.proofs.RowLaws.{value_at}
 use Rattle.terms.proofs.LargestLaws.{none_so_far, raised, kept, greatest}
 use Rattle.descent.proofs.columns.figure_of.Goals as goal
+use Rattle.descent.proofs.columns.figure_of.Goals.{then-figure-x, else-figure-x}
 
 pub loop-u-init : goal.loop-u-init
 loop-u-init c = (omega arith, (1, none_so_far _))
@@ -14,7 +14,7 @@ loop-u-init c = (omega arith, (1, none_so_far _))
 pub loop-u-preserved : goal.loop-u-preserved
 loop-u-preserved c =
     let is = c.over-x.ensures ∙ value_at c.args.t2 c.args.bests.now c.loop-u.u in
-    (omega arith, ⊎_elim (λ y. (c.loop-u.u + 1, raised (omega arith) c.loop-u.invariant.1.1 is y.0.taken y.1 refl)) (λ n. (c.loop-u.invariant.1.0, kept (omega arith) c.loop-u.invariant.1.1 is n.0.left n.1 refl)) c.if-figure-x.branch)
+    (omega arith, elim c.if-figure-x.branch [ then-figure-x y ↦ (c.loop-u.u + 1, raised (omega arith) c.loop-u.invariant.1.1 is y.if-figure-x.true y.1 refl) | else-figure-x n ↦ (c.loop-u.invariant.1.0, kept (omega arith) c.loop-u.invariant.1.1 is n.if-figure-x.false n.1 refl) ])
 
 pub returns : goal.returns
 returns c =

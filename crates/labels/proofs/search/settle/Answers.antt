@@ -17,15 +17,14 @@ mark-ends-requires c =
     record { listed = none_listed c.requires.room (omega (arith, c.requires.goal.place)) c.requires.arrays.few; v_in_bounds = (omega (arith, room_long c.requires.room, c.requires.goal.place), simp length-set (omega (arith, room_long c.requires.room, c.reset.auto))) }
 
 pub loop-ends-init : goal.loop-ends-init
-loop-ends-init c =
-    (
-      simp length-set (omega (arith, c.mark-ends.auto, c.reset.auto, room_long c.requires.room)),
-      refl,
-      refl,
-      c.mark-ends.ensures.listed,
-      λ hs ch. rw (c.mark-ends.ensures.flag, c.requires.room.dirty_is, c.reset.ensures)
-          (state_start (input c.args.tails.now hs c.args.weights.now c.args.barred.now) c.args.goal (length c.args.labels.now) c.requires.goal.place (λ i b. omega (arith, ch.head_in i (omega (arith, ch.next_long, c.requires.arrays.next_long)), c.requires.arrays.first_long))),
-    )
+loop-ends-init c = (
+  simp length-set (omega (arith, c.mark-ends.auto, c.reset.auto, room_long c.requires.room)),
+  refl,
+  refl,
+  c.mark-ends.ensures.listed,
+  λ hs ch. rw (c.mark-ends.ensures.flag, c.requires.room.dirty_is, c.reset.ensures)
+      (state_start (input c.args.tails.now hs c.args.weights.now c.args.barred.now) c.args.goal (length c.args.labels.now) c.requires.goal.place (λ i b. omega (arith, ch.head_in i (omega (arith, ch.next_long, c.requires.arrays.next_long)), c.requires.arrays.first_long))),
+)
 
 pub take-h-requires : goal.take-h-requires
 take-h-requires c =
@@ -50,14 +49,13 @@ loop-ends-smaller c =
     omega (arith, c.spread-ends.ensures.falls, ap (λ (e : Ends). e.count) c.behind_first.ensures, some)
 
 pub loop-ends-preserved : goal.loop-ends-preserved
-loop-ends-preserved c =
-    (
-      c.spread-ends.auto.dirty ∙ c.take-h.auto.dirty ∙ c.loop-ends.invariant.0,
-      c.spread-ends.auto.ring ∙ c.take-h.auto.ring ∙ c.loop-ends.invariant.1,
-      c.spread-ends.auto.labels ∙ c.loop-ends.invariant.2,
-      c.spread-ends.ensures.listed,
-      λ hs ch. c.spread-ends.ensures.keeps hs _ ch (state_taken c.take-h.ensures (c.loop-ends.invariant.4 hs ch)),
-    )
+loop-ends-preserved c = (
+  c.spread-ends.auto.dirty ∙ c.take-h.auto.dirty ∙ c.loop-ends.invariant.0,
+  c.spread-ends.auto.ring ∙ c.take-h.auto.ring ∙ c.loop-ends.invariant.1,
+  c.spread-ends.auto.labels ∙ c.loop-ends.invariant.2,
+  c.spread-ends.ensures.listed,
+  λ hs ch. c.spread-ends.ensures.keeps hs _ ch (state_taken c.take-h.ensures (c.loop-ends.invariant.4 hs ch)),
+)
 
 pub returns : goal.returns
 returns c = λ n hs a ch. exact a c.requires.goal.free (c.loop-ends.invariant.4 hs ch) (sum_zero c.loop-ends.dirty (omega (arith, c.loop-ends.invariant.3.counted, c.loop-ends-test.false)))

@@ -29,11 +29,11 @@ loop-i-preserved c =
     let own : c.loop-i.i ≡ get_or (numbers 0 (length c.args.kept.now)) c.loop-i.i 0 = number_at (length c.args.kept.now) c.loop-i.i (omega (arith, c.loop-i-test.true, c.loop-i.invariant.2)) in
     let here : c.loop-i.i < length (numbers 0 (length c.args.kept.now)) = omega (arith, c.loop-i-test.true, c.loop-i.invariant.2, length_numbers 0 (length c.args.kept.now)) in
     elim c.if-not-is_closed.branch [
-      then-not-is_closed w ↦
-        let opened : left c.args.closed.now (get_or (numbers 0 (length c.args.kept.now)) c.loop-i.i 0) ≡ true = ap (λ (j : ℕ). not (shut c.args.closed.now j)) (sym own) ∙ ap not (sym c.is_closed.ensures ∙ w.if-not-is_closed.true) in
-        let k' = w.kept-is ∙ ap (λ (x : ℕ). set c.loop-i.kept c.loop-i.front x) own in
-        rw (k', w.front-is) (omega (arith, here, length_numbers 0 (length c.args.kept.now)), omega (arith, c.loop-i.invariant.1), simp length-set c.loop-i.invariant.2, index_kept (left c.args.closed.now) (numbers 0 (length c.args.kept.now)) c.loop-i.kept c.loop-i.i c.loop-i.front here c.loop-i.invariant.3 (omega (arith, c.loop-i-test.true, c.loop-i.invariant.1, c.loop-i.invariant.2)) opened)
-    | else-not-is_closed w ↦
-        let closed : left c.args.closed.now (get_or (numbers 0 (length c.args.kept.now)) c.loop-i.i 0) ≡ false = ap (λ (j : ℕ). not (shut c.args.closed.now j)) (sym own) ∙ ap not (sym c.is_closed.ensures ∙ w.if-not-is_closed.false) in
-        rw (w.kept-is, w.front-is) (omega (arith, here, length_numbers 0 (length c.args.kept.now)), omega (arith, c.loop-i.invariant.1), c.loop-i.invariant.2, index_dropped (left c.args.closed.now) (numbers 0 (length c.args.kept.now)) c.loop-i.kept c.loop-i.i c.loop-i.front here c.loop-i.invariant.3 closed)
+      | then-not-is_closed w ↦
+          let opened : left c.args.closed.now (get_or (numbers 0 (length c.args.kept.now)) c.loop-i.i 0) ≡ true = ap (λ (j : ℕ). not (shut c.args.closed.now j)) (sym own) ∙ ap not (sym c.is_closed.ensures ∙ w.if-not-is_closed.true) in
+          let k' = w.kept-is ∙ ap (λ (x : ℕ). set c.loop-i.kept c.loop-i.front x) own in
+          rw (k', w.front-is) (omega (arith, here, length_numbers 0 (length c.args.kept.now)), omega (arith, c.loop-i.invariant.1), simp length-set c.loop-i.invariant.2, index_kept (left c.args.closed.now) (numbers 0 (length c.args.kept.now)) c.loop-i.kept c.loop-i.i c.loop-i.front here c.loop-i.invariant.3 (omega (arith, c.loop-i-test.true, c.loop-i.invariant.1, c.loop-i.invariant.2)) opened)
+      | else-not-is_closed w ↦
+          let closed : left c.args.closed.now (get_or (numbers 0 (length c.args.kept.now)) c.loop-i.i 0) ≡ false = ap (λ (j : ℕ). not (shut c.args.closed.now j)) (sym own) ∙ ap not (sym c.is_closed.ensures ∙ w.if-not-is_closed.false) in
+          rw (w.kept-is, w.front-is) (omega (arith, here, length_numbers 0 (length c.args.kept.now)), omega (arith, c.loop-i.invariant.1), c.loop-i.invariant.2, index_dropped (left c.args.closed.now) (numbers 0 (length c.args.kept.now)) c.loop-i.kept c.loop-i.i c.loop-i.front here c.loop-i.invariant.3 closed)
     ]

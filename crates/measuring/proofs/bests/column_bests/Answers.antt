@@ -21,8 +21,7 @@ loop-u-smaller c = omega (arith, c.loop-u-test.true)
 
 pub loop-u-preserved : goal.loop-u-preserved
 loop-u-preserved c =
-    let best_of : ℕ → ℕ = λ u. best c.args.n (column (network c.args.n c.args.m (length c.args.bests.now) c.args.star.now c.args.costs.now) u) c.args.start c.args.goal in
-    (
+    let best_of : ℕ → ℕ = λ u. best c.args.n (column (network c.args.n c.args.m (length c.args.bests.now) c.args.star.now c.args.costs.now) u) c.args.start c.args.goal in (
       omega (arith, c.loop-u.invariant.0),
       omega (arith, c.loop-u-test.true),
       length-set {A = ℕ} c.loop-u.bests (c.loop-u.u - 1) c.column_best.result ∙ c.loop-u.invariant.2,

@@ -4,6 +4,4 @@ use Rattle.network_calls.proofs.chosen.choose.Goals as goal
 
 pub returns : goal.returns
 returns c =
-    let a = c.args in
-    let E = c.choose_left.ensures in
-    record { result_value = whole_values a.image.now a.r a.start a.goal a.wanted E.0; path_after = whole_path a.image.now a.r a.start a.goal a.wanted a.path.now E.1.0; work_after = whole_work a.image.now a.r a.start a.goal a.wanted a.work.now E.1.1 }
+    record { result_value = whole_values c.args.image.now c.args.r c.args.start c.args.goal c.args.wanted c.choose_left.ensures.result_value; path_after = whole_path c.args.image.now c.args.r c.args.start c.args.goal c.args.wanted c.args.path.now c.choose_left.ensures.path_after; work_after = whole_work c.args.image.now c.args.r c.args.start c.args.goal c.args.wanted c.args.work.now c.choose_left.ensures.work_after }

@@ -8,6 +8,5 @@ use Rattle.network_calls.proofs.chosen.choose_left.Goals as goal
 pub choose_in-requires : goal.choose_in-requires
 choose_in-requires c =
     let ready : Accepted c.args.image.now c.args.sizes = c.requires.accepted.0 in
-    let p = c.requires in
     let a = ready in
-    record { asked = (record { accepted = a; in_column = p.0.1; ends = p.0.2; nodes_are = a.nodes_are }, choice_room a); overall_len = (part_long 201 _ (places_fit a), p.1) }
+    record { asked = (record { accepted = a; in_column = c.requires.accepted.1; ends = c.requires.accepted.2; nodes_are = a.nodes_are }, choice_room a); overall_len = (part_long 201 _ (places_fit a), c.requires.choice_slices) }

@@ -11,7 +11,5 @@ use Rattle.network_calls.proofs.chosen.choose_priced.Goals as goal
 
 pub returns : goal.returns
 returns c =
-    let l = c.least_regret-answer in
-    let e = l.ensures.1 in
-    let fits : chosen_length l.result ≤ length l.new.1.1.1.1.1.1.1.0 = omega (arith, e.1.1, l.auto.1.1.1.1.1.1.1.0, c.requires.n_in_bounds) in
-    record { result_value = c.state.ensures _ (chosen_long l.result c.args.path.now e.0 e.1.0 fits) ∙ ap (λ a. gives (robust_values a)) e.0; path_after = chosen_written l.result c.args.path.now e.0 e.1.0 fits; work_after = c.clear.ensures ∙ ap (λ (k : ℕ). replicate k 0) l.auto.1.1.1.1.1.1.0 }
+    let fits : chosen_length c.least_regret-answer.result ≤ length c.least_regret-answer.new.route = omega (arith, c.least_regret-answer.ensures.route_after.1, c.least_regret-answer.auto.route, c.requires.n_in_bounds) in
+    record { result_value = c.state.ensures _ (chosen_long c.least_regret-answer.result c.args.path.now c.least_regret-answer.ensures.result_after c.least_regret-answer.ensures.route_after.0 fits) ∙ ap (λ a. gives (robust_values a)) c.least_regret-answer.ensures.result_after; path_after = chosen_written c.least_regret-answer.result c.args.path.now c.least_regret-answer.ensures.result_after c.least_regret-answer.ensures.route_after.0 fits; work_after = c.clear.ensures ∙ ap (λ (k : ℕ). replicate k 0) c.least_regret-answer.auto.work }

@@ -12,22 +12,17 @@ use Rattle.network_calls.proofs.measured.measure_path.Goals as goal
 
 pub price-requires : goal.price-requires
 price-requires c =
-    let p = c.requires in
-    let a = c.args in
-    let H = subst (λ net. Shared net a.m a.star.now a.costs.now × Reached net a.start a.goal) (sym (without_none (net_of a.image.now))) (p.0.1, record { ends = p.1.0; route = a.nodes.now; path = p.1.1 }) in
-    record { accepted = (p.0.0, H.0); reached = (H.1, p.0.2); labelled = λ h. absurd (omega arith) }
+    let H = subst (λ net. Shared net c.args.m c.args.star.now c.args.costs.now × Reached net c.args.start c.args.goal) (sym (without_none (net_of c.args.image.now))) (c.requires.accepted.1, record { ends = c.requires.ends.0; route = c.args.nodes.now; path = c.requires.ends.1 }) in
+    record { accepted = (c.requires.accepted.0, H.0); reached = (H.1, c.requires.accepted.2); labelled = λ h. absurd (omega arith) }
 
 pub measure-found-requires : goal.measure-found-requires
 measure-found-requires c =
-    let held : let a = c.args in Held (net_of a.image.now) a.m a.start a.goal a.star.now a.costs.now c.price.new.bests = let a = c.args in subst (λ net. Held net a.m a.start a.goal a.star.now a.costs.now c.price.new.bests) (without_none (net_of a.image.now)) c.price.ensures in
-    let p = c.requires in
-    let n = p.0.0.nodes_are in
+    let held : Held (net_of c.args.image.now) c.args.m c.args.start c.args.goal c.args.star.now c.args.costs.now c.price.new.bests = subst (λ net. Held net c.args.m c.args.start c.args.goal c.args.star.now c.args.costs.now c.price.new.bests) (without_none (net_of c.args.image.now)) c.price.ensures in
     let H = held in
-    let both = measurable (priced_for (admitted p.0.0) p.0.0.columns_are p.0.1 n p.1.0 H) p.1.0.start_in.from (omega (arith, n, p.1.0.start_in.upto)) p.1.0.apart (path_for (admitted p.0.0) p.0.0.columns_are p.0.1 n p.1.0 H p.1.1) in
+    let both = measurable (priced_for (admitted c.requires.accepted.0) c.requires.accepted.0.columns_are c.requires.accepted.1 c.requires.accepted.0.nodes_are c.requires.ends.0 H) c.requires.ends.0.start_in.from (omega (arith, c.requires.accepted.0.nodes_are, c.requires.ends.0.start_in.upto)) c.requires.ends.0.apart (path_for (admitted c.requires.accepted.0) c.requires.accepted.0.columns_are c.requires.accepted.1 c.requires.accepted.0.nodes_are c.requires.ends.0 H c.requires.ends.1) in
     record { columns = both.0; by_arcs = both.1.0; in_bounds = both.1.1.0; by_index = both.1.1.1 }
 
 pub returns : goal.returns
 returns c =
-    let held : let a = c.args in Held (net_of a.image.now) a.m a.start a.goal a.star.now a.costs.now c.price.new.bests = let a = c.args in subst (λ net. Held net a.m a.start a.goal a.star.now a.costs.now c.price.new.bests) (without_none (net_of a.image.now)) c.price.ensures in
-    let p = c.requires in
-    (measured_below (admitted p.0.0) p.0.0.columns_are p.0.1 p.0.0.nodes_are p.1.0 held p.1.1 (omega arith) c.measure-found.ensures).0
+    let held : Held (net_of c.args.image.now) c.args.m c.args.start c.args.goal c.args.star.now c.args.costs.now c.price.new.bests = subst (λ net. Held net c.args.m c.args.start c.args.goal c.args.star.now c.args.costs.now c.price.new.bests) (without_none (net_of c.args.image.now)) c.price.ensures in
+    (measured_below (admitted c.requires.accepted.0) c.requires.accepted.0.columns_are c.requires.accepted.1 c.requires.accepted.0.nodes_are c.requires.ends.0 held c.requires.ends.1 (omega arith) c.measure-found.ensures).0

@@ -20,33 +20,33 @@ pub first_error-at-requires : goal.first_error-at-requires
 unfolding heads_of outs_of
 first_error-at-requires c =
     let nodes_are : c.requires.0.nodes ≡ c.args.n = omega (arith, c.requires.0.places) in
-    let begun : Star c.args.n (tails_of (length c.args.weights.now) c.args.star.now) (heads_of (length c.args.weights.now) c.args.star.now) (outs_of (c.args.n + 1) (length c.args.weights.now) c.args.star.now) = subst (λ n. Star n (tails_of (length c.args.weights.now) c.args.star.now) (heads_of (length c.args.weights.now) c.args.star.now) (outs_of (c.args.n + 1) (length c.args.weights.now) c.args.star.now)) nodes_are.requires.0.star in
-    let arcs : Arcs c.args.n (tails_of (length c.args.weights.now) c.args.star.now) (heads_of (length c.args.weights.now) c.args.star.now) c.args.weights.now = subst (λ n. Arcs n (tails_of (length c.args.weights.now) c.args.star.now) (heads_of (length c.args.weights.now) c.args.star.now) c.args.weights.now) nodes_are.requires.0.arcs in
-    followed arcs begun.pre.1 (omega arith) c.if-nodes-start.false
+    let arcs : Arcs c.args.n (tails_of (length c.args.weights.now) c.args.star.now) (heads_of (length c.args.weights.now) c.args.star.now) c.args.weights.now = subst (λ n. Arcs n (tails_of (length c.args.weights.now) c.args.star.now) (heads_of (length c.args.weights.now) c.args.star.now) c.args.weights.now) nodes_are c.requires.0.arcs in
+    let begun : Star c.args.n (tails_of (length c.args.weights.now) c.args.star.now) (heads_of (length c.args.weights.now) c.args.star.now) (outs_of (c.args.n + 1) (length c.args.weights.now) c.args.star.now) = subst (λ n. Star n (tails_of (length c.args.weights.now) c.args.star.now) (heads_of (length c.args.weights.now) c.args.star.now) (outs_of (c.args.n + 1) (length c.args.weights.now) c.args.star.now)) nodes_are c.requires.0.star in
+    followed arcs begun c.requires.1 (omega arith) c.if-nodes-start.false
 
 pub returns-then-at-nodes : goal.returns-then-at-nodes
 unfolding graph_of heads_of outs_of
 returns-then-at-nodes c =
-    let begun : Star c.args.n (tails_of (length c.args.weights.now) c.args.star.now) (heads_of (length c.args.weights.now) c.args.star.now) (outs_of (c.args.n + 1) (length c.args.weights.now) c.args.star.now) = subst (λ n. Star n (tails_of (length c.args.weights.now) c.args.star.now) (heads_of (length c.args.weights.now) c.args.star.now) (outs_of (c.args.n + 1) (length c.args.weights.now) c.args.star.now)) nodes_are.requires.0.star in
     let nodes_are : c.requires.0.nodes ≡ c.args.n = omega (arith, c.requires.0.places) in
+    let arcs : Arcs c.args.n (tails_of (length c.args.weights.now) c.args.star.now) (heads_of (length c.args.weights.now) c.args.star.now) c.args.weights.now = subst (λ n. Arcs n (tails_of (length c.args.weights.now) c.args.star.now) (heads_of (length c.args.weights.now) c.args.star.now) c.args.weights.now) nodes_are c.requires.0.arcs in
+    let begun : Star c.args.n (tails_of (length c.args.weights.now) c.args.star.now) (heads_of (length c.args.weights.now) c.args.star.now) (outs_of (c.args.n + 1) (length c.args.weights.now) c.args.star.now) = subst (λ n. Star n (tails_of (length c.args.weights.now) c.args.star.now) (heads_of (length c.args.weights.now) c.args.star.now) (outs_of (c.args.n + 1) (length c.args.weights.now) c.args.star.now)) nodes_are c.requires.0.star in
     let found : FirstError (tails_of (length c.args.weights.now) c.args.star.now) (heads_of (length c.args.weights.now) c.args.star.now) c.args.nodes.now c.first_error-at.result = c.first_error-at.ensures _ _ begun in
-    let arcs : Arcs c.args.n (tails_of (length c.args.weights.now) c.args.star.now) (heads_of (length c.args.weights.now) c.args.star.now) c.args.weights.now = subst (λ n. Arcs n (tails_of (length c.args.weights.now) c.args.star.now) (heads_of (length c.args.weights.now) c.args.star.now) c.args.weights.now) nodes_are.requires.0.arcs in
-    sym (error_found arcs.pre.1 c.if-nodes-start.false found _ c.if-at-nodes.true)
+    sym (error_found arcs c.requires.1 c.if-nodes-start.false found _ c.if-at-nodes.true)
 
 pub returns-then-nodes-at : goal.returns-then-nodes-at
 unfolding graph_of heads_of outs_of
 returns-then-nodes-at c =
-    let begun : Star c.args.n (tails_of (length c.args.weights.now) c.args.star.now) (heads_of (length c.args.weights.now) c.args.star.now) (outs_of (c.args.n + 1) (length c.args.weights.now) c.args.star.now) = subst (λ n. Star n (tails_of (length c.args.weights.now) c.args.star.now) (heads_of (length c.args.weights.now) c.args.star.now) (outs_of (c.args.n + 1) (length c.args.weights.now) c.args.star.now)) nodes_are.requires.0.star in
     let nodes_are : c.requires.0.nodes ≡ c.args.n = omega (arith, c.requires.0.places) in
+    let arcs : Arcs c.args.n (tails_of (length c.args.weights.now) c.args.star.now) (heads_of (length c.args.weights.now) c.args.star.now) c.args.weights.now = subst (λ n. Arcs n (tails_of (length c.args.weights.now) c.args.star.now) (heads_of (length c.args.weights.now) c.args.star.now) c.args.weights.now) nodes_are c.requires.0.arcs in
+    let begun : Star c.args.n (tails_of (length c.args.weights.now) c.args.star.now) (heads_of (length c.args.weights.now) c.args.star.now) (outs_of (c.args.n + 1) (length c.args.weights.now) c.args.star.now) = subst (λ n. Star n (tails_of (length c.args.weights.now) c.args.star.now) (heads_of (length c.args.weights.now) c.args.star.now) (outs_of (c.args.n + 1) (length c.args.weights.now) c.args.star.now)) nodes_are c.requires.0.star in
     let found : FirstError (tails_of (length c.args.weights.now) c.args.star.now) (heads_of (length c.args.weights.now) c.args.star.now) c.args.nodes.now c.first_error-at.result = c.first_error-at.ensures _ _ begun in
-    let arcs : Arcs c.args.n (tails_of (length c.args.weights.now) c.args.star.now) (heads_of (length c.args.weights.now) c.args.star.now) c.args.weights.now = subst (λ n. Arcs n (tails_of (length c.args.weights.now) c.args.star.now) (heads_of (length c.args.weights.now) c.args.star.now) c.args.weights.now) nodes_are.requires.0.arcs in
-    sym (wrong_last arcs.pre.1 c.if-nodes-start.false found _ c.if-at-nodes.false c.if-nodes-at.true)
+    sym (wrong_last arcs c.requires.1 c.if-nodes-start.false found _ c.if-at-nodes.false c.if-nodes-at.true)
 
 pub returns : goal.returns
 unfolding graph_of heads_of outs_of
 returns c =
-    let begun : Star c.args.n (tails_of (length c.args.weights.now) c.args.star.now) (heads_of (length c.args.weights.now) c.args.star.now) (outs_of (c.args.n + 1) (length c.args.weights.now) c.args.star.now) = subst (λ n. Star n (tails_of (length c.args.weights.now) c.args.star.now) (heads_of (length c.args.weights.now) c.args.star.now) (outs_of (c.args.n + 1) (length c.args.weights.now) c.args.star.now)) nodes_are.requires.0.star in
     let nodes_are : c.requires.0.nodes ≡ c.args.n = omega (arith, c.requires.0.places) in
+    let arcs : Arcs c.args.n (tails_of (length c.args.weights.now) c.args.star.now) (heads_of (length c.args.weights.now) c.args.star.now) c.args.weights.now = subst (λ n. Arcs n (tails_of (length c.args.weights.now) c.args.star.now) (heads_of (length c.args.weights.now) c.args.star.now) c.args.weights.now) nodes_are c.requires.0.arcs in
+    let begun : Star c.args.n (tails_of (length c.args.weights.now) c.args.star.now) (heads_of (length c.args.weights.now) c.args.star.now) (outs_of (c.args.n + 1) (length c.args.weights.now) c.args.star.now) = subst (λ n. Star n (tails_of (length c.args.weights.now) c.args.star.now) (heads_of (length c.args.weights.now) c.args.star.now) (outs_of (c.args.n + 1) (length c.args.weights.now) c.args.star.now)) nodes_are c.requires.0.star in
     let found : FirstError (tails_of (length c.args.weights.now) c.args.star.now) (heads_of (length c.args.weights.now) c.args.star.now) c.args.nodes.now c.first_error-at.result = c.first_error-at.ensures _ _ begun in
-    let arcs : Arcs c.args.n (tails_of (length c.args.weights.now) c.args.star.now) (heads_of (length c.args.weights.now) c.args.star.now) c.args.weights.now = subst (λ n. Arcs n (tails_of (length c.args.weights.now) c.args.star.now) (heads_of (length c.args.weights.now) c.args.star.now) c.args.weights.now) nodes_are.requires.0.arcs in
-    sym (right_last arcs.pre.1 c.if-nodes-start.false found _ c.if-at-nodes.false c.if-nodes-at.false)
+    sym (right_last arcs c.requires.1 c.if-nodes-start.false found _ c.if-at-nodes.false c.if-nodes-at.false)

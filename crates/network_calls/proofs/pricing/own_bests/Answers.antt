@@ -4,5 +4,4 @@ use Rattle.network_calls.proofs.pricing.own_bests.Goals as goal
 
 pub own_bests_in-requires : goal.own_bests_in-requires
 own_bests_in-requires c =
-    let p = c.requires in
-    record { accepted = (p.0, p.1); room = (local_room p.0, p.2) }
+    record { accepted = (c.requires.0, c.requires.1); room = (local_room c.requires.0, c.requires.2) }

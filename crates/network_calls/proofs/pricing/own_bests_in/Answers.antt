@@ -19,42 +19,36 @@ rest closed image = without closed (net_of image)
 pub loop-u-preserved : goal.loop-u-preserved
 loop-u-preserved c =
     let inside : c.loop-u.u + 1 ≤ length (rest c.args.closed.now c.args.image.now).columns = omega (arith, c.loop-u-test.true, rest_columns c.requires.accepted.0 c.args.closed.now) in
-    let own : let a = c.args in c.narrow.result ≡ label (rest a.closed.now a.image.now).nodes (column (rest a.closed.now a.image.now) (c.loop-u.u + 1)) a.goal a.start = let words = c.args.closed.now in let E = rest_ends c.requires.accepted.0 words c.requires.accepted.1 in c.narrow.ensures ∙ own_label (rest_admitted c.requires.accepted.0 words) c.load_left.ensures.1 (omega arith) inside E.start_in.from E.start_in.upto in
-    let i = c.loop-u.invariant in
-    let u = c.loop-u.u in
+    let own : c.narrow.result ≡ label (rest c.args.closed.now c.args.image.now).nodes (column (rest c.args.closed.now c.args.image.now) (c.loop-u.u + 1)) c.args.goal c.args.start = let E = rest_ends c.requires.accepted.0 c.args.closed.now c.requires.accepted.1 in c.narrow.ensures ∙ own_label (rest_admitted c.requires.accepted.0 c.args.closed.now) c.load_left.ensures.1 (omega arith) inside E.start_in.from E.start_in.upto in
     let net = rest c.args.closed.now c.args.image.now in
-    let x = c.narrow.result in
-    let room : u + 1 ≤ length c.loop-u.bests = omega (arith, i.4, c.requires.room.1, c.loop-u-test.true) in
-    let at : u ≡ u + 1 - 1 = omega arith in
-    let new : set c.loop-u.bests u x ≡ set c.loop-u.bests (u + 1 - 1) (label net.nodes (column net (u + 1)) c.args.goal c.args.start) = ap₂ (λ (j y : ℕ). set c.loop-u.bests j y) at own in (
+ let room : c.loop-u.u + 1 ≤ length c.loop-u.bests = omega (arith, c.loop-u.invariant.4, c.requires.room.1, c.loop-u-test.true) in
+    let at : c.loop-u.u ≡ c.loop-u.u + 1 - 1 = omega arith in
+    let new : set c.loop-u.bests c.loop-u.u c.narrow.result ≡ set c.loop-u.bests (c.loop-u.u + 1 - 1) (label net.nodes (column net (c.loop-u.u + 1)) c.args.goal c.args.start) = ap₂ (λ (j y : ℕ). set c.loop-u.bests j y) at own in (
       omega (arith, c.loop-u-test.true),
-      c.load_left.auto.star ∙ i.1,
-      c.load_left.auto.weights ∙ i.2,
-      c.load_left.auto.overall ∙ i.3,
-      length-set {A = ℕ} c.loop-u.bests u x ∙ i.4,
-      filled_more (λ v. label net.nodes (column net v) c.args.goal c.args.start) c.loop-u.bests (omega arith) room new i.5,
+      c.load_left.auto.star ∙ c.loop-u.invariant.1,
+      c.load_left.auto.weights ∙ c.loop-u.invariant.2,
+      c.load_left.auto.overall ∙ c.loop-u.invariant.3,
+      length-set {A = ℕ} c.loop-u.bests c.loop-u.u c.narrow.result ∙ c.loop-u.invariant.4,
+      filled_more (λ v. label net.nodes (column net v) c.args.goal c.args.start) c.loop-u.bests (omega arith) room new c.loop-u.invariant.5,
     )
 
 pub returns : goal.returns
 returns c =
-    let i = c.loop-u.invariant in
     let are = rest_columns c.requires.accepted.0 c.args.closed.now in
-    let done : c.loop-u.u ≡ length (rest c.args.closed.now c.args.image.now).columns = omega (arith, are, i.0, c.loop-u-test.false) in
-    own_bests (rest c.args.closed.now c.args.image.now) c.args.c.args.goal (i.4 ∙ c.requires.room.1 ∙ are) (λ j h. i.5 j (omega (arith, done)))
+    let done : c.loop-u.u ≡ length (rest c.args.closed.now c.args.image.now).columns = omega (arith, are, c.loop-u.invariant.0, c.loop-u-test.false) in
+    own_bests (rest c.args.closed.now c.args.image.now) c.args.start c.args.goal (c.loop-u.invariant.4 ∙ c.requires.room.1 ∙ are) (λ j h. c.loop-u.invariant.5 j (omega (arith, done)))
 
 pub loop-u-init : goal.loop-u-init
 loop-u-init c = (omega arith, refl, refl, refl, refl, λ j h. absurd (omega arith))
 
 pub load_left-requires : goal.load_left-requires
 load_left-requires c =
-    let i = c.loop-u.invariant in
-    let R = c.requires.room.0 in
-    record { accepted = (c.requires.accepted.0, record { from = omega arith; upto = omega (arith, c.loop-u-test.true, c.requires.accepted.0.columns_are) }, c.requires.accepted.1.goal_in); room = record { star_long = i.1 ∙ R.star_long; weights_long = i.2 ∙ R.weights_long; labels_long = i.3 ∙ R.labels_long } }
+    record { accepted = (c.requires.accepted.0, record { from = omega arith; upto = omega (arith, c.loop-u-test.true, c.requires.accepted.0.columns_are) }, c.requires.accepted.1.goal_in); room = record { star_long = c.loop-u.invariant.1 ∙ c.requires.room.0.star_long; weights_long = c.loop-u.invariant.2 ∙ c.requires.room.0.weights_long; labels_long = c.loop-u.invariant.3 ∙ c.requires.room.0.labels_long } }
 
 pub narrow-requires : goal.narrow-requires
 narrow-requires c =
-    let inside : c.loop-u.u + 1 ≤ length (rest c.args.closed.now c.args.image.now).columns = omega (arith, c.loop-u-test.true, rest_columns c.requires.accepted.0 c.args.closed.now) in
     let start_in : (c.args.start < length c.load_left.new.overall) × (length c.load_left.new.overall ≤ 201) = let long = c.load_left.auto.overall ∙ c.loop-u.invariant.3 ∙ c.requires.room.0.labels_long in (omega (arith, long, c.requires.accepted.1.start_in.upto, c.requires.accepted.0.nodes_are), omega (arith, long, few_nodes c.requires.accepted.0)) in
+    let inside : c.loop-u.u + 1 ≤ length (rest c.args.closed.now c.args.image.now).columns = omega (arith, c.loop-u-test.true, rest_columns c.requires.accepted.0 c.args.closed.now) in
     own_narrow (rest_admitted c.requires.accepted.0 c.args.closed.now) c.load_left.ensures.1 (omega arith) inside start_in.0
 
 pub loop-u-smaller : goal.loop-u-smaller

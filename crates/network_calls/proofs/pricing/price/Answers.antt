@@ -8,30 +8,19 @@ use Rattle.network_calls.proofs.pricing.price.Goals as goal
 
 pub returns-then-m-arcs : goal.returns-then-m-arcs
 returns-then-m-arcs c =
-    let p = c.requires in
-    let a = p.0.0 in
-    let words = c.args.closed.now in
-    let ok = rest_admitted a words in
-    let k-are = rest_columns a words in
-    let long = c.column_bests.auto.bests in
-    held ok k-are p.0.1 p.1.0.0.ends (long ∙ p.1.0.1) (bests_all ok k-are p.0.1 c.args.trip.c.args.trip.goal (a.nodes_are ∙ rest_nodes a words) p.1.0.1 (c.if-m-arcs.true ∙ sym (rest_arcs a words c.closed_roads-gone.ensures.0)) c.column_bests.ensures)
+    let ok = rest_admitted c.requires.accepted.0 c.args.closed.now in
+    let k-are = rest_columns c.requires.accepted.0 c.args.closed.now in
+ held ok k-are c.requires.accepted.1 c.requires.reached.0.ends (c.column_bests.auto.bests ∙ c.requires.reached.1) (bests_all ok k-are c.requires.accepted.1 c.args.trip.start c.args.trip.goal (c.requires.accepted.0.nodes_are ∙ rest_nodes c.requires.accepted.0 c.args.closed.now) c.requires.reached.1 (c.if-m-arcs.true ∙ sym (rest_arcs c.requires.accepted.0 c.args.closed.now c.closed_roads-gone.ensures.0)) c.column_bests.ensures)
 
 pub returns-else-m-arcs : goal.returns-else-m-arcs
-returns-else-m-arcs c =
-    let p = c.requires in
-    let words = c.args.closed.now in
-    held (rest_admitted p.0.0 words) (rest_columns p.0.0 words) p.0.1 p.1.0.0.ends (c.own_bests.auto.bests ∙ p.1.0.1) c.own_bests.ensures
+returns-else-m-arcs c = held (rest_admitted c.requires.accepted.0 c.args.closed.now) (rest_columns c.requires.accepted.0 c.args.closed.now) c.requires.accepted.1 c.requires.reached.0.ends (c.own_bests.auto.bests ∙ c.requires.reached.1) c.own_bests.ensures
 
 pub closed_roads-gone-requires : goal.closed_roads-gone-requires
 closed_roads-gone-requires c = omega (arith, few_arcs c.requires.accepted.0)
 
 pub column_bests-requires : goal.column_bests-requires
 column_bests-requires c =
-    let p = c.requires in
-    let words = c.args.closed.now in
-    record { joined = held_joined (rest_admitted p.0.0 words) (rest_columns p.0.0 words) p.0.1 (p.0.0.nodes_are ∙ rest_nodes p.0.0 words) p.1.0.1 p.1.0.0; labelled = p.1.1 }
+    record { joined = held_joined (rest_admitted c.requires.accepted.0 c.args.closed.now) (rest_columns c.requires.accepted.0 c.args.closed.now) c.requires.accepted.1 (c.requires.accepted.0.nodes_are ∙ rest_nodes c.requires.accepted.0 c.args.closed.now) c.requires.reached.1 c.requires.reached.0; labelled = c.requires.labelled }
 
 pub own_bests-requires : goal.own_bests-requires
-own_bests-requires c =
-    let p = c.requires in
-    (p.0.0, image_ends p.0.0 c.args.closed.now p.1.0.0.ends, p.1.0.1)
+own_bests-requires c = (c.requires.accepted.0, image_ends c.requires.accepted.0 c.args.closed.now c.requires.reached.0.ends, c.requires.reached.1)

@@ -15,18 +15,16 @@ use Rattle.network_calls.proofs.regret.regret.Goals as goal
 pub returns-in_default : goal.returns-in_default
 unfolding regret_outcome regret_fault
 returns-in_default c =
-    let a = c.args in
     let told = sym (ap checked c.in_default.is) ∙ c.check_ends-answer.ensures in
-    ap refused (c.refusal.ensures _ c.in_default.is) ∙ sym (outcome_fault _ (then_fault _ (refuses_fault (image_fault a.image.now then ends_row (net_of a.image.now) a.start a.goal) (sizes a.image.now) told)))
+    ap refused (c.refusal.ensures _ c.in_default.is) ∙ sym (outcome_fault _ (then_fault _ (refuses_fault (image_fault c.args.image.now then ends_row (net_of c.args.image.now) c.args.start c.args.goal) (sizes c.args.image.now) told)))
 
 pub measure_list-requires : goal.measure_list-requires
 measure_list-requires c =
-    let passes : let a = c.args in ((image_fault a.image.now then ends_row (net_of a.image.now) a.start a.goal) ≡ sound) × Accepted a.image.now c.in-Network.sizes = given_sizes _ (λ e. (then_sound _ _ e).0) (sym (ap checked c.in-Network.is) ∙ c.check_ends-answer.ensures) in
+    let passes : ((image_fault c.args.image.now then ends_row (net_of c.args.image.now) c.args.start c.args.goal) ≡ sound) × Accepted c.args.image.now c.in-Network.sizes = given_sizes _ (λ e. (then_sound _ _ e).0) (sym (ap checked c.in-Network.is) ∙ c.check_ends-answer.ensures) in
     let p = passes in (p.1, ends_sound _ _ _ (then_sound _ _ p.0).1)
 
 pub returns : goal.returns
 unfolding regret_outcome regret_fault
 returns c =
-    let passes : let a = c.args in ((image_fault a.image.now then ends_row (net_of a.image.now) a.start a.goal) ≡ sound) × Accepted a.image.now c.in-Network.sizes = given_sizes _ (λ e. (then_sound _ _ e).0) (sym (ap checked c.in-Network.is) ∙ c.check_ends-answer.ensures) in
-    let a = c.args in
-    c.measure_list.ensures ∙ ap (λ f. outcome f (figure (net_of a.image.now) a.start a.goal a.nodes.now ∷ worst (net_of a.image.now) a.start a.goal a.nodes.now ∷ [])) (sym (then_next _ passes.0))
+    let passes : ((image_fault c.args.image.now then ends_row (net_of c.args.image.now) c.args.start c.args.goal) ≡ sound) × Accepted c.args.image.now c.in-Network.sizes = given_sizes _ (λ e. (then_sound _ _ e).0) (sym (ap checked c.in-Network.is) ∙ c.check_ends-answer.ensures) in
+    c.measure_list.ensures ∙ ap (λ f. outcome f (figure (net_of c.args.image.now) c.args.start c.args.goal c.args.nodes.now ∷ worst (net_of c.args.image.now) c.args.start c.args.goal c.args.nodes.now ∷ [])) (sym (then_next _ passes.0))

@@ -15,24 +15,20 @@ use Rattle.network_calls.proofs.robust.robust.Goals as goal
 pub returns-in_default : goal.returns-in_default
 unfolding robust_outcome robust_fault
 returns-in_default c =
-    let a = c.args in
-    let e = refuses_fault (robust_rows a.image.now a.column a.start a.goal a.wanted (length a.path.now) (length a.work.now)) (sizes a.image.now) (sym (ap checked c.in_default.is) ∙ c.check_robust-answer.ensures) in
-    let f = then_fault (choice_row a.image.now a.column a.start a.goal) e in
-    record { result_value = ap refused (c.refusal.ensures _ c.in_default.is) ∙ sym (outcome_fault _ f); path_after = sym (after_fault _ _ f); work_after = sym (cleared_not _ f); kept3 = kept_3 a.image.now a.column a.start a.goal a.wanted (length a.path.now) (length a.work.now) }
+    let e = refuses_fault (robust_rows c.args.image.now c.args.column c.args.start c.args.goal c.args.wanted (length c.args.path.now) (length c.args.work.now)) (sizes c.args.image.now) (sym (ap checked c.in_default.is) ∙ c.check_robust-answer.ensures) in
+    let f = then_fault (choice_row c.args.image.now c.args.column c.args.start c.args.goal) e in
+    record { result_value = ap refused (c.refusal.ensures _ c.in_default.is) ∙ sym (outcome_fault _ f); path_after = sym (after_fault _ _ f); work_after = sym (cleared_not _ f); kept3 = kept_3 c.args.image.now c.args.column c.args.start c.args.goal c.args.wanted (length c.args.path.now) (length c.args.work.now) }
 
 pub choose-requires : goal.choose-requires
 choose-requires c =
-    let passes : (robust_rows c.args.image.now c.args.column c.args.c.args.goal c.args.wanted (length c.args.path.now) (length c.args.work.now) ≡ sound) × Accepted c.args.image.now c.in-Network.sizes = let s = c.args in given_sizes _ (λ e. (robust_sound s.image.now s.column s.start s.goal s.wanted s.path.now s.work.now e).accepted) (sym (ap checked c.in-Network.is) ∙ c.check_robust-answer.ensures) in
-    let s = c.args in
+    let passes : (robust_rows c.args.image.now c.args.column c.args.start c.args.goal c.args.wanted (length c.args.path.now) (length c.args.work.now) ≡ sound) × Accepted c.args.image.now c.in-Network.sizes = given_sizes _ (λ e. (robust_sound c.args.image.now c.args.column c.args.start c.args.goal c.args.wanted c.args.path.now c.args.work.now e).accepted) (sym (ap checked c.in-Network.is) ∙ c.check_robust-answer.ensures) in
     let p = passes in
-    let g = robust_sound s.image.now s.column s.start s.goal s.wanted s.path.now s.work.now p.0 in
-    record { accepted = (p.1, record { from = g.from; upto = g.upto }, g.ends); choice_slices = choice_slices s.image.now s.column s.start s.goal s.wanted s.path.now s.work.now p.0 }
+    let g = robust_sound c.args.image.now c.args.column c.args.start c.args.goal c.args.wanted c.args.path.now c.args.work.now p.0 in
+    record { accepted = (p.1, record { from = g.from; upto = g.upto }, g.ends); choice_slices = choice_slices c.args.image.now c.args.column c.args.start c.args.goal c.args.wanted c.args.path.now c.args.work.now p.0 }
 
 pub returns : goal.returns
 unfolding robust_outcome robust_fault choice_row
 returns c =
-    let passes : (robust_rows c.args.image.now c.args.column c.args.c.args.goal c.args.wanted (length c.args.path.now) (length c.args.work.now) ≡ sound) × Accepted c.args.image.now c.in-Network.sizes = let s = c.args in given_sizes _ (λ e. (robust_sound s.image.now s.column s.start s.goal s.wanted s.path.now s.work.now e).accepted) (sym (ap checked c.in-Network.is) ∙ c.check_robust-answer.ensures) in
-    let d = c.choose.ensures in
-    let s = c.args in
-    let e = sym (then_next (choice_row s.image.now s.column s.start s.goal) passes.0) in
-    record { result_value = d.0 ∙ ap (λ f. outcome f (robust_values (robust_of s.image.now s.column s.start s.goal s.wanted))) e; path_after = d.1.0 ∙ ap (λ f. after f (chosen (robust_of s.image.now s.column s.start s.goal s.wanted)) s.path.now) e; work_after = d.1.1 ∙ ap (λ f. cleared f s.work.now) e; kept3 = kept_3 s.image.now s.column s.start s.goal s.wanted (length s.path.now) (length s.work.now) }
+    let passes : (robust_rows c.args.image.now c.args.column c.args.start c.args.goal c.args.wanted (length c.args.path.now) (length c.args.work.now) ≡ sound) × Accepted c.args.image.now c.in-Network.sizes = given_sizes _ (λ e. (robust_sound c.args.image.now c.args.column c.args.start c.args.goal c.args.wanted c.args.path.now c.args.work.now e).accepted) (sym (ap checked c.in-Network.is) ∙ c.check_robust-answer.ensures) in
+    let e = sym (then_next (choice_row c.args.image.now c.args.column c.args.start c.args.goal) passes.0) in
+    record { result_value = c.choose.ensures.result_value ∙ ap (λ f. outcome f (robust_values (robust_of c.args.image.now c.args.column c.args.start c.args.goal c.args.wanted))) e; path_after = c.choose.ensures.path_after ∙ ap (λ f. after f (chosen (robust_of c.args.image.now c.args.column c.args.start c.args.goal c.args.wanted)) c.args.path.now) e; work_after = c.choose.ensures.work_after ∙ ap (λ f. cleared f c.args.work.now) e; kept3 = kept_3 c.args.image.now c.args.column c.args.start c.args.goal c.args.wanted (length c.args.path.now) (length c.args.work.now) }

@@ -16,50 +16,49 @@ use Rattle.ranking.proofs.branches.consider.Goals as goal
 
 pub least_exit-requires : goal.least_exit-requires
 least_exit-requires c =
+    let problem : Problem c.args.query.n c.args.query.start c.args.query.goal c.args.star.now c.args.weights.now c.args.overall.now = c.requires.problem in
+    let deviation : Deviation c.args.query.n (graph_of c.args.star.now c.args.weights.now) c.args.query.start c.args.query.goal (entries c.args.query.n c.args.work.now c.args.detour.count) c.args.detour.parent c.args.used.now c.args.barred.now c.args.path.now c.args.detour.parent c.args.detour.d c.args.detour.before = c.requires.deviation in
     let last_place : get_or c.args.path.now (c.args.detour.d - 1) 0 < c.args.query.n + 1 = let b = deviation.begun in laid_place (c.args.detour.d - 1) (omega (arith, b.some)) b.laid in
-    let deviation : Deviation c.args.query.n (graph_of c.args.star.now c.args.weights.now) c.args.query.c.args.query.goal (entries c.args.query.n c.args.work.now c.args.detour.count) c.args.detour.parent c.args.used.now c.args.barred.now c.args.path.now c.args.detour.parent c.args.detour.d c.args.detour.before = c.requires.deviation in
-    let problem : Problem c.args.query.n c.args.query.c.args.query.goal c.args.star.now c.args.weights.now c.args.overall.now = c.requires.problem in
-    -- WANTS record of network, small, used_len
     let P = problem in
     let b = deviation.begun in
-    rw P.small.long ((P.network, last_place), (P.small, (b.laid.flags_long, b.barred_long)))
+    rw P.small.long (record { network = (P.network, last_place); small = P.small; used_len = (b.laid.flags_long, b.barred_long) })
 
 pub returns-in_default : goal.returns-in_default
 returns-in_default c =
-    let deviation : Deviation c.args.query.n (graph_of c.args.star.now c.args.weights.now) c.args.query.c.args.query.goal (entries c.args.query.n c.args.work.now c.args.detour.count) c.args.detour.parent c.args.used.now c.args.barred.now c.args.path.now c.args.detour.parent c.args.detour.d c.args.detour.before = c.requires.deviation in
-    let filled : Filled c.args.query.n c.args.query.slots (graph_of c.args.star.now c.args.weights.now) c.args.query.c.args.detour.parent c.args.work.now c.args.detour.count = c.requires.filled in
-    let problem : Problem c.args.query.n c.args.query.c.args.query.goal c.args.star.now c.args.weights.now c.args.overall.now = c.requires.problem in
+    let problem : Problem c.args.query.n c.args.query.start c.args.query.goal c.args.star.now c.args.weights.now c.args.overall.now = c.requires.problem in
+    let filled : Filled c.args.query.n c.args.query.slots (graph_of c.args.star.now c.args.weights.now) c.args.query.start c.args.detour.parent c.args.work.now c.args.detour.count = c.requires.filled in
+    let deviation : Deviation c.args.query.n (graph_of c.args.star.now c.args.weights.now) c.args.query.start c.args.query.goal (entries c.args.query.n c.args.work.now c.args.detour.count) c.args.detour.parent c.args.used.now c.args.barred.now c.args.path.now c.args.detour.parent c.args.detour.d c.args.detour.before = c.requires.deviation in
     record { restored = record { flags = refl; kept = refl }; changed = unchanged filled; settled = settled_none problem deviation _ _ filled.entered (chosen_nothing c.least_exit.ensures.chosen c.in_default.is) }
 
 pub returns-then-limit-bound : goal.returns-then-limit-bound
 returns-then-limit-bound c =
+    let problem : Problem c.args.query.n c.args.query.start c.args.query.goal c.args.star.now c.args.weights.now c.args.overall.now = c.requires.problem in
+    let filled : Filled c.args.query.n c.args.query.slots (graph_of c.args.star.now c.args.weights.now) c.args.query.start c.args.detour.parent c.args.work.now c.args.detour.count = c.requires.filled in
+    let deviation : Deviation c.args.query.n (graph_of c.args.star.now c.args.weights.now) c.args.query.start c.args.query.goal (entries c.args.query.n c.args.work.now c.args.detour.count) c.args.detour.parent c.args.used.now c.args.barred.now c.args.path.now c.args.detour.parent c.args.detour.d c.args.detour.before = c.requires.deviation in
     let choice : Choice (graph_of c.args.star.now c.args.weights.now) c.args.overall.now (Unmarked c.args.used.now c.args.barred.now) (get_or c.args.path.now (c.args.detour.d - 1) 0) c.in-Node.l c.in-Node.y = chosen_node c.least_exit.ensures.chosen c.in-Node.is in
-    let deviation : Deviation c.args.query.n (graph_of c.args.star.now c.args.weights.now) c.args.query.c.args.query.goal (entries c.args.query.n c.args.work.now c.args.detour.count) c.args.detour.parent c.args.used.now c.args.barred.now c.args.path.now c.args.detour.parent c.args.detour.d c.args.detour.before = c.requires.deviation in
-    let filled : Filled c.args.query.n c.args.query.slots (graph_of c.args.star.now c.args.weights.now) c.args.query.c.args.detour.parent c.args.work.now c.args.detour.count = c.requires.filled in
-    let problem : Problem c.args.query.n c.args.query.c.args.query.goal c.args.star.now c.args.weights.now c.args.overall.now = c.requires.problem in
     record { restored = record { flags = refl; kept = refl }; changed = unchanged filled; settled = settled_beyond problem deviation _ _ filled.entered c.in-Node.l (choice_floor problem deviation choice) c.if-limit-bound.true }
 
 pub too_dear-requires : goal.too_dear-requires
 too_dear-requires c =
-    let filled : Filled c.args.query.n c.args.query.slots (graph_of c.args.star.now c.args.weights.now) c.args.query.c.args.detour.parent c.args.work.now c.args.detour.count = c.requires.filled in
+    let filled : Filled c.args.query.n c.args.query.slots (graph_of c.args.star.now c.args.weights.now) c.args.query.start c.args.detour.parent c.args.work.now c.args.detour.count = c.requires.filled in
     let F = filled in (F.kept, F.some)
 
 pub returns-then-too_dear : goal.returns-then-too_dear
 returns-then-too_dear c =
+    let problem : Problem c.args.query.n c.args.query.start c.args.query.goal c.args.star.now c.args.weights.now c.args.overall.now = c.requires.problem in
+    let filled : Filled c.args.query.n c.args.query.slots (graph_of c.args.star.now c.args.weights.now) c.args.query.start c.args.detour.parent c.args.work.now c.args.detour.count = c.requires.filled in
+    let deviation : Deviation c.args.query.n (graph_of c.args.star.now c.args.weights.now) c.args.query.start c.args.query.goal (entries c.args.query.n c.args.work.now c.args.detour.count) c.args.detour.parent c.args.used.now c.args.barred.now c.args.path.now c.args.detour.parent c.args.detour.d c.args.detour.before = c.requires.deviation in
     let choice : Choice (graph_of c.args.star.now c.args.weights.now) c.args.overall.now (Unmarked c.args.used.now c.args.barred.now) (get_or c.args.path.now (c.args.detour.d - 1) 0) c.in-Node.l c.in-Node.y = chosen_node c.least_exit.ensures.chosen c.in-Node.is in
-    let deviation : Deviation c.args.query.n (graph_of c.args.star.now c.args.weights.now) c.args.query.c.args.query.goal (entries c.args.query.n c.args.work.now c.args.detour.count) c.args.detour.parent c.args.used.now c.args.barred.now c.args.path.now c.args.detour.parent c.args.detour.d c.args.detour.before = c.requires.deviation in
-    let filled : Filled c.args.query.n c.args.query.slots (graph_of c.args.star.now c.args.weights.now) c.args.query.c.args.detour.parent c.args.work.now c.args.detour.count = c.requires.filled in
-    let problem : Problem c.args.query.n c.args.query.c.args.query.goal c.args.star.now c.args.weights.now c.args.overall.now = c.requires.problem in
     let F = filled in
     let d = dear_facts c.too_dear.ensures c.if-too_dear.true in
     record { restored = record { flags = refl; kept = refl }; changed = unchanged F; settled = settled_dear problem deviation _ _ F.entered c.in-Node.l (choice_floor problem deviation choice) (length_entries c.args.query.n c.args.work.now c.args.detour.count ∙ d.0) F.some d.1 }
 
 pub enter-requires : goal.enter-requires
 enter-requires c =
+    let problem : Problem c.args.query.n c.args.query.start c.args.query.goal c.args.star.now c.args.weights.now c.args.overall.now = c.requires.problem in
+    let filled : Filled c.args.query.n c.args.query.slots (graph_of c.args.star.now c.args.weights.now) c.args.query.start c.args.detour.parent c.args.work.now c.args.detour.count = c.requires.filled in
+    let deviation : Deviation c.args.query.n (graph_of c.args.star.now c.args.weights.now) c.args.query.start c.args.query.goal (entries c.args.query.n c.args.work.now c.args.detour.count) c.args.detour.parent c.args.used.now c.args.barred.now c.args.path.now c.args.detour.parent c.args.detour.d c.args.detour.before = c.requires.deviation in
     let choice : Choice (graph_of c.args.star.now c.args.weights.now) c.args.overall.now (Unmarked c.args.used.now c.args.barred.now) (get_or c.args.path.now (c.args.detour.d - 1) 0) c.in-Node.l c.in-Node.y = chosen_node c.least_exit.ensures.chosen c.in-Node.is in
-    let deviation : Deviation c.args.query.n (graph_of c.args.star.now c.args.weights.now) c.args.query.c.args.query.goal (entries c.args.query.n c.args.work.now c.args.detour.count) c.args.detour.parent c.args.used.now c.args.barred.now c.args.path.now c.args.detour.parent c.args.detour.d c.args.detour.before = c.requires.deviation in
-    let filled : Filled c.args.query.n c.args.query.slots (graph_of c.args.star.now c.args.weights.now) c.args.query.c.args.detour.parent c.args.work.now c.args.detour.count = c.requires.filled in
-    let problem : Problem c.args.query.n c.args.query.c.args.query.goal c.args.star.now c.args.weights.now c.args.overall.now = c.requires.problem in
     record { problem = problem; filled = filled; deviation = deviation; choice = choice }
 
 pub returns : goal.returns

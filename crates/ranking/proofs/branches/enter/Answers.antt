@@ -19,76 +19,75 @@ use Rattle.ranking.proofs.branches.enter.Goals as goal
 
 pub most_wanted-most-requires : goal.most_wanted-most-requires
 most_wanted-most-requires c =
-    let filled : Filled c.args.query.n c.args.query.slots (graph_of c.args.star.now c.args.weights.now) c.args.query.c.args.detour.parent c.args.work.now c.args.detour.count = c.requires.filled in
+    let filled : Filled c.args.query.n c.args.query.slots (graph_of c.args.star.now c.args.weights.now) c.args.query.start c.args.detour.parent c.args.work.now c.args.detour.count = c.requires.filled in
     let F = filled in (F.kept, F.some)
 
 pub first_path-requires : goal.first_path-requires
 first_path-requires c =
+    let problem : Problem c.args.query.n c.args.query.start c.args.query.goal c.args.star.now c.args.weights.now c.args.overall.now = c.requires.problem in
+    let deviation : Deviation c.args.query.n (graph_of c.args.star.now c.args.weights.now) c.args.query.start c.args.query.goal (entries c.args.query.n c.args.work.now c.args.detour.count) c.args.detour.parent c.args.used.now c.args.barred.now c.args.path.now c.args.detour.parent c.args.detour.d c.args.detour.before = c.requires.deviation in
     let wanted : Wanted c.args.query.slots c.args.detour.count (entries c.args.query.n c.args.work.now c.args.detour.count) c.args.detour.before c.most_wanted-most.result = c.most_wanted-most.ensures in
-    let deviation : Deviation c.args.query.n (graph_of c.args.star.now c.args.weights.now) c.args.query.c.args.query.goal (entries c.args.query.n c.args.work.now c.args.detour.count) c.args.detour.parent c.args.used.now c.args.barred.now c.args.path.now c.args.detour.parent c.args.detour.d c.args.detour.before = c.requires.deviation in
-    let problem : Problem c.args.query.n c.args.query.c.args.query.goal c.args.star.now c.args.weights.now c.args.overall.now = c.requires.problem in
-    -- WANTS record of network, begun, ahead, consistent, choice
     let P = problem in
     let D = deviation in
-    rw D.begun.laid.flags_long (P.network, (D.begun, (goal_ahead P D, ((still_consistent P D, P.small, wanted.small), c.requires.choice))))
+    rw D.begun.laid.flags_long (record { network = P.network; begun = D.begun; ahead = goal_ahead P D; consistent = (still_consistent P D, P.small, wanted.small); choice = c.requires.choice })
 
 pub returns-in_default : goal.returns-in_default
 returns-in_default c =
-    let count_is : length (entries c.args.query.n c.args.work.now c.args.detour.count) ≡ c.args.detour.count = length_entries c.args.query.n c.args.work.now c.args.detour.count in
-    let result : FirstWithin (graph_of c.args.star.now c.args.weights.now) c.args.query.c.args.query.goal (branch (take c.args.detour.d c.args.path.now) (barred (entries c.args.query.n c.args.work.now c.args.detour.count) (taking_over c.args.detour.d c.args.detour.parent))) c.first_path.new.path c.most_wanted-most.result c.first_path.result = let D = deviation in c.first_path.ensures.by_index _ _ D.begins D.flagged in
-    let wanted : Wanted c.args.query.slots c.args.detour.count (entries c.args.query.n c.args.work.now c.args.detour.count) c.args.detour.before c.most_wanted-most.result = c.most_wanted-most.ensures in
+    let problem : Problem c.args.query.n c.args.query.start c.args.query.goal c.args.star.now c.args.weights.now c.args.overall.now = c.requires.problem in
+    let filled : Filled c.args.query.n c.args.query.slots (graph_of c.args.star.now c.args.weights.now) c.args.query.start c.args.detour.parent c.args.work.now c.args.detour.count = c.requires.filled in
+    let deviation : Deviation c.args.query.n (graph_of c.args.star.now c.args.weights.now) c.args.query.start c.args.query.goal (entries c.args.query.n c.args.work.now c.args.detour.count) c.args.detour.parent c.args.used.now c.args.barred.now c.args.path.now c.args.detour.parent c.args.detour.d c.args.detour.before = c.requires.deviation in
     let restored : Restored c.args.used.now c.args.path.now c.args.detour.d c.first_path.new.used c.first_path.new.path = record { flags = c.first_path.ensures.kept.flags; kept = c.first_path.ensures.kept.kept } in
-    let deviation : Deviation c.args.query.n (graph_of c.args.star.now c.args.weights.now) c.args.query.c.args.query.goal (entries c.args.query.n c.args.work.now c.args.detour.count) c.args.detour.parent c.args.used.now c.args.barred.now c.args.path.now c.args.detour.parent c.args.detour.d c.args.detour.before = c.requires.deviation in
-    let filled : Filled c.args.query.n c.args.query.slots (graph_of c.args.star.now c.args.weights.now) c.args.query.c.args.detour.parent c.args.work.now c.args.detour.count = c.requires.filled in
-    let problem : Problem c.args.query.n c.args.query.c.args.query.goal c.args.star.now c.args.weights.now c.args.overall.now = c.requires.problem in
+    let wanted : Wanted c.args.query.slots c.args.detour.count (entries c.args.query.n c.args.work.now c.args.detour.count) c.args.detour.before c.most_wanted-most.result = c.most_wanted-most.ensures in
+    let result : FirstWithin (graph_of c.args.star.now c.args.weights.now) c.args.query.start c.args.query.goal (branch (take c.args.detour.d c.args.path.now) (barred (entries c.args.query.n c.args.work.now c.args.detour.count) (taking_over c.args.detour.d c.args.detour.parent))) c.first_path.new.path c.most_wanted-most.result c.first_path.result = let D = deviation in c.first_path.ensures.by_index _ _ D.begins D.flagged in
+    let count_is : length (entries c.args.query.n c.args.work.now c.args.detour.count) ≡ c.args.detour.count = length_entries c.args.query.n c.args.work.now c.args.detour.count in
     let F = filled in
     let W = wanted in
     record { restored = restored; changed = unchanged F; by_index = λ limit. ⊎_elim (settled_empty problem deviation _ limit F.entered)
             (λ d. let z = ap (λ (k : ℕ). (get_or (entries c.args.query.n c.args.work.now c.args.detour.count) (k - 1) none).cost) (W.full d.2) in settled_dear problem deviation _ limit F.entered d.0 d.3 (count_is ∙ W.full d.2) F.some (omega (arith, z, W.last d.2, d.1)))
-            (within_empty result.enum_told.given.1) }
+            (within_empty result c.in_default.is) }
 
 pub place_for-place-requires : goal.place_for-place-requires
 place_for-place-requires c =
+    let filled : Filled c.args.query.n c.args.query.slots (graph_of c.args.star.now c.args.weights.now) c.args.query.start c.args.detour.parent c.args.work.now c.args.detour.count = c.requires.filled in
     let count_is : length (entries c.args.query.n c.args.work.now c.args.detour.count) ≡ c.args.detour.count = length_entries c.args.query.n c.args.work.now c.args.detour.count in
-    let filled : Filled c.args.query.n c.args.query.slots (graph_of c.args.star.now c.args.weights.now) c.args.query.c.args.detour.parent c.args.work.now c.args.detour.count = c.requires.filled in
     let F = filled in
     record { readable = (kept_readable F.kept, F.entered.family); from_le_count = omega (arith, F.entered.border, count_is) }
 
 pub returns-then-place-slots : goal.returns-then-place-slots
 returns-then-place-slots c =
-    let result : FirstWithin (graph_of c.args.star.now c.args.weights.now) c.args.query.c.args.query.goal (branch (take c.args.detour.d c.args.path.now) (barred (entries c.args.query.n c.args.work.now c.args.detour.count) (taking_over c.args.detour.d c.args.detour.parent))) c.first_path.new.path c.most_wanted-most.result c.first_path.result = let D = deviation in c.first_path.ensures.by_index _ _ D.begins D.flagged in
-    let count_is : length (entries c.args.query.n c.args.work.now c.args.detour.count) ≡ c.args.detour.count = length_entries c.args.query.n c.args.work.now c.args.detour.count in
-    let extent : (c.args.detour.d < c.in-Tail.len) × (c.in-Tail.len ≤ length c.first_path.new.path) = extent_tail c.first_path.ensures.kept.reach c.in-Tail.is in
-    let first : First (graph_of c.args.star.now c.args.weights.now) c.args.query.c.args.query.goal (branch (take c.args.detour.d c.args.path.now) (barred (entries c.args.query.n c.args.work.now c.args.detour.count) (taking_over c.args.detour.d c.args.detour.parent))) (take c.in-Tail.len c.first_path.new.path) × (cost (graph_of c.args.star.now c.args.weights.now) (take c.in-Tail.len c.first_path.new.path) ≡ cost (graph_of c.args.star.now c.args.weights.now) (take c.args.detour.d c.args.path.now) + c.in-Tail.rest) = within_tail result.len.given.1 in
+    let problem : Problem c.args.query.n c.args.query.start c.args.query.goal c.args.star.now c.args.weights.now c.args.overall.now = c.requires.problem in
+    let filled : Filled c.args.query.n c.args.query.slots (graph_of c.args.star.now c.args.weights.now) c.args.query.start c.args.detour.parent c.args.work.now c.args.detour.count = c.requires.filled in
+    let deviation : Deviation c.args.query.n (graph_of c.args.star.now c.args.weights.now) c.args.query.start c.args.query.goal (entries c.args.query.n c.args.work.now c.args.detour.count) c.args.detour.parent c.args.used.now c.args.barred.now c.args.path.now c.args.detour.parent c.args.detour.d c.args.detour.before = c.requires.deviation in
     let restored : Restored c.args.used.now c.args.path.now c.args.detour.d c.first_path.new.used c.first_path.new.path = record { flags = c.first_path.ensures.kept.flags; kept = c.first_path.ensures.kept.kept } in
-    let deviation : Deviation c.args.query.n (graph_of c.args.star.now c.args.weights.now) c.args.query.c.args.query.goal (entries c.args.query.n c.args.work.now c.args.detour.count) c.args.detour.parent c.args.used.now c.args.barred.now c.args.path.now c.args.detour.parent c.args.detour.d c.args.detour.before = c.requires.deviation in
-    let filled : Filled c.args.query.n c.args.query.slots (graph_of c.args.star.now c.args.weights.now) c.args.query.c.args.detour.parent c.args.work.now c.args.detour.count = c.requires.filled in
-    let problem : Problem c.args.query.n c.args.query.c.args.query.goal c.args.star.now c.args.weights.now c.args.overall.now = c.requires.problem in
+    let result : FirstWithin (graph_of c.args.star.now c.args.weights.now) c.args.query.start c.args.query.goal (branch (take c.args.detour.d c.args.path.now) (barred (entries c.args.query.n c.args.work.now c.args.detour.count) (taking_over c.args.detour.d c.args.detour.parent))) c.first_path.new.path c.most_wanted-most.result c.first_path.result = let D = deviation in c.first_path.ensures.by_index _ _ D.begins D.flagged in
+    let first : First (graph_of c.args.star.now c.args.weights.now) c.args.query.start c.args.query.goal (branch (take c.args.detour.d c.args.path.now) (barred (entries c.args.query.n c.args.work.now c.args.detour.count) (taking_over c.args.detour.d c.args.detour.parent))) (take c.in-Tail.len c.first_path.new.path) × (cost (graph_of c.args.star.now c.args.weights.now) (take c.in-Tail.len c.first_path.new.path) ≡ cost (graph_of c.args.star.now c.args.weights.now) (take c.args.detour.d c.args.path.now) + c.in-Tail.rest) = within_tail result c.in-Tail.is in
+    let extent : (c.args.detour.d < c.in-Tail.len) × (c.in-Tail.len ≤ length c.first_path.new.path) = extent_tail c.first_path.ensures.kept.reach c.in-Tail.is in
+    let count_is : length (entries c.args.query.n c.args.work.now c.args.detour.count) ≡ c.args.detour.count = length_entries c.args.query.n c.args.work.now c.args.detour.count in
     let F = filled in
-    record { restored = restored; changed = unchanged F; by_index = settled_out problem deviation.first_path.new.1.1.1.1.1.1.0 c.in-Tail.len restored.kept extent.0 extent.1 c.in-Tail.rest _ first.0 first.1 refl _ _ F.entered c.place_for-place.ensures c.if-place-slots.true (omega (arith, count_is, F.kept.upto)) }
+    record { restored = restored; changed = unchanged F; by_index = settled_out problem deviation c.first_path.new.path c.in-Tail.len restored.kept extent.0 extent.1 c.in-Tail.rest _ first.0 first.1 refl _ _ F.entered c.place_for-place.ensures c.if-place-slots.true (omega (arith, count_is, F.kept.upto)) }
 
 pub insert-requires : goal.insert-requires
 insert-requires c =
-    let result : FirstWithin (graph_of c.args.star.now c.args.weights.now) c.args.query.c.args.query.goal (branch (take c.args.detour.d c.args.path.now) (barred (entries c.args.query.n c.args.work.now c.args.detour.count) (taking_over c.args.detour.d c.args.detour.parent))) c.first_path.new.path c.most_wanted-most.result c.first_path.result = let D = deviation in c.first_path.ensures.by_index _ _ D.begins D.flagged in
-    let count_is : length (entries c.args.query.n c.args.work.now c.args.detour.count) ≡ c.args.detour.count = length_entries c.args.query.n c.args.work.now c.args.detour.count in
-    let extent : (c.args.detour.d < c.in-Tail.len) × (c.in-Tail.len ≤ length c.first_path.new.path) = extent_tail c.first_path.ensures.kept.reach c.in-Tail.is in
-    let first : First (graph_of c.args.star.now c.args.weights.now) c.args.query.c.args.query.goal (branch (take c.args.detour.d c.args.path.now) (barred (entries c.args.query.n c.args.work.now c.args.detour.count) (taking_over c.args.detour.d c.args.detour.parent))) (take c.in-Tail.len c.first_path.new.path) × (cost (graph_of c.args.star.now c.args.weights.now) (take c.in-Tail.len c.first_path.new.path) ≡ cost (graph_of c.args.star.now c.args.weights.now) (take c.args.detour.d c.args.path.now) + c.in-Tail.rest) = within_tail result.len.given.1 in
+    let problem : Problem c.args.query.n c.args.query.start c.args.query.goal c.args.star.now c.args.weights.now c.args.overall.now = c.requires.problem in
+    let filled : Filled c.args.query.n c.args.query.slots (graph_of c.args.star.now c.args.weights.now) c.args.query.start c.args.detour.parent c.args.work.now c.args.detour.count = c.requires.filled in
+    let deviation : Deviation c.args.query.n (graph_of c.args.star.now c.args.weights.now) c.args.query.start c.args.query.goal (entries c.args.query.n c.args.work.now c.args.detour.count) c.args.detour.parent c.args.used.now c.args.barred.now c.args.path.now c.args.detour.parent c.args.detour.d c.args.detour.before = c.requires.deviation in
     let restored : Restored c.args.used.now c.args.path.now c.args.detour.d c.first_path.new.used c.first_path.new.path = record { flags = c.first_path.ensures.kept.flags; kept = c.first_path.ensures.kept.kept } in
-    let deviation : Deviation c.args.query.n (graph_of c.args.star.now c.args.weights.now) c.args.query.c.args.query.goal (entries c.args.query.n c.args.work.now c.args.detour.count) c.args.detour.parent c.args.used.now c.args.barred.now c.args.path.now c.args.detour.parent c.args.detour.d c.args.detour.before = c.requires.deviation in
-    let filled : Filled c.args.query.n c.args.query.slots (graph_of c.args.star.now c.args.weights.now) c.args.query.c.args.detour.parent c.args.work.now c.args.detour.count = c.requires.filled in
-    let problem : Problem c.args.query.n c.args.query.c.args.query.goal c.args.star.now c.args.weights.now c.args.overall.now = c.requires.problem in
-    record { kept = filled.kept; place_le_count = (omega (arith, c.place_for-place.ensures.upper, count_is), omega (arith, c.place_for-place.ensures.upper, count_is, filled.kept.upto), rest_short problem deviation.first_path.new.1.1.1.1.1.1.0 c.in-Tail.len restored.kept extent.0 extent.1 first.0.member.path) }
+    let result : FirstWithin (graph_of c.args.star.now c.args.weights.now) c.args.query.start c.args.query.goal (branch (take c.args.detour.d c.args.path.now) (barred (entries c.args.query.n c.args.work.now c.args.detour.count) (taking_over c.args.detour.d c.args.detour.parent))) c.first_path.new.path c.most_wanted-most.result c.first_path.result = let D = deviation in c.first_path.ensures.by_index _ _ D.begins D.flagged in
+    let first : First (graph_of c.args.star.now c.args.weights.now) c.args.query.start c.args.query.goal (branch (take c.args.detour.d c.args.path.now) (barred (entries c.args.query.n c.args.work.now c.args.detour.count) (taking_over c.args.detour.d c.args.detour.parent))) (take c.in-Tail.len c.first_path.new.path) × (cost (graph_of c.args.star.now c.args.weights.now) (take c.in-Tail.len c.first_path.new.path) ≡ cost (graph_of c.args.star.now c.args.weights.now) (take c.args.detour.d c.args.path.now) + c.in-Tail.rest) = within_tail result c.in-Tail.is in
+    let extent : (c.args.detour.d < c.in-Tail.len) × (c.in-Tail.len ≤ length c.first_path.new.path) = extent_tail c.first_path.ensures.kept.reach c.in-Tail.is in
+    let count_is : length (entries c.args.query.n c.args.work.now c.args.detour.count) ≡ c.args.detour.count = length_entries c.args.query.n c.args.work.now c.args.detour.count in
+    record { kept = filled.kept; place_le_count = (omega (arith, c.place_for-place.ensures.upper, count_is), omega (arith, c.place_for-place.ensures.upper, count_is, filled.kept.upto), rest_short problem deviation c.first_path.new.path c.in-Tail.len restored.kept extent.0 extent.1 first.0.member.path) }
 
 pub returns : goal.returns
 returns c =
-    let result : FirstWithin (graph_of c.args.star.now c.args.weights.now) c.args.query.c.args.query.goal (branch (take c.args.detour.d c.args.path.now) (barred (entries c.args.query.n c.args.work.now c.args.detour.count) (taking_over c.args.detour.d c.args.detour.parent))) c.first_path.new.path c.most_wanted-most.result c.first_path.result = let D = deviation in c.first_path.ensures.by_index _ _ D.begins D.flagged in
-    let count_is : length (entries c.args.query.n c.args.work.now c.args.detour.count) ≡ c.args.detour.count = length_entries c.args.query.n c.args.work.now c.args.detour.count in
-    let extent : (c.args.detour.d < c.in-Tail.len) × (c.in-Tail.len ≤ length c.first_path.new.path) = extent_tail c.first_path.ensures.kept.reach c.in-Tail.is in
-    let first : First (graph_of c.args.star.now c.args.weights.now) c.args.query.c.args.query.goal (branch (take c.args.detour.d c.args.path.now) (barred (entries c.args.query.n c.args.work.now c.args.detour.count) (taking_over c.args.detour.d c.args.detour.parent))) (take c.in-Tail.len c.first_path.new.path) × (cost (graph_of c.args.star.now c.args.weights.now) (take c.in-Tail.len c.first_path.new.path) ≡ cost (graph_of c.args.star.now c.args.weights.now) (take c.args.detour.d c.args.path.now) + c.in-Tail.rest) = within_tail result.len.given.1 in
+    let problem : Problem c.args.query.n c.args.query.start c.args.query.goal c.args.star.now c.args.weights.now c.args.overall.now = c.requires.problem in
+    let filled : Filled c.args.query.n c.args.query.slots (graph_of c.args.star.now c.args.weights.now) c.args.query.start c.args.detour.parent c.args.work.now c.args.detour.count = c.requires.filled in
+    let deviation : Deviation c.args.query.n (graph_of c.args.star.now c.args.weights.now) c.args.query.start c.args.query.goal (entries c.args.query.n c.args.work.now c.args.detour.count) c.args.detour.parent c.args.used.now c.args.barred.now c.args.path.now c.args.detour.parent c.args.detour.d c.args.detour.before = c.requires.deviation in
     let restored : Restored c.args.used.now c.args.path.now c.args.detour.d c.first_path.new.used c.first_path.new.path = record { flags = c.first_path.ensures.kept.flags; kept = c.first_path.ensures.kept.kept } in
-    let deviation : Deviation c.args.query.n (graph_of c.args.star.now c.args.weights.now) c.args.query.c.args.query.goal (entries c.args.query.n c.args.work.now c.args.detour.count) c.args.detour.parent c.args.used.now c.args.barred.now c.args.path.now c.args.detour.parent c.args.detour.d c.args.detour.before = c.requires.deviation in
-    let filled : Filled c.args.query.n c.args.query.slots (graph_of c.args.star.now c.args.weights.now) c.args.query.c.args.detour.parent c.args.work.now c.args.detour.count = c.requires.filled in
-    let problem : Problem c.args.query.n c.args.query.c.args.query.goal c.args.star.now c.args.weights.now c.args.overall.now = c.requires.problem in
+    let result : FirstWithin (graph_of c.args.star.now c.args.weights.now) c.args.query.start c.args.query.goal (branch (take c.args.detour.d c.args.path.now) (barred (entries c.args.query.n c.args.work.now c.args.detour.count) (taking_over c.args.detour.d c.args.detour.parent))) c.first_path.new.path c.most_wanted-most.result c.first_path.result = let D = deviation in c.first_path.ensures.by_index _ _ D.begins D.flagged in
+    let first : First (graph_of c.args.star.now c.args.weights.now) c.args.query.start c.args.query.goal (branch (take c.args.detour.d c.args.path.now) (barred (entries c.args.query.n c.args.work.now c.args.detour.count) (taking_over c.args.detour.d c.args.detour.parent))) (take c.in-Tail.len c.first_path.new.path) × (cost (graph_of c.args.star.now c.args.weights.now) (take c.in-Tail.len c.first_path.new.path) ≡ cost (graph_of c.args.star.now c.args.weights.now) (take c.args.detour.d c.args.path.now) + c.in-Tail.rest) = within_tail result c.in-Tail.is in
+    let extent : (c.args.detour.d < c.in-Tail.len) × (c.in-Tail.len ≤ length c.first_path.new.path) = extent_tail c.first_path.ensures.kept.reach c.in-Tail.is in
+    let count_is : length (entries c.args.query.n c.args.work.now c.args.detour.count) ≡ c.args.detour.count = length_entries c.args.query.n c.args.work.now c.args.detour.count in
     let P = problem in
     let D = deviation in
     let F = filled in

@@ -8,7 +8,7 @@ use Rattle.candidates.proofs.EntryLaws.{kept_readable, entries_at, readable_less
 use Rattle.ranking.proofs.branches.most_wanted.Goals as goal
 
 pub cost_at-dearest-requires : goal.cost_at-dearest-requires
-cost_at-dearest-requires c = let p = c.requires.0 in readable_less (c.args.count - 1 + 1) (omega arith) (kept_readable p)
+cost_at-dearest-requires c = readable_less (c.args.count - 1 + 1) (omega arith) (kept_readable c.requires.0)
 
 pub returns-then-dearest-before : goal.returns-then-dearest-before
 returns-then-dearest-before c =

@@ -11,7 +11,7 @@ pub returns-then-count-slots : goal.returns-then-count-slots
 returns-then-count-slots c = TooDear.cheap
 
 pub cost_at-dearest-requires : goal.cost_at-dearest-requires
-cost_at-dearest-requires c = let p = c.requires.0 in readable_less (c.args.count - 1 + 1) (omega arith) (kept_readable p)
+cost_at-dearest-requires c = readable_less (c.args.count - 1 + 1) (omega arith) (kept_readable c.requires.0)
 
 pub returns-then-bound-dearest : goal.returns-then-bound-dearest
 returns-then-bound-dearest c = TooDear.cheap

@@ -10,20 +10,18 @@ use Rattle.ranking.proofs.ranking.advance.Goals as goal
 
 pub returns-then-rank-slots : goal.returns-then-rank-slots
 returns-then-rank-slots c =
-    let searching : Searching c.args.query.n (graph_of c.args.star.now c.args.weights.now) c.args.query.c.args.query.goal c.args.query.slots far (entries c.args.query.n c.args.work.now c.args.count) c.args.rank [] = c.requires.rank_lt_count.1 in
-    let filled : Filled c.args.query.n c.args.query.slots (graph_of c.args.star.now c.args.weights.now) c.args.query.c.args.rank c.args.work.now c.args.count = c.requires.filled in
-    let problem : Problem c.args.query.n c.args.query.c.args.query.goal c.args.star.now c.args.weights.now c.args.overall.now = c.requires.problem in
+    let problem : Problem c.args.query.n c.args.query.start c.args.query.goal c.args.star.now c.args.weights.now c.args.overall.now = c.requires.problem in
+    let filled : Filled c.args.query.n c.args.query.slots (graph_of c.args.star.now c.args.weights.now) c.args.query.start c.args.rank c.args.work.now c.args.count = c.requires.filled in
+    let searching : Searching c.args.query.n (graph_of c.args.star.now c.args.weights.now) c.args.query.start c.args.query.goal c.args.query.slots far (entries c.args.query.n c.args.work.now c.args.count) c.args.rank [] = c.requires.rank_lt_count.1 in
     let F = filled in
-    let h = c.requires.rank_lt_count.0 in
-    record { changed = last_changed problem F h searching; stage = last_stage problem F h searching.if1.true }
+    record { changed = last_changed problem F c.requires.rank_lt_count.0 searching; stage = last_stage problem F c.requires.rank_lt_count.0 searching c.if-rank-slots.true }
 
 pub split-requires : goal.split-requires
 split-requires c =
-    let searching : Searching c.args.query.n (graph_of c.args.star.now c.args.weights.now) c.args.query.c.args.query.goal c.args.query.slots far (entries c.args.query.n c.args.work.now c.args.count) c.args.rank [] = c.requires.rank_lt_count.1 in
-    let filled : Filled c.args.query.n c.args.query.slots (graph_of c.args.star.now c.args.weights.now) c.args.query.c.args.rank c.args.work.now c.args.count = c.requires.filled in
-    let problem : Problem c.args.query.n c.args.query.c.args.query.goal c.args.star.now c.args.weights.now c.args.overall.now = c.requires.problem in
-    -- WANTS record of problem, filled, due
-    rw c.requires.limit_value (problem, (filled, due_next problem filled.pre.1.1.0.0 searching))
+    let problem : Problem c.args.query.n c.args.query.start c.args.query.goal c.args.star.now c.args.weights.now c.args.overall.now = c.requires.problem in
+    let filled : Filled c.args.query.n c.args.query.slots (graph_of c.args.star.now c.args.weights.now) c.args.query.start c.args.rank c.args.work.now c.args.count = c.requires.filled in
+    let searching : Searching c.args.query.n (graph_of c.args.star.now c.args.weights.now) c.args.query.start c.args.query.goal c.args.query.slots far (entries c.args.query.n c.args.work.now c.args.count) c.args.rank [] = c.requires.rank_lt_count.1 in
+    rw c.requires.limit_value (record { problem = problem; filled = filled; due = due_next problem filled c.requires.rank_lt_count.0 searching })
 
 pub returns : goal.returns
 returns c =

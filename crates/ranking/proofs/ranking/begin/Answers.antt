@@ -6,5 +6,4 @@ use Rattle.ranking.proofs.ranking.begin.Goals as goal
 pub begin_in-requires : goal.begin_in-requires
 begin_in-requires c =
     let few : c.args.query.n ≤ 200 = problem_few c.requires.problem in
-    let p = c.requires in
-    record { problem = p.0; space = p.1; blank = blank_parts few }
+    record { problem = c.requires.problem; space = c.requires.space; blank = blank_parts few }

@@ -14,42 +14,37 @@ use Rattle.ranking.proofs.splitting.deviate.Goals as goal
 
 pub set_bars-requires : goal.set_bars-requires
 set_bars-requires c =
-    let short : c.args.fork.d < size (get_or (entries c.args.query.n c.args.work.now c.args.fork.count) c.args.fork.rank none) = c.requires.d_bound in
-    let along : Along c.args.query.n (graph_of c.args.star.now c.args.weights.now) c.args.query.c.args.query.goal (entries c.args.query.n c.args.work.now c.args.fork.count) c.args.fork.rank c.args.used.now c.args.barred.now c.args.path.now c.args.fork.d c.args.fork.before = c.requires.along in
     let filled : Filled c.args.query.n c.args.query.slots (graph_of c.args.star.now c.args.weights.now) c.args.query.start (c.args.fork.rank + 1) c.args.work.now c.args.fork.count = c.requires.filled in
-    let r = c.args.fork.rank in
+    let along : Along c.args.query.n (graph_of c.args.star.now c.args.weights.now) c.args.query.start c.args.query.goal (entries c.args.query.n c.args.work.now c.args.fork.count) c.args.fork.rank c.args.used.now c.args.barred.now c.args.path.now c.args.fork.d c.args.fork.before = c.requires.along in
+    let short : c.args.fork.d < size (get_or (entries c.args.query.n c.args.work.now c.args.fork.count) c.args.fork.rank none) = c.requires.d_bound in
     let F = filled in
-    record { rooted = (part_rooted r F, omega (arith, along.bars_long)); place_bound = rw (entry_is r F) (along.lower, short) }
+    record { rooted = (part_rooted c.args.fork.rank F, omega (arith, along.bars_long)); place_bound = rw (entry_is c.args.fork.rank F) (along.lower, short) }
 
 pub consider-now-requires : goal.consider-now-requires
 consider-now-requires c =
-    let flags_are : c.set_bars.new.flags ≡ marked 1 (barred (entries c.args.query.n c.args.work.now c.args.fork.count) (taking_over c.args.fork.d (c.args.fork.rank + 1))) c.args.barred.now = c.set_bars.ensures ∙ ap (λ l. marked 1 l c.args.barred.now) (barred_is c.args.fork.rank filled.args.fork.d) in
-    let short : c.args.fork.d < size (get_or (entries c.args.query.n c.args.work.now c.args.fork.count) c.args.fork.rank none) = c.requires.d_bound in
-    let along : Along c.args.query.n (graph_of c.args.star.now c.args.weights.now) c.args.query.c.args.query.goal (entries c.args.query.n c.args.work.now c.args.fork.count) c.args.fork.rank c.args.used.now c.args.barred.now c.args.path.now c.args.fork.d c.args.fork.before = c.requires.along in
-    let deviation : Deviation c.args.query.n (graph_of c.args.star.now c.args.weights.now) c.args.query.c.args.query.goal (entries c.args.query.n c.args.work.now c.args.fork.count) (c.args.fork.rank + 1) c.args.used.now c.set_bars.new.flags c.args.path.now (c.args.fork.rank + 1) c.args.fork.d c.args.fork.before = part_deviation c.args.fork.rank filled along short flags_are in
     let filled : Filled c.args.query.n c.args.query.slots (graph_of c.args.star.now c.args.weights.now) c.args.query.start (c.args.fork.rank + 1) c.args.work.now c.args.fork.count = c.requires.filled in
+    let along : Along c.args.query.n (graph_of c.args.star.now c.args.weights.now) c.args.query.start c.args.query.goal (entries c.args.query.n c.args.work.now c.args.fork.count) c.args.fork.rank c.args.used.now c.args.barred.now c.args.path.now c.args.fork.d c.args.fork.before = c.requires.along in
+    let short : c.args.fork.d < size (get_or (entries c.args.query.n c.args.work.now c.args.fork.count) c.args.fork.rank none) = c.requires.d_bound in
+    let flags_are : c.set_bars.new.flags ≡ marked 1 (barred (entries c.args.query.n c.args.work.now c.args.fork.count) (taking_over c.args.fork.d (c.args.fork.rank + 1))) c.args.barred.now = c.set_bars.ensures ∙ ap (λ l. marked 1 l c.args.barred.now) (barred_is c.args.fork.rank filled c.args.fork.d) in
+    let deviation : Deviation c.args.query.n (graph_of c.args.star.now c.args.weights.now) c.args.query.start c.args.query.goal (entries c.args.query.n c.args.work.now c.args.fork.count) (c.args.fork.rank + 1) c.args.used.now c.set_bars.new.flags c.args.path.now (c.args.fork.rank + 1) c.args.fork.d c.args.fork.before = part_deviation c.args.fork.rank filled along short flags_are in
     record { problem = c.requires.problem; filled = filled; deviation = deviation }
 
 pub set_bars-requires-2 : goal.set_bars-requires-2
 set_bars-requires-2 c =
-    let flags_are : c.set_bars.new.flags ≡ marked 1 (barred (entries c.args.query.n c.args.work.now c.args.fork.count) (taking_over c.args.fork.d (c.args.fork.rank + 1))) c.args.barred.now = c.set_bars.ensures ∙ ap (λ l. marked 1 l c.args.barred.now) (barred_is c.args.fork.rank filled.args.fork.d) in
-    let deviation : Deviation c.args.query.n (graph_of c.args.star.now c.args.weights.now) c.args.query.c.args.query.goal (entries c.args.query.n c.args.work.now c.args.fork.count) (c.args.fork.rank + 1) c.args.used.now c.set_bars.new.flags c.args.path.now (c.args.fork.rank + 1) c.args.fork.d c.args.fork.before = part_deviation c.args.fork.rank filled along short flags_are in
-    let short : c.args.fork.d < size (get_or (entries c.args.query.n c.args.work.now c.args.fork.count) c.args.fork.rank none) = c.requires.d_bound in
-    let along : Along c.args.query.n (graph_of c.args.star.now c.args.weights.now) c.args.query.c.args.query.goal (entries c.args.query.n c.args.work.now c.args.fork.count) c.args.fork.rank c.args.used.now c.args.barred.now c.args.path.now c.args.fork.d c.args.fork.before = c.requires.along in
     let filled : Filled c.args.query.n c.args.query.slots (graph_of c.args.star.now c.args.weights.now) c.args.query.start (c.args.fork.rank + 1) c.args.work.now c.args.fork.count = c.requires.filled in
-    let r = c.args.fork.rank in
+    let along : Along c.args.query.n (graph_of c.args.star.now c.args.weights.now) c.args.query.start c.args.query.goal (entries c.args.query.n c.args.work.now c.args.fork.count) c.args.fork.rank c.args.used.now c.args.barred.now c.args.path.now c.args.fork.d c.args.fork.before = c.requires.along in
+    let short : c.args.fork.d < size (get_or (entries c.args.query.n c.args.work.now c.args.fork.count) c.args.fork.rank none) = c.requires.d_bound in
+    let flags_are : c.set_bars.new.flags ≡ marked 1 (barred (entries c.args.query.n c.args.work.now c.args.fork.count) (taking_over c.args.fork.d (c.args.fork.rank + 1))) c.args.barred.now = c.set_bars.ensures ∙ ap (λ l. marked 1 l c.args.barred.now) (barred_is c.args.fork.rank filled c.args.fork.d) in
+    let deviation : Deviation c.args.query.n (graph_of c.args.star.now c.args.weights.now) c.args.query.start c.args.query.goal (entries c.args.query.n c.args.work.now c.args.fork.count) (c.args.fork.rank + 1) c.args.used.now c.set_bars.new.flags c.args.path.now (c.args.fork.rank + 1) c.args.fork.d c.args.fork.before = part_deviation c.args.fork.rank filled along short flags_are in
     let F = filled in
-    let C = c.consider-now.ensures.changed in
-    let F' = changed_filled r F C in
-    record { rooted = (part_rooted r F', omega (arith, deviation.begun.barred_long)); place_bound = rw (entry_is r F', same_entry r F C) (along.lower, short) }
+    let F' = changed_filled c.args.fork.rank F c.consider-now.ensures.changed in
+    record { rooted = (part_rooted c.args.fork.rank F', omega (arith, deviation.begun.barred_long)); place_bound = rw (entry_is c.args.fork.rank F', same_entry c.args.fork.rank F c.consider-now.ensures.changed) (along.lower, short) }
 
 pub returns : goal.returns
 returns c =
-    let flags_are : c.set_bars.new.flags ≡ marked 1 (barred (entries c.args.query.n c.args.work.now c.args.fork.count) (taking_over c.args.fork.d (c.args.fork.rank + 1))) c.args.barred.now = c.set_bars.ensures ∙ ap (λ l. marked 1 l c.args.barred.now) (barred_is c.args.fork.rank filled.args.fork.d) in
-    let short : c.args.fork.d < size (get_or (entries c.args.query.n c.args.work.now c.args.fork.count) c.args.fork.rank none) = c.requires.d_bound in
-    let along : Along c.args.query.n (graph_of c.args.star.now c.args.weights.now) c.args.query.c.args.query.goal (entries c.args.query.n c.args.work.now c.args.fork.count) c.args.fork.rank c.args.used.now c.args.barred.now c.args.path.now c.args.fork.d c.args.fork.before = c.requires.along in
     let filled : Filled c.args.query.n c.args.query.slots (graph_of c.args.star.now c.args.weights.now) c.args.query.start (c.args.fork.rank + 1) c.args.work.now c.args.fork.count = c.requires.filled in
-    let r = c.args.fork.rank in
+    let along : Along c.args.query.n (graph_of c.args.star.now c.args.weights.now) c.args.query.start c.args.query.goal (entries c.args.query.n c.args.work.now c.args.fork.count) c.args.fork.rank c.args.used.now c.args.barred.now c.args.path.now c.args.fork.d c.args.fork.before = c.requires.along in
+    let short : c.args.fork.d < size (get_or (entries c.args.query.n c.args.work.now c.args.fork.count) c.args.fork.rank none) = c.requires.d_bound in
+    let flags_are : c.set_bars.new.flags ≡ marked 1 (barred (entries c.args.query.n c.args.work.now c.args.fork.count) (taking_over c.args.fork.d (c.args.fork.rank + 1))) c.args.barred.now = c.set_bars.ensures ∙ ap (λ l. marked 1 l c.args.barred.now) (barred_is c.args.fork.rank filled c.args.fork.d) in
     let F = filled in
-    let C = c.consider-now.ensures.changed in
-    record { restored = c.consider-now.ensures.restored; barred_unchanged = part_cleared r F along short (c.set_bars-2.ensures ∙ ap₂ (λ l f. marked 0 l f) (barred_kept r F C c.args.fork.d) flags_are); changed = C; settled = c.consider-now.ensures.settled }
+    record { restored = c.consider-now.ensures.restored; barred_unchanged = part_cleared c.args.fork.rank F along short (c.set_bars-2.ensures ∙ ap₂ (λ l f. marked 0 l f) (barred_kept c.args.fork.rank F c.consider-now.ensures.changed c.args.fork.d) flags_are); changed = c.consider-now.ensures.changed; settled = c.consider-now.ensures.settled }

@@ -13,27 +13,25 @@ use Rattle.ranking.proofs.splitting.deviations.Goals as goal
 pub loop-d-init : goal.loop-d-init
 loop-d-init c =
     let filled : Filled c.args.query.n c.args.query.slots (graph_of c.args.star.now c.args.weights.now) c.args.query.start (c.args.stem.rank + 1) c.args.work.now c.args.count = c.requires.filled in
-    (going_start filled.pre.1.1.0, refl, refl)
+    (going_start filled c.requires.along, refl, refl)
 
 pub step_back-behind-requires : goal.step_back-behind-requires
 step_back-behind-requires c =
     let filled : Filled c.args.query.n c.args.query.slots (graph_of c.args.star.now c.args.weights.now) c.args.query.start (c.args.stem.rank + 1) c.args.work.now c.args.count = c.requires.filled in
-    let more : (get_or (entries c.args.query.n c.loop-d.work c.loop-d.now) c.args.stem.rank none).shared < c.loop-d.d = omega (arith, going_shared filled.loop.invariant.0, c.requires.shared_value, c.loop-d-test.true) in
-    let place : Along c.args.query.n (graph_of c.args.star.now c.args.weights.now) c.args.query.c.args.query.goal (entries c.args.query.n c.loop-d.work c.loop-d.now) c.args.stem.rank c.loop-d.used c.loop-d.barred c.loop-d.path c.loop-d.d (c.args.stem.cost - c.loop-d.behind) = c.loop-d.invariant.0.place in
-    let now_filled : Filled c.args.query.n c.args.query.slots (graph_of c.args.star.now c.args.weights.now) c.args.query.start (c.args.stem.rank + 1) c.loop-d.work c.loop-d.now = going_filled filled.loop.invariant.0 in
-    -- WANTS record of network, laid
-    let n = c.requires.problem.network in
+    let now_filled : Filled c.args.query.n c.args.query.slots (graph_of c.args.star.now c.args.weights.now) c.args.query.start (c.args.stem.rank + 1) c.loop-d.work c.loop-d.now = going_filled filled c.loop-d.invariant.0 in
+    let place : Along c.args.query.n (graph_of c.args.star.now c.args.weights.now) c.args.query.start c.args.query.goal (entries c.args.query.n c.loop-d.work c.loop-d.now) c.args.stem.rank c.loop-d.used c.loop-d.barred c.loop-d.path c.loop-d.d (c.args.stem.cost - c.loop-d.behind) = c.loop-d.invariant.0.place in
+    let more : (get_or (entries c.args.query.n c.loop-d.work c.loop-d.now) c.args.stem.rank none).shared < c.loop-d.d = omega (arith, going_shared filled c.loop-d.invariant.0, c.requires.shared_value, c.loop-d-test.true) in
     let z : c.loop-d.d - 1 + 1 ≡ c.loop-d.d = omega (arith, c.loop-d-test.true) in
-    rw place.laid.flags_long (n, (rw z place.laid, back_some now_filled.entered place more))
+    rw place.laid.flags_long (record { network = c.requires.problem.network; laid = (rw z place.laid, back_some now_filled.entered place more) })
 
 pub deviate-now-requires : goal.deviate-now-requires
 deviate-now-requires c =
-    let arc : c.step_back-behind.result ≡ weight (graph_of c.args.star.now c.args.weights.now) (get_or c.loop-d.path (c.loop-d.d - 1 - 1) 0) (get_or c.loop-d.path (c.loop-d.d - 1) 0) = c.step_back-behind.ensures.value (back_linked now_filled.entered place more) in
     let filled : Filled c.args.query.n c.args.query.slots (graph_of c.args.star.now c.args.weights.now) c.args.query.start (c.args.stem.rank + 1) c.args.work.now c.args.count = c.requires.filled in
-    let back_place : Along c.args.query.n (graph_of c.args.star.now c.args.weights.now) c.args.query.c.args.query.goal (entries c.args.query.n c.loop-d.work c.loop-d.now) c.args.stem.rank c.step_back-behind.new.used c.loop-d.barred c.loop-d.path (c.loop-d.d - 1) (c.args.stem.cost - (c.loop-d.behind + c.step_back-behind.result)) = along_back now_filled.entered place more.loop.inv.0.rest refl arc (rw place.laid.flags_long at c.step_back-behind.ensures.laid_2) in
-    let more : (get_or (entries c.args.query.n c.loop-d.work c.loop-d.now) c.args.stem.rank none).shared < c.loop-d.d = omega (arith, going_shared filled.loop.invariant.0, c.requires.shared_value, c.loop-d-test.true) in
-    let place : Along c.args.query.n (graph_of c.args.star.now c.args.weights.now) c.args.query.c.args.query.goal (entries c.args.query.n c.loop-d.work c.loop-d.now) c.args.stem.rank c.loop-d.used c.loop-d.barred c.loop-d.path c.loop-d.d (c.args.stem.cost - c.loop-d.behind) = c.loop-d.invariant.0.place in
-    let now_filled : Filled c.args.query.n c.args.query.slots (graph_of c.args.star.now c.args.weights.now) c.args.query.start (c.args.stem.rank + 1) c.loop-d.work c.loop-d.now = going_filled filled.loop.invariant.0 in
+    let now_filled : Filled c.args.query.n c.args.query.slots (graph_of c.args.star.now c.args.weights.now) c.args.query.start (c.args.stem.rank + 1) c.loop-d.work c.loop-d.now = going_filled filled c.loop-d.invariant.0 in
+    let place : Along c.args.query.n (graph_of c.args.star.now c.args.weights.now) c.args.query.start c.args.query.goal (entries c.args.query.n c.loop-d.work c.loop-d.now) c.args.stem.rank c.loop-d.used c.loop-d.barred c.loop-d.path c.loop-d.d (c.args.stem.cost - c.loop-d.behind) = c.loop-d.invariant.0.place in
+    let more : (get_or (entries c.args.query.n c.loop-d.work c.loop-d.now) c.args.stem.rank none).shared < c.loop-d.d = omega (arith, going_shared filled c.loop-d.invariant.0, c.requires.shared_value, c.loop-d-test.true) in
+    let arc : c.step_back-behind.result ≡ weight (graph_of c.args.star.now c.args.weights.now) (get_or c.loop-d.path (c.loop-d.d - 1 - 1) 0) (get_or c.loop-d.path (c.loop-d.d - 1) 0) = c.step_back-behind.ensures.value (back_linked now_filled.entered place more) in
+    let back_place : Along c.args.query.n (graph_of c.args.star.now c.args.weights.now) c.args.query.start c.args.query.goal (entries c.args.query.n c.loop-d.work c.loop-d.now) c.args.stem.rank c.step_back-behind.new.used c.loop-d.barred c.loop-d.path (c.loop-d.d - 1) (c.args.stem.cost - (c.loop-d.behind + c.step_back-behind.result)) = along_back now_filled.entered place more c.loop-d.invariant.0.rest refl arc (rw place.laid.flags_long at c.step_back-behind.ensures.laid_2) in
     record { problem = c.requires.problem; filled = now_filled; along = back_place; d_bound = omega (arith, more, place.upper) }
 
 pub loop-d-smaller : goal.loop-d-smaller
@@ -41,22 +39,20 @@ loop-d-smaller c = omega (arith, c.loop-d-test.true)
 
 pub loop-d-preserved : goal.loop-d-preserved
 loop-d-preserved c =
-    let back_place : Along c.args.query.n (graph_of c.args.star.now c.args.weights.now) c.args.query.c.args.query.goal (entries c.args.query.n c.loop-d.work c.loop-d.now) c.args.stem.rank c.step_back-behind.new.used c.loop-d.barred c.loop-d.path (c.loop-d.d - 1) (c.args.stem.cost - (c.loop-d.behind + c.step_back-behind.result)) = along_back now_filled.entered place more.loop.inv.0.rest refl arc (rw place.laid.flags_long at c.step_back-behind.ensures.laid_2) in
-    let arc : c.step_back-behind.result ≡ weight (graph_of c.args.star.now c.args.weights.now) (get_or c.loop-d.path (c.loop-d.d - 1 - 1) 0) (get_or c.loop-d.path (c.loop-d.d - 1) 0) = c.step_back-behind.ensures.value (back_linked now_filled.entered place more) in
-    let more : (get_or (entries c.args.query.n c.loop-d.work c.loop-d.now) c.args.stem.rank none).shared < c.loop-d.d = omega (arith, going_shared filled.loop.invariant.0, c.requires.shared_value, c.loop-d-test.true) in
-    let place : Along c.args.query.n (graph_of c.args.star.now c.args.weights.now) c.args.query.c.args.query.goal (entries c.args.query.n c.loop-d.work c.loop-d.now) c.args.stem.rank c.loop-d.used c.loop-d.barred c.loop-d.path c.loop-d.d (c.args.stem.cost - c.loop-d.behind) = c.loop-d.invariant.0.place in
-    let now_filled : Filled c.args.query.n c.args.query.slots (graph_of c.args.star.now c.args.weights.now) c.args.query.start (c.args.stem.rank + 1) c.loop-d.work c.loop-d.now = going_filled filled.loop.invariant.0 in
     let filled : Filled c.args.query.n c.args.query.slots (graph_of c.args.star.now c.args.weights.now) c.args.query.start (c.args.stem.rank + 1) c.args.work.now c.args.count = c.requires.filled in
-    let i = c.loop-d.invariant in
-    let k = c.deviate-now.auto.1.1.1.1.1.1 in (
-      going_next filled i.0 more back_place (back_rest now_filled.entered place more i.0.rest refl arc) c.deviate-now.ensures.restored c.deviate-now.ensures.barred_unchanged c.deviate-now.ensures.changed c.deviate-now.ensures.settled k.0,
-      k.0 ∙ i.1,
-      k.1.0 ∙ i.2,
+    let now_filled : Filled c.args.query.n c.args.query.slots (graph_of c.args.star.now c.args.weights.now) c.args.query.start (c.args.stem.rank + 1) c.loop-d.work c.loop-d.now = going_filled filled c.loop-d.invariant.0 in
+    let place : Along c.args.query.n (graph_of c.args.star.now c.args.weights.now) c.args.query.start c.args.query.goal (entries c.args.query.n c.loop-d.work c.loop-d.now) c.args.stem.rank c.loop-d.used c.loop-d.barred c.loop-d.path c.loop-d.d (c.args.stem.cost - c.loop-d.behind) = c.loop-d.invariant.0.place in
+    let more : (get_or (entries c.args.query.n c.loop-d.work c.loop-d.now) c.args.stem.rank none).shared < c.loop-d.d = omega (arith, going_shared filled c.loop-d.invariant.0, c.requires.shared_value, c.loop-d-test.true) in
+    let arc : c.step_back-behind.result ≡ weight (graph_of c.args.star.now c.args.weights.now) (get_or c.loop-d.path (c.loop-d.d - 1 - 1) 0) (get_or c.loop-d.path (c.loop-d.d - 1) 0) = c.step_back-behind.ensures.value (back_linked now_filled.entered place more) in
+    let back_place : Along c.args.query.n (graph_of c.args.star.now c.args.weights.now) c.args.query.start c.args.query.goal (entries c.args.query.n c.loop-d.work c.loop-d.now) c.args.stem.rank c.step_back-behind.new.used c.loop-d.barred c.loop-d.path (c.loop-d.d - 1) (c.args.stem.cost - (c.loop-d.behind + c.step_back-behind.result)) = along_back now_filled.entered place more c.loop-d.invariant.0.rest refl arc (rw place.laid.flags_long at c.step_back-behind.ensures.laid_2) in
+    (
+      going_next filled c.loop-d.invariant.0 more back_place (back_rest now_filled.entered place more c.loop-d.invariant.0.rest refl arc) c.deviate-now.ensures.restored c.deviate-now.ensures.barred_unchanged c.deviate-now.ensures.changed c.deviate-now.ensures.settled c.deviate-now.auto.path,
+      c.deviate-now.auto.path ∙ c.loop-d.invariant.1,
+      c.deviate-now.auto.work ∙ c.loop-d.invariant.2,
     )
 
 pub returns : goal.returns
 returns c =
     let filled : Filled c.args.query.n c.args.query.slots (graph_of c.args.star.now c.args.weights.now) c.args.query.start (c.args.stem.rank + 1) c.args.work.now c.args.count = c.requires.filled in
-    let G = c.loop-d.invariant.0 in
-    let z : c.args.stem.shared ≡ c.loop-d.d = omega (arith, going_shared filled G, c.requires.shared_value, G.place.lower, c.loop-d-test.false) in
-    record { changed = G.changed; emptied = going_end filled G (sym z ∙ c.requires.shared_value) }
+    let z : c.args.stem.shared ≡ c.loop-d.d = omega (arith, going_shared filled c.loop-d.invariant.0, c.requires.shared_value, c.loop-d.invariant.0.place.lower, c.loop-d-test.false) in
+    record { changed = c.loop-d.invariant.0.changed; emptied = going_end filled c.loop-d.invariant.0 (sym z ∙ c.requires.shared_value) }

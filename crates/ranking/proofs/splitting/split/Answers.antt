@@ -6,5 +6,4 @@ use Rattle.ranking.proofs.splitting.split.Goals as goal
 pub split_in-requires : goal.split_in-requires
 split_in-requires c =
     let few : c.args.query.n ≤ 200 = problem_few c.requires.problem in
-    let p = c.requires in
-    record { problem = p.0; filled = p.1.0; blank = blank_parts few; due = p.1.1 }
+    record { problem = c.requires.problem; filled = c.requires.filled; blank = blank_parts few; due = c.requires.due }

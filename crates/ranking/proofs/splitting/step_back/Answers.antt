@@ -19,5 +19,4 @@ arc_weight-requires c =
 pub returns : goal.returns
 unfolding heads_of outs_of graph_of
 returns c =
-    let n = c.requires.network in
-    record { laid_2 = laid_less refl c.requires.laid.0; value = λ k. c.arc_weight.ensures _ _ n.arcs n.star k }
+    record { laid_2 = laid_less refl c.requires.laid.0; value = λ k. c.arc_weight.ensures _ _ c.requires.network.arcs c.requires.network.star k }

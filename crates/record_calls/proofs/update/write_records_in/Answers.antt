@@ -25,7 +25,7 @@ loop-i-preserved c =
     let fit : Fits c.args.sizes.edition c.args.sizes.m c.args.sizes.k (record_of (get_or c.args.records.now (4 * c.loop-i.i) 0) (get_or c.args.records.now (4 * c.loop-i.i + 1) 0) (get_or c.args.records.now (4 * c.loop-i.i + 2) 0) (get_or c.args.records.now (4 * c.loop-i.i + 3) 0)) = rw read at (fit_at all c.loop-i.i here) in
     let low : place_of c.args.sizes.m (record_of (get_or c.args.records.now (4 * c.loop-i.i) 0) (get_or c.args.records.now (4 * c.loop-i.i + 1) 0) (get_or c.args.records.now (4 * c.loop-i.i + 2) 0) (get_or c.args.records.now (4 * c.loop-i.i + 3) 0)) < c.args.sizes.m * c.args.sizes.k = let f = fit in place_to _ _ _ _ f.arc_to f.column_from f.column_to in
     let records = record_list c.args.records.now in
- let p = low in
+    let p = low in
     let room : c.costs_start-start.result ≤ length c.args.image.now = omega (arith, c.requires.m_bound.2, total_is c.args.sizes.m c.args.sizes.k, c.costs_start-start.ensures) in
     (omega arith, c.write_record.auto.image ∙ c.loop-i.invariant.1, c.write_record.auto.stamps ∙ c.loop-i.invariant.2, c.write_record.ensures.stamps_after ∙ stamps_next c.args.sizes.m records c.loop-i.i here read c.args.stamps.now c.loop-i.stamps c.loop-i.invariant.3, λ costs long e. c.write_record.ensures.image_after ∙ image_next c.args.sizes.m records c.loop-i.i here read (take c.costs_start-start.result c.args.image.now) c.costs_start-start.result c.loop-i.image c.args.stamps.now c.loop-i.stamps costs (length-take-le c.costs_start-start.result c.args.image.now room) (omega (arith, c.requires.stamps_len.0)) c.loop-i.invariant.3 (c.loop-i.invariant.4 costs long e))
 
@@ -33,7 +33,7 @@ pub returns : goal.returns
 returns c =
     let all : AllFit c.args.sizes.edition c.args.sizes.m c.args.sizes.k (record_list c.args.records.now) = all_fit _ _ _ 0 _ c.requires.m_bound.3 in
     let records = record_list c.args.records.now in
- let done : length records ≤ c.loop-i.i = omega (arith, length_list c.args.records.now) in
+    let done : length records ≤ c.loop-i.i = omega (arith, length_list c.args.records.now) in
     λ costs long e. let long' : length costs ≡ length c.args.stamps.now = long ∙ sym c.requires.stamps_len.0 in
     c.loop-i.invariant.4 costs long' (e ∙ ap (λ (x : ℕ). take x c.args.image.now ++ encode 4 costs) (sym c.costs_start-start.ensures)) ∙ ap₂ (λ (x : ℕ) (t : List ℕ). take x c.args.image.now ++ encode 4 t) c.costs_start-start.ensures (ap (costs_run c.args.sizes.m c.args.stamps.now costs) (take_all c.loop-i.i records done) ∙ run_is c.args.stamps.now costs all (λ r f. omega (arith, place_to c.args.sizes.m c.args.sizes.k r.arc r.column f.arc_to f.column_from f.column_to, c.requires.stamps_len.0)) long' c.requires.stamps_len.1)
 

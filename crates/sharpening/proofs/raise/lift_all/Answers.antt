@@ -12,12 +12,11 @@ pub lift-requires : goal.lift-requires
 lift-requires c = (c.loop-i.invariant.1, c.requires.1.below _, c.requires.2)
 
 pub loop-i-preserved : goal.loop-i-preserved
-loop-i-preserved c =
-    (
-      omega arith,
-      elim c.if-x-goal.branch [ then-x-goal w ↦ rw w.labels-is w.lift.ensures.0 | else-x-goal w ↦ rw w.labels-is c.loop-i.invariant.1 ],
-      elim c.if-x-goal.branch [ then-x-goal w ↦ rw w.labels-is (lifted_more refl w.if-x-goal.true w.lift.ensures.1 c.loop-i.invariant.2) | else-x-goal w ↦ rw w.labels-is (lifted_pass c.loop-i.invariant.2) ],
-    )
+loop-i-preserved c = (
+  omega arith,
+  elim c.if-x-goal.branch [ then-x-goal w ↦ rw w.labels-is w.lift.ensures.0 | else-x-goal w ↦ rw w.labels-is c.loop-i.invariant.1 ],
+  elim c.if-x-goal.branch [ then-x-goal w ↦ rw w.labels-is (lifted_more refl w.if-x-goal.true w.lift.ensures.1 c.loop-i.invariant.2) | else-x-goal w ↦ rw w.labels-is (lifted_pass c.loop-i.invariant.2) ],
+)
 
 pub returns : goal.returns
 returns c =

@@ -9,13 +9,13 @@ use Rattle.sheet.proofs.lines.write_choice.Goals as goal
 
 pub write_route-a-requires : goal.write_route-a-requires
 write_route-a-requires c =
-    let room : let a = c.args in a.at + (length (route_line a.path.now) + length (regret_line a.figure a.worst)) ≤ length a.text.now = omega (arith, c.requires, length_choice c.args.path.now c.args.figure c.args.worst) in
+    let room : c.args.at + (length (route_line c.args.path.now) + length (regret_line c.args.figure c.args.worst)) ≤ length c.args.text.now = omega (arith, c.requires, length_choice c.args.path.now c.args.figure c.args.worst) in
     omega (arith, room)
 
 pub write_pair-requires : goal.write_pair-requires
 unfolding regret_line
 write_pair-requires c =
-    let room : let a = c.args in a.at + (length (route_line a.path.now) + length (regret_line a.figure a.worst)) ≤ length a.text.now = omega (arith, c.requires, length_choice c.args.path.now c.args.figure c.args.worst) in
+    let room : c.args.at + (length (route_line c.args.path.now) + length (regret_line c.args.figure c.args.worst)) ≤ length c.args.text.now = omega (arith, c.requires, length_choice c.args.path.now c.args.figure c.args.worst) in
     wrote_room c.write_route-a.ensures _ room
 
 pub returns : goal.returns

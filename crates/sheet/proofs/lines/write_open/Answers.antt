@@ -9,13 +9,13 @@ use Rattle.sheet.proofs.lines.write_open.Goals as goal
 
 pub write_choice-a-requires : goal.write_choice-a-requires
 write_choice-a-requires c =
-    let room : let a = c.args in 0 + (length (choice_lines a.path.now a.figure a.worst) + length (open_line a.count a.floor)) ≤ length a.text.now = let a = c.args in omega (arith, c.requires, length_answer_open a.path.now a.figure a.worst a.count a.floor) in
+    let room : 0 + (length (choice_lines c.args.path.now c.args.figure c.args.worst) + length (open_line c.args.count c.args.floor)) ≤ length c.args.text.now = omega (arith, c.requires, length_answer_open c.args.path.now c.args.figure c.args.worst c.args.count c.args.floor) in
     omega (arith, room)
 
 pub write_pair-requires : goal.write_pair-requires
 unfolding open_line
 write_pair-requires c =
-    let room : let a = c.args in 0 + (length (choice_lines a.path.now a.figure a.worst) + length (open_line a.count a.floor)) ≤ length a.text.now = let a = c.args in omega (arith, c.requires, length_answer_open a.path.now a.figure a.worst a.count a.floor) in
+    let room : 0 + (length (choice_lines c.args.path.now c.args.figure c.args.worst) + length (open_line c.args.count c.args.floor)) ≤ length c.args.text.now = omega (arith, c.requires, length_answer_open c.args.path.now c.args.figure c.args.worst c.args.count c.args.floor) in
     wrote_room c.write_choice-a.ensures _ room
 
 pub returns : goal.returns

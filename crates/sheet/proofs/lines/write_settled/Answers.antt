@@ -9,12 +9,12 @@ use Rattle.sheet.proofs.lines.write_settled.Goals as goal
 
 pub write_choice-a-requires : goal.write_choice-a-requires
 write_choice-a-requires c =
-    let room : let a = c.args in 0 + (length (choice_lines a.path.now a.figure a.worst) + length (settled_line a.count)) ≤ length a.text.now = let a = c.args in omega (arith, c.requires, length_answer_settled a.path.now a.figure a.worst a.count) in
+    let room : 0 + (length (choice_lines c.args.path.now c.args.figure c.args.worst) + length (settled_line c.args.count)) ≤ length c.args.text.now = omega (arith, c.requires, length_answer_settled c.args.path.now c.args.figure c.args.worst c.args.count) in
     omega (arith, room)
 
 pub write_count-requires : goal.write_count-requires
 write_count-requires c =
-    let room : let a = c.args in 0 + (length (choice_lines a.path.now a.figure a.worst) + length (settled_line a.count)) ≤ length a.text.now = let a = c.args in omega (arith, c.requires, length_answer_settled a.path.now a.figure a.worst a.count) in
+    let room : 0 + (length (choice_lines c.args.path.now c.args.figure c.args.worst) + length (settled_line c.args.count)) ≤ length c.args.text.now = omega (arith, c.requires, length_answer_settled c.args.path.now c.args.figure c.args.worst c.args.count) in
     wrote_room c.write_choice-a.ensures _ room
 
 pub returns : goal.returns

@@ -13,26 +13,26 @@ use Rattle.sheet.proofs.printing.write_answer.Goals as goal
 pub write_settled-requires : goal.write_settled-requires
 write_settled-requires c =
     let path_fits : Printable c.args.path.now c.in-Settled.found.length = subst (λ a. Printable c.args.path.now (nodes_of a)) c.in-Settled.is c.requires.1 in
-    let short : let d = c.in-Settled.found in length (answer_text (settled (take d.length c.args.path.now) d.figure d.worst d.count)) ≤ 1024 = settled_short path_fits (omega (arith, c.struct_known-1.given)) (omega (arith, c.struct_known-1.given)) (omega (arith, c.struct_known-1.given)) in
+    let short : length (answer_text (settled (take c.in-Settled.found.length c.args.path.now) c.in-Settled.found.figure c.in-Settled.found.worst c.in-Settled.found.count)) ≤ 1024 = settled_short path_fits (omega (arith, c.struct_known-1.given)) (omega (arith, c.struct_known-1.given)) (omega (arith, c.struct_known-1.given)) in
     omega (arith, short, c.requires.0)
 
 pub write_open-requires : goal.write_open-requires
 write_open-requires c =
     let path_fits_open : Printable c.args.path.now c.in-Open.found.length = subst (λ a. Printable c.args.path.now (nodes_of a)) c.in-Open.is c.requires.1 in
-    let short_open : let d = c.in-Open.found in length (answer_text (left_open (take d.length c.args.path.now) d.figure d.worst d.count c.in-Open.floor)) ≤ 1024 = open_short path_fits_open (omega (arith, c.struct_known-in-Open-1.given)) (omega (arith, c.struct_known-in-Open-1.given)) (omega (arith, c.struct_known-in-Open-1.given)) (omega (arith, c.known_told-in-Open-1.given)) in
+    let short_open : length (answer_text (left_open (take c.in-Open.found.length c.args.path.now) c.in-Open.found.figure c.in-Open.found.worst c.in-Open.found.count c.in-Open.floor)) ≤ 1024 = open_short path_fits_open (omega (arith, c.struct_known-in-Open-1.given)) (omega (arith, c.struct_known-in-Open-1.given)) (omega (arith, c.struct_known-in-Open-1.given)) (omega (arith, c.known_told-in-Open-1.given)) in
     omega (arith, short_open, c.requires.0)
 
 -- ---- a refusal
 pub returns-in-Settled : goal.returns-in-Settled
 returns-in-Settled c =
     let path_fits : Printable c.args.path.now c.in-Settled.found.length = subst (λ a. Printable c.args.path.now (nodes_of a)) c.in-Settled.is c.requires.1 in
-    let short : let d = c.in-Settled.found in length (answer_text (settled (take d.length c.args.path.now) d.figure d.worst d.count)) ≤ 1024 = settled_short path_fits (omega (arith, c.struct_known-1.given)) (omega (arith, c.struct_known-1.given)) (omega (arith, c.struct_known-1.given)) in
+    let short : length (answer_text (settled (take c.in-Settled.found.length c.args.path.now) c.in-Settled.found.figure c.in-Settled.found.worst c.in-Settled.found.count)) ≤ 1024 = settled_short path_fits (omega (arith, c.struct_known-1.given)) (omega (arith, c.struct_known-1.given)) (omega (arith, c.struct_known-1.given)) in
     (wrote_as (sym (ap (λ a. decided_text a c.args.path.now) c.in-Settled.is)) c.write_settled.ensures, omega (arith, short, c.write_settled.ensures.behind))
 
 pub returns-in-Open : goal.returns-in-Open
 returns-in-Open c =
     let path_fits_open : Printable c.args.path.now c.in-Open.found.length = subst (λ a. Printable c.args.path.now (nodes_of a)) c.in-Open.is c.requires.1 in
-    let short_open : let d = c.in-Open.found in length (answer_text (left_open (take d.length c.args.path.now) d.figure d.worst d.count c.in-Open.floor)) ≤ 1024 = open_short path_fits_open (omega (arith, c.struct_known-in-Open-1.given)) (omega (arith, c.struct_known-in-Open-1.given)) (omega (arith, c.struct_known-in-Open-1.given)) (omega (arith, c.known_told-in-Open-1.given)) in
+    let short_open : length (answer_text (left_open (take c.in-Open.found.length c.args.path.now) c.in-Open.found.figure c.in-Open.found.worst c.in-Open.found.count c.in-Open.floor)) ≤ 1024 = open_short path_fits_open (omega (arith, c.struct_known-in-Open-1.given)) (omega (arith, c.struct_known-in-Open-1.given)) (omega (arith, c.struct_known-in-Open-1.given)) (omega (arith, c.known_told-in-Open-1.given)) in
     (wrote_as (sym (ap (λ a. decided_text a c.args.path.now) c.in-Open.is)) c.write_open.ensures, omega (arith, short_open, c.write_open.ensures.behind))
 
 pub returns-in-Refused : goal.returns-in-Refused

@@ -14,18 +14,15 @@ use Rattle.sheet.proofs.printing.write_sheet.Goals as goal
 -- the image is refused
 pub returns-in_default : goal.returns-in_default
 returns-in_default c =
-    let b = c.args.image.now in
-    let e = rejected b (sym (ap checked c.in_default.is) ∙ c.check-answer.ensures) in
-    (wrote_as (ap (λ x. refused_line (number_of x) (place_of x)) (c.refusal.ensures _ c.in_default.is) ∙ sheet_refused b e) c.write_refused.ensures.0, c.write_refused.ensures.1)
+    let e = rejected c.args.image.now (sym (ap checked c.in_default.is) ∙ c.check-answer.ensures) in
+    (wrote_as (ap (λ x. refused_line (number_of x) (place_of x)) (c.refusal.ensures _ c.in_default.is) ∙ sheet_refused c.args.image.now e) c.write_refused.ensures.0, c.write_refused.ensures.1)
 
 pub write_answer-requires : goal.write_answer-requires
 write_answer-requires c =
     let accepted : Accepted c.args.image.now c.in-Network.sizes = given_network (sym (ap checked c.in-Network.is) ∙ c.check-answer.ensures) in
-    let r = c.robust-found in
-    (omega (arith, c.requires), sheet_printable c.args.image.now accepted.passes r.result r.new.1.1.1.1.1.0 c.args.path.now c.args.work.now accepted.nodes_are c.requires.1 c.requires.2 r.ensures.0 r.ensures.1.0 (r.auto.1.1.1.1.1.0 ∙ c.requires.1))
+    (omega (arith, c.requires), sheet_printable c.args.image.now accepted.passes c.robust-found.result c.robust-found.new.path c.args.path.now c.args.work.now accepted.nodes_are c.requires.1 c.requires.2 c.robust-found.ensures.result_value c.robust-found.ensures.path_after (c.robust-found.auto.path ∙ c.requires.1))
 
 pub returns : goal.returns
 returns c =
     let accepted : Accepted c.args.image.now c.in-Network.sizes = given_network (sym (ap checked c.in-Network.is) ∙ c.check-answer.ensures) in
-    let r = c.robust-found in
-    (wrote_as (sheet_told c.args.image.now accepted.passes r.result r.new.1.1.1.1.1.0 c.args.path.now c.args.work.now accepted.nodes_are c.requires.1 c.requires.2 r.ensures.0 r.ensures.1.0) c.write_answer.ensures.0, c.write_answer.ensures.1)
+    (wrote_as (sheet_told c.args.image.now accepted.passes c.robust-found.result c.robust-found.new.path c.args.path.now c.args.work.now accepted.nodes_are c.requires.1 c.requires.2 c.robust-found.ensures.result_value c.robust-found.ensures.path_after) c.write_answer.ensures.0, c.write_answer.ensures.1)

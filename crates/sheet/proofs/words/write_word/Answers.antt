@@ -9,11 +9,7 @@ pub loop-i-init : goal.loop-i-init
 loop-i-init c = (omega arith, refl, wrote_start c.args.text.now c.args.at (omega arith))
 
 pub loop-i-preserved : goal.loop-i-preserved
-loop-i-preserved c =
-    let a = c.args in
-    (omega arith, simp length-set (omega arith), wrote_more a.word.now a.at c.loop-i.i (omega arith) c.requires c.loop-i.invariant.2)
+loop-i-preserved c = (omega arith, simp length-set (omega arith), wrote_more c.args.word.now c.args.at c.loop-i.i (omega arith) c.requires c.loop-i.invariant.2)
 
 pub returns : goal.returns
-returns c =
-    let a = c.args in
-    wrote_all a.word.now a.at c.loop-i.i (omega arith) c.loop-i.invariant.2
+returns c = wrote_all c.args.word.now c.args.at c.loop-i.i (omega arith) c.loop-i.invariant.2

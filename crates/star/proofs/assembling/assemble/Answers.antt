@@ -18,6 +18,5 @@ returns c =
     let third = more _ _ _ _ c.append-outs_at.ensures.value c.append-outs_at.ensures.star_after second in
     let fourth = more _ _ _ _ c.append-ins_at.ensures.value c.append-ins_at.ensures.star_after third in
     let fifth = more _ _ _ _ c.append.ensures.value c.append.ensures.star_after fourth in
-    
     let kept = c.append.auto.star ∙ c.append-ins_at.auto.star ∙ c.append-outs_at.auto.star ∙ c.append-nexts_at.auto.star ∙ c.append-heads_at.auto.star ∙ c.requires in
     sym (take_all c.append.result c.append.new.star (omega (arith, kept, c.append.ensures.value, c.append-ins_at.ensures.value, c.append-outs_at.ensures.value, c.append-nexts_at.ensures.value, c.append-heads_at.ensures.value))) ∙ fifth

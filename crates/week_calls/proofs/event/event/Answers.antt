@@ -22,44 +22,38 @@ use Rattle.week_calls.proofs.event.event.Goals as goal
 pub returns-in_default : goal.returns-in_default
 unfolding fresh_fault event_fault event_week event_outcome
 returns-in_default c =
-    let a = c.args in
-    let told = c.in_default.is in
-    let e = refuses_fault (fresh_fault a.image.now a.column a.start a.goal a.wanted (length a.work.now)) (sizes a.image.now) (sym (ap checked told) ∙ c.check_ranking-answer.ensures) in
-    let f = then_fault (event_row (net_of a.image.now) a.arc) e in
-    record { week_value = sym (if_refused _ _ f); tally_value = ap refused (c.refusal.ensures _ told) ∙ sym (outcome_fault _ f); work_after = sym (cleared_not _ f) }
+    let e = refuses_fault (fresh_fault c.args.image.now c.args.column c.args.start c.args.goal c.args.wanted (length c.args.work.now)) (sizes c.args.image.now) (sym (ap checked c.in_default.is) ∙ c.check_ranking-answer.ensures) in
+    let f = then_fault (event_row (net_of c.args.image.now) c.args.arc) e in
+    record { week_value = sym (if_refused _ _ f); tally_value = ap refused (c.refusal.ensures _ c.in_default.is) ∙ sym (outcome_fault _ f); work_after = sym (cleared_not _ f) }
 
 pub returns-then-sizes-arc : goal.returns-then-sizes-arc
 unfolding event_fault event_week event_outcome fresh_fault
 returns-then-sizes-arc c =
-    let passes : (fresh_fault c.args.image.now c.args.column c.args.c.args.goal c.args.wanted (length c.args.work.now) ≡ sound) × Accepted c.args.image.now c.in-Network.sizes = given_sizes _ (λ e. (ranking_sound _ _ _ _ _ _ e).search.accepted) (sym (ap checked c.in-Network.is) ∙ c.check_ranking-answer.ensures) in
-    let a = c.args in
+    let passes : (fresh_fault c.args.image.now c.args.column c.args.start c.args.goal c.args.wanted (length c.args.work.now) ≡ sound) × Accepted c.args.image.now c.in-Network.sizes = given_sizes _ (λ e. (ranking_sound _ _ _ _ _ _ e).search.accepted) (sym (ap checked c.in-Network.is) ∙ c.check_ranking-answer.ensures) in
     let p = passes in
-    let f = then_next _ p.0 ∙ wrong_arc (net_of a.image.now) a.arc (omega (arith, p.1.arcs_are, c.if-sizes-arc.true)) in
+    let f = then_next _ p.0 ∙ wrong_arc (net_of c.args.image.now) c.args.arc (omega (arith, p.1.arcs_are, c.if-sizes-arc.true)) in
     record { week_value = sym (if_refused _ _ f); tally_value = sym (outcome_fault _ f); work_after = sym (cleared_not _ f) }
 
 pub follow-after-requires : goal.follow-after-requires
 unfolding fresh_fault
 follow-after-requires c =
+    let passes : (fresh_fault c.args.image.now c.args.column c.args.start c.args.goal c.args.wanted (length c.args.work.now) ≡ sound) × Accepted c.args.image.now c.in-Network.sizes = given_sizes _ (λ e. (ranking_sound _ _ _ _ _ _ e).search.accepted) (sym (ap checked c.in-Network.is) ∙ c.check_ranking-answer.ensures) in
     let inside : c.args.arc < c.in-Network.sizes.m = omega (arith, c.if-sizes-arc.false) in
-    let passes : (fresh_fault c.args.image.now c.args.column c.args.c.args.goal c.args.wanted (length c.args.work.now) ≡ sound) × Accepted c.args.image.now c.in-Network.sizes = given_sizes _ (λ e. (ranking_sound _ _ _ _ _ _ e).search.accepted) (sym (ap checked c.in-Network.is) ∙ c.check_ranking-answer.ensures) in
     let p = passes in
-    let a = c.args in
-    (asked_of a.column a.start a.goal a.wanted p.1 p.0, inside)
+ (asked_of c.args.column c.args.start c.args.goal c.args.wanted p.1 p.0, inside)
 
 pub closed_roads-roads-requires : goal.closed_roads-roads-requires
 unfolding fresh_fault
 closed_roads-roads-requires c =
-    let passes : (fresh_fault c.args.image.now c.args.column c.args.c.args.goal c.args.wanted (length c.args.work.now) ≡ sound) × Accepted c.args.image.now c.in-Network.sizes = given_sizes _ (λ e. (ranking_sound _ _ _ _ _ _ e).search.accepted) (sym (ap checked c.in-Network.is) ∙ c.check_ranking-answer.ensures) in
+    let passes : (fresh_fault c.args.image.now c.args.column c.args.start c.args.goal c.args.wanted (length c.args.work.now) ≡ sound) × Accepted c.args.image.now c.in-Network.sizes = given_sizes _ (λ e. (ranking_sound _ _ _ _ _ _ e).search.accepted) (sym (ap checked c.in-Network.is) ∙ c.check_ranking-answer.ensures) in
     let p = passes in omega (arith, few_arcs p.1)
 
 pub returns : goal.returns
 unfolding event_fault event_week event_outcome fresh_fault
 returns c =
+    let passes : (fresh_fault c.args.image.now c.args.column c.args.start c.args.goal c.args.wanted (length c.args.work.now) ≡ sound) × Accepted c.args.image.now c.in-Network.sizes = given_sizes _ (λ e. (ranking_sound _ _ _ _ _ _ e).search.accepted) (sym (ap checked c.in-Network.is) ∙ c.check_ranking-answer.ensures) in
     let inside : c.args.arc < c.in-Network.sizes.m = omega (arith, c.if-sizes-arc.false) in
-    let passes : (fresh_fault c.args.image.now c.args.column c.args.c.args.goal c.args.wanted (length c.args.work.now) ≡ sound) × Accepted c.args.image.now c.in-Network.sizes = given_sizes _ (λ e. (ranking_sound _ _ _ _ _ _ e).search.accepted) (sym (ap checked c.in-Network.is) ∙ c.check_ranking-answer.ensures) in
-    let a = c.args in
     let p = passes in
-    let s = then_next _ p.0 ∙ right_arc (net_of a.image.now) a.arc (omega (arith, p.1.arcs_are, inside)) in
-    let E = c.follow-after.ensures in
-    let week_is = E.0 ∙ sym (if_passes _ a.week s) in
-    record { week_value = week_is; tally_value = ap (λ (x : ℕ). gives (x ∷ [])) (c.closed_roads-roads.ensures.0 ∙ ap (λ (m : ℕ). closed_roads c.follow-after.result.closed m) p.1.arcs_are ∙ ap (λ w. closed_roads w.closed (length (net_of a.image.now).arcs)) week_is) ∙ sym (outcome_sound _ s); work_after = E.1 ∙ cleared_is a.work.now ∙ ap (λ c. cleared c a.work.now) (sym s) }
+    let s = then_next _ p.0 ∙ right_arc (net_of c.args.image.now) c.args.arc (omega (arith, p.1.arcs_are, inside)) in
+    let week_is = c.follow-after.ensures.value ∙ sym (if_passes _ c.args.week s) in
+    record { week_value = week_is; tally_value = ap (λ (x : ℕ). gives (x ∷ [])) (c.closed_roads-roads.ensures.0 ∙ ap (λ (m : ℕ). closed_roads c.follow-after.result.closed m) p.1.arcs_are ∙ ap (λ w. closed_roads w.closed (length (net_of c.args.image.now).arcs)) week_is) ∙ sym (outcome_sound _ s); work_after = c.follow-after.ensures.work_after ∙ cleared_is c.args.work.now ∙ ap (λ c. cleared c c.args.work.now) (sym s) }

@@ -20,24 +20,19 @@ use Rattle.week_calls.proofs.fresh.fresh.Goals as goal
 pub returns-in_default : goal.returns-in_default
 unfolding fresh_fault fresh_week fresh_outcome
 returns-in_default c =
-    let a = c.args in
-    let told = c.in_default.is in
-    let e = refuses_fault (fresh_fault a.image.now a.column a.start a.goal a.wanted (length a.work.now)) (sizes a.image.now) (sym (ap checked told) ∙ c.check_ranking-answer.ensures) in
-    record { week_value = c.blank.ensures ∙ sym (if_refused _ _ e); tally_value = ap refused (c.refusal.ensures _ told) ∙ sym (outcome_fault _ e); work_after = sym (cleared_not _ e); kept_week = kept_week a.image.now a.column a.start a.goal a.wanted (length a.work.now) }
+    let e = refuses_fault (fresh_fault c.args.image.now c.args.column c.args.start c.args.goal c.args.wanted (length c.args.work.now)) (sizes c.args.image.now) (sym (ap checked c.in_default.is) ∙ c.check_ranking-answer.ensures) in
+    record { week_value = c.blank.ensures ∙ sym (if_refused _ _ e); tally_value = ap refused (c.refusal.ensures _ c.in_default.is) ∙ sym (outcome_fault _ e); work_after = sym (cleared_not _ e); kept_week = kept_week c.args.image.now c.args.column c.args.start c.args.goal c.args.wanted (length c.args.work.now) }
 
 pub run-week-requires : goal.run-week-requires
 unfolding fresh_fault
 run-week-requires c =
-    let passes : (fresh_fault c.args.image.now c.args.column c.args.c.args.goal c.args.wanted (length c.args.work.now) ≡ sound) × Accepted c.args.image.now c.in-Network.sizes = given_sizes _ (λ e. (ranking_sound _ _ _ _ _ _ e).search.accepted) (sym (ap checked c.in-Network.is) ∙ c.check_ranking-answer.ensures) in
+    let passes : (fresh_fault c.args.image.now c.args.column c.args.start c.args.goal c.args.wanted (length c.args.work.now) ≡ sound) × Accepted c.args.image.now c.in-Network.sizes = given_sizes _ (λ e. (ranking_sound _ _ _ _ _ _ e).search.accepted) (sym (ap checked c.in-Network.is) ∙ c.check_ranking-answer.ensures) in
     let p = passes in
-    let a = c.args in
-    asked_of a.column a.start a.goal a.wanted p.1 p.0
+ asked_of c.args.column c.args.start c.args.goal c.args.wanted p.1 p.0
 
 pub returns : goal.returns
 unfolding fresh_week fresh_outcome run_week fresh_fault
 returns c =
-    let passes : (fresh_fault c.args.image.now c.args.column c.args.c.args.goal c.args.wanted (length c.args.work.now) ≡ sound) × Accepted c.args.image.now c.in-Network.sizes = given_sizes _ (λ e. (ranking_sound _ _ _ _ _ _ e).search.accepted) (sym (ap checked c.in-Network.is) ∙ c.check_ranking-answer.ensures) in
-    let a = c.args in
+    let passes : (fresh_fault c.args.image.now c.args.column c.args.start c.args.goal c.args.wanted (length c.args.work.now) ≡ sound) × Accepted c.args.image.now c.in-Network.sizes = given_sizes _ (λ e. (ranking_sound _ _ _ _ _ _ e).search.accepted) (sym (ap checked c.in-Network.is) ∙ c.check_ranking-answer.ensures) in
     let p = passes in
-    let E = c.run-week.ensures in
-    record { week_value = E.0 ∙ ap (λ net. week_of (replicate 16 0) (robust net a.column a.start a.goal a.wanted)) (without_fresh (net_of a.image.now)) ∙ sym (if_passes _ _ p.0); tally_value = sym (outcome_sound _ p.0); work_after = E.1 ∙ cleared_is a.work.now ∙ ap (λ f. cleared f a.work.now) (sym p.0); kept_week = kept_week a.image.now a.column a.start a.goal a.wanted (length a.work.now) }
+    record { week_value = c.run-week.ensures.value ∙ ap (λ net. week_of (replicate 16 0) (robust net c.args.column c.args.start c.args.goal c.args.wanted)) (without_fresh (net_of c.args.image.now)) ∙ sym (if_passes _ _ p.0); tally_value = sym (outcome_sound _ p.0); work_after = c.run-week.ensures.work_after ∙ cleared_is c.args.work.now ∙ ap (λ f. cleared f c.args.work.now) (sym p.0); kept_week = kept_week c.args.image.now c.args.column c.args.start c.args.goal c.args.wanted (length c.args.work.now) }

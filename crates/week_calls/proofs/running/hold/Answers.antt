@@ -4,10 +4,10 @@ use Rattle.week_calls.specs.Answers.{made}
 use Rattle.week_calls.proofs.running.hold.Goals as goal
 
 pub returns-in-Settled : goal.returns-in-Settled
-returns-in-Settled c = let a = c.args in sym (ap (made a.closed a.route) c.in-Settled.is)
+returns-in-Settled c = sym (ap (made c.args.closed c.args.route) c.in-Settled.is)
 
 pub returns-in-Open : goal.returns-in-Open
-returns-in-Open c = let a = c.args in sym (ap (made a.closed a.route) c.in-Open.is)
+returns-in-Open c = sym (ap (made c.args.closed c.args.route) c.in-Open.is)
 
 pub returns-in-Refused : goal.returns-in-Refused
-returns-in-Refused c = let a = c.args in sym (ap (made a.closed a.route) c.in-Refused.is)
+returns-in-Refused c = sym (ap (made c.args.closed c.args.route) c.in-Refused.is)

@@ -12,14 +12,10 @@ use Rattle.week_calls.proofs.running.run.Goals as goal
 
 pub choose_left-answer-requires : goal.choose_left-answer-requires
 choose_left-answer-requires c =
-    let A = c.requires in
-    record { accepted = (A.accepted, A.in_column, A.ends); choice_slices = week_slices A }
+    record { accepted = (c.requires.accepted, c.requires.in_column, c.requires.ends); choice_slices = week_slices c.requires }
 
 pub returns : goal.returns
 unfolding run_week
 returns c =
-    let a = c.args in
-    let q = a.asked in
-    let net = without a.t4 (net_of a.image.now) in
-    let E = c.choose_left-answer.ensures in
-    record { value = c.hold.ensures ∙ made_is a.t4 c.choose_left-answer.result (robust net q.column q.start q.goal q.wanted) (no_open_path net q.column q.start q.goal) _ (λ number place e. none_found net q.column q.start q.goal q.wanted e) E.0 E.1.0; work_after = c.clear.ensures ∙ ap (λ (k : ℕ). replicate k 0) c.choose_left-answer.auto.work }
+    let net = without c.args.t4 (net_of c.args.image.now) in
+    record { value = c.hold.ensures ∙ made_is c.args.t4 c.choose_left-answer.result (robust net c.args.asked.column c.args.asked.start c.args.asked.goal c.args.asked.wanted) (no_open_path net c.args.asked.column c.args.asked.start c.args.asked.goal) _ (λ number place e. none_found net c.args.asked.column c.args.asked.start c.args.asked.goal c.args.asked.wanted e) c.choose_left-answer.ensures.result_value c.choose_left-answer.ensures.path_after; work_after = c.clear.ensures ∙ ap (λ (k : ℕ). replicate k 0) c.choose_left-answer.auto.work }

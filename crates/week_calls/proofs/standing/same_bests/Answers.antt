@@ -5,6 +5,5 @@ use Rattle.week_calls.proofs.standing.same_bests.Goals as goal
 
 pub same_bests_in-requires : goal.same_bests_in-requires
 same_bests_in-requires c =
-    let p = c.requires in
-    let k = part_long 8 _ (few_columns p.0) in
-    record { accepted = p; before_len = (k, k) }
+    let k = part_long 8 _ (few_columns c.requires.0) in
+    record { accepted = c.requires; before_len = (k, k) }
