@@ -9,7 +9,7 @@ use Rattle.candidates.proofs.EntryLaws.{length_entries}
 use Rattle.exits.specs.Exits.{Unmarked}
 use Rattle.ranking.specs.Ranking.{Problem, Filled, Deviation}
 use Rattle.exits.specs.Walks.{Choice}
-use Rattle.ranking.proofs.EnterLaws.{dear_facts, unchanged, choice_floor, settled_none, settled_beyond, settled_dear}
+use Rattle.ranking.proofs.EnterLaws.{dear_facts, unchanged, choice_small, choice_floor, settled_none, settled_beyond, settled_dear}
 use Rattle.exits.proofs.ExitLaws.{chosen_node, chosen_nothing}
 use Rattle.branching.proofs.LaidLaws.{laid_place}
 use Rattle.ranking.proofs.branches.consider.Goals as goal
@@ -64,3 +64,10 @@ enter-requires c =
 pub returns : goal.returns
 returns c =
     record { restored = c.enter.ensures.restored; changed = c.enter.ensures.changed; settled = c.enter.ensures.by_index _ }
+
+pub overflow_add-bound : goal.overflow_add-bound
+overflow_add-bound c =
+    let problem : Problem c.args.query.n c.args.query.start c.args.query.goal c.args.star.now c.args.weights.now c.args.overall.now = c.requires.problem in
+    let deviation : Deviation c.args.query.n (graph_of c.args.star.now c.args.weights.now) c.args.query.start c.args.query.goal (entries c.args.query.n c.args.work.now c.args.detour.count) c.args.detour.parent c.args.used.now c.args.barred.now c.args.path.now c.args.detour.parent c.args.detour.d c.args.detour.before = c.requires.deviation in
+    let choice : Choice (graph_of c.args.star.now c.args.weights.now) c.args.overall.now (Unmarked c.args.used.now c.args.barred.now) (get_or c.args.path.now (c.args.detour.d - 1) 0) c.in-Node.l c.in-Node.y = chosen_node c.least_exit.ensures.chosen c.in-Node.is in
+    omega (arith, choice_small problem choice, deviation.small)

@@ -1,9 +1,10 @@
 -- `branches::enter`: without a path the branch is empty, or its paths cost too much; its first path is put in at its place, or falls out at once. Assumes nothing.
 use Prim.Native.Nat.{ℕ, ◌+◌, ◌-◌, ◌≤◌, ◌<◌}
 use native.Mathlib.Omega.{arith}
-use mathlib.Core.Path.{◌≡◌, refl, ap, ◌∙◌}
+use mathlib.Core.Path.{◌≡◌, refl, sym, ap, ◌∙◌}
 use mathlib.Core.Logic.{⊎_elim}
 use lib.ListN.{length, take, get_or}
+use lib.Seq.{length-take-le}
 use Rattle.terms.specs.Paths.{cost}
 use Rattle.star.specs.Layout.{graph_of}
 use Rattle.candidates.specs.Slots.{none, entries}
@@ -14,7 +15,7 @@ use Rattle.branching.specs.Found.{FirstWithin}
 use Rattle.ranking.specs.Ranking.{Problem, Filled, Deviation, Restored, Wanted}
 use Rattle.ranking.specs.State.{taking_over}
 use Rattle.branching.proofs.FirstLaws.{extent_tail, within_tail, within_empty}
-use Rattle.ranking.proofs.EnterLaws.{unchanged, still_consistent, goal_ahead, rest_short, settled_empty, settled_dear, settled_found, entered_found, same_found, settled_out, changed_put, settled_put}
+use Rattle.ranking.proofs.EnterLaws.{unchanged, path_small, still_consistent, goal_ahead, rest_short, settled_empty, settled_dear, settled_found, entered_found, same_found, settled_out, changed_put, settled_put}
 use Rattle.ranking.proofs.branches.enter.Goals as goal
 
 pub most_wanted-most-requires : goal.most_wanted-most-requires
@@ -97,3 +98,43 @@ returns c =
     let f = first in
     let T = F.entered in
     record { restored = R; changed = changed_put c.insert.ensures (entered_found P D c.first_path.new.path c.in-Tail.len R.kept e.0 e.1 c.in-Tail.rest _ f.0 f.1 refl _ _ T c.place_for-place.ensures room) (same_found P D c.first_path.new.path c.in-Tail.len R.kept e.0 e.1 c.in-Tail.rest _ f.0 f.1 refl _ _ T c.place_for-place.ensures room); by_index = λ limit. settled_put c.insert.ensures (settled_found P D c.first_path.new.path c.in-Tail.len R.kept e.0 e.1 c.in-Tail.rest _ f.0 f.1 refl _ _ T c.place_for-place.ensures limit) }
+
+pub overflow_add-cost : goal.overflow_add-cost
+overflow_add-cost c =
+    let problem : Problem c.args.query.n c.args.query.start c.args.query.goal c.args.star.now c.args.weights.now c.args.overall.now = c.requires.problem in
+    let deviation : Deviation c.args.query.n (graph_of c.args.star.now c.args.weights.now) c.args.query.start c.args.query.goal (entries c.args.query.n c.args.work.now c.args.detour.count) c.args.detour.parent c.args.used.now c.args.barred.now c.args.path.now c.args.detour.parent c.args.detour.d c.args.detour.before = c.requires.deviation in
+    let result : FirstWithin (graph_of c.args.star.now c.args.weights.now) c.args.query.start c.args.query.goal (branch (take c.args.detour.d c.args.path.now) (barred (entries c.args.query.n c.args.work.now c.args.detour.count) (taking_over c.args.detour.d c.args.detour.parent))) c.first_path.new.path c.most_wanted-most.result c.first_path.result = let D = deviation in c.first_path.ensures.by_index _ _ D.begins D.flagged in
+    let first : First (graph_of c.args.star.now c.args.weights.now) c.args.query.start c.args.query.goal (branch (take c.args.detour.d c.args.path.now) (barred (entries c.args.query.n c.args.work.now c.args.detour.count) (taking_over c.args.detour.d c.args.detour.parent))) (take c.in-Tail.len c.first_path.new.path) × (cost (graph_of c.args.star.now c.args.weights.now) (take c.in-Tail.len c.first_path.new.path) ≡ cost (graph_of c.args.star.now c.args.weights.now) (take c.args.detour.d c.args.path.now) + c.in-Tail.rest) = within_tail result c.in-Tail.is in
+    omega (arith, first.1, path_small problem first.0.member.path, deviation.costs)
+
+pub slice_bounds-place_for-end : goal.slice_bounds-place_for-end
+slice_bounds-place_for-end c =
+    let extent : (c.args.detour.d < c.in-Tail.len) × (c.in-Tail.len ≤ length c.first_path.new.path) = extent_tail c.first_path.ensures.kept.reach c.in-Tail.is in
+    extent.1
+
+pub slice_bounds-place_for-end-2 : goal.slice_bounds-place_for-end-2
+slice_bounds-place_for-end-2 c =
+    let extent : (c.args.detour.d < c.in-Tail.len) × (c.in-Tail.len ≤ length c.first_path.new.path) = extent_tail c.first_path.ensures.kept.reach c.in-Tail.is in
+    sym (length-take-le c.in-Tail.len c.first_path.new.path extent.1)
+
+pub overflow_cast-parent : goal.overflow_cast-parent
+overflow_cast-parent c =
+    let filled : Filled c.args.query.n c.args.query.slots (graph_of c.args.star.now c.args.weights.now) c.args.query.start c.args.detour.parent c.args.work.now c.args.detour.count = c.requires.filled in
+    let deviation : Deviation c.args.query.n (graph_of c.args.star.now c.args.weights.now) c.args.query.start c.args.query.goal (entries c.args.query.n c.args.work.now c.args.detour.count) c.args.detour.parent c.args.used.now c.args.barred.now c.args.path.now c.args.detour.parent c.args.detour.d c.args.detour.before = c.requires.deviation in
+    let count_is : length (entries c.args.query.n c.args.work.now c.args.detour.count) ≡ c.args.detour.count = length_entries c.args.query.n c.args.work.now c.args.detour.count in
+    omega (arith, deviation.fits.known, filled.entered.border, count_is, filled.kept.upto, filled.few)
+
+pub slice_bounds-insert-count : goal.slice_bounds-insert-count
+slice_bounds-insert-count c =
+    let extent : (c.args.detour.d < c.in-Tail.len) × (c.in-Tail.len ≤ length c.first_path.new.path) = extent_tail c.first_path.ensures.kept.reach c.in-Tail.is in
+    omega (arith, extent)
+
+pub slice_bounds-insert-start : goal.slice_bounds-insert-start
+slice_bounds-insert-start c =
+    let extent : (c.args.detour.d < c.in-Tail.len) × (c.in-Tail.len ≤ length c.first_path.new.path) = extent_tail c.first_path.ensures.kept.reach c.in-Tail.is in
+    omega (arith, extent)
+
+pub slice_bounds-insert-end : goal.slice_bounds-insert-end
+slice_bounds-insert-end c =
+    let extent : (c.args.detour.d < c.in-Tail.len) × (c.in-Tail.len ≤ length c.first_path.new.path) = extent_tail c.first_path.ensures.kept.reach c.in-Tail.is in
+    extent.1

@@ -7,6 +7,7 @@ use Rattle.star.specs.Layout.{graph_of}
 use Rattle.candidates.specs.Slots.{none, entries}
 use Rattle.candidates.specs.Routes.{size}
 use Rattle.candidates.specs.Bars.{barred, marked}
+use Rattle.candidates.proofs.EntryLaws.{length_entries}
 use Rattle.ranking.specs.Ranking.{Filled, Deviation, Along}
 use Rattle.ranking.specs.State.{taking_over}
 use Rattle.ranking.proofs.DeviateLaws.{part_rooted, entry_is, barred_is, part_deviation, part_cleared, changed_filled, same_entry, barred_kept}
@@ -48,3 +49,8 @@ returns c =
     let flags_are : c.set_bars.new.flags ≡ marked 1 (barred (entries c.args.query.n c.args.work.now c.args.fork.count) (taking_over c.args.fork.d (c.args.fork.rank + 1))) c.args.barred.now = c.set_bars.ensures ∙ ap (λ l. marked 1 l c.args.barred.now) (barred_is c.args.fork.rank filled c.args.fork.d) in
     let F = filled in
     record { restored = c.consider-now.ensures.restored; barred_unchanged = part_cleared c.args.fork.rank F along short (c.set_bars-2.ensures ∙ ap₂ (λ l f. marked 0 l f) (barred_kept c.args.fork.rank F c.consider-now.ensures.changed c.args.fork.d) flags_are); changed = c.consider-now.ensures.changed; settled = c.consider-now.ensures.settled }
+
+pub overflow_add-parent : goal.overflow_add-parent
+overflow_add-parent c =
+    let filled : Filled c.args.query.n c.args.query.slots (graph_of c.args.star.now c.args.weights.now) c.args.query.start (c.args.fork.rank + 1) c.args.work.now c.args.fork.count = c.requires.filled in
+    omega (arith, filled.entered.border, length_entries c.args.query.n c.args.work.now c.args.fork.count, filled.kept.upto, filled.few)

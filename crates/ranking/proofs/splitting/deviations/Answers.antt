@@ -1,5 +1,5 @@
 -- `splitting::deviations`. The loop: the parts that leave the path after d nodes or more have been looked into. Assumes nothing.
-use Prim.Native.Nat.{◌+◌, ◌-◌, ◌<◌}
+use Prim.Native.Nat.{◌+◌, ◌-◌, ◌≤◌, ◌<◌}
 use native.Mathlib.Omega.{arith}
 use mathlib.Core.Path.{◌≡◌, refl, sym, ◌∙◌}
 use lib.ListN.{get_or}
@@ -7,7 +7,7 @@ use Rattle.terms.specs.Network.{weight}
 use Rattle.star.specs.Layout.{graph_of}
 use Rattle.candidates.specs.Slots.{none, entries}
 use Rattle.ranking.specs.Ranking.{Filled, Along}
-use Rattle.ranking.proofs.BackLaws.{back_some, back_linked, back_rest, along_back, going_start, going_filled, going_shared, going_next, going_end}
+use Rattle.ranking.proofs.BackLaws.{back_some, back_linked, back_rest, back_le, along_back, going_start, going_filled, going_shared, going_next, going_end}
 use Rattle.ranking.proofs.splitting.deviations.Goals as goal
 
 pub loop-d-init : goal.loop-d-init
@@ -56,3 +56,23 @@ returns c =
     let filled : Filled c.args.query.n c.args.query.slots (graph_of c.args.star.now c.args.weights.now) c.args.query.start (c.args.stem.rank + 1) c.args.work.now c.args.count = c.requires.filled in
     let z : c.args.stem.shared ≡ c.loop-d.d = omega (arith, going_shared filled c.loop-d.invariant.0, c.requires.shared_value, c.loop-d.invariant.0.place.lower, c.loop-d-test.false) in
     record { changed = c.loop-d.invariant.0.changed; emptied = going_end filled c.loop-d.invariant.0 (sym z ∙ c.requires.shared_value) }
+
+pub overflow_add-behind : goal.overflow_add-behind
+overflow_add-behind c =
+    let filled : Filled c.args.query.n c.args.query.slots (graph_of c.args.star.now c.args.weights.now) c.args.query.start (c.args.stem.rank + 1) c.args.work.now c.args.count = c.requires.filled in
+    let now_filled : Filled c.args.query.n c.args.query.slots (graph_of c.args.star.now c.args.weights.now) c.args.query.start (c.args.stem.rank + 1) c.loop-d.work c.loop-d.now = going_filled filled c.loop-d.invariant.0 in
+    let place : Along c.args.query.n (graph_of c.args.star.now c.args.weights.now) c.args.query.start c.args.query.goal (entries c.args.query.n c.loop-d.work c.loop-d.now) c.args.stem.rank c.loop-d.used c.loop-d.barred c.loop-d.path c.loop-d.d (c.args.stem.cost - c.loop-d.behind) = c.loop-d.invariant.0.place in
+    let more : (get_or (entries c.args.query.n c.loop-d.work c.loop-d.now) c.args.stem.rank none).shared < c.loop-d.d = omega (arith, going_shared filled c.loop-d.invariant.0, c.requires.shared_value, c.loop-d-test.true) in
+    let arc : c.step_back-behind.result ≡ weight (graph_of c.args.star.now c.args.weights.now) (get_or c.loop-d.path (c.loop-d.d - 1 - 1) 0) (get_or c.loop-d.path (c.loop-d.d - 1) 0) = c.step_back-behind.ensures.value (back_linked now_filled.entered place more) in
+    let rest_within : c.loop-d.behind + c.step_back-behind.result ≤ c.args.stem.cost = back_le now_filled.entered place more c.loop-d.invariant.0.rest refl arc in
+    omega (arith, rest_within, c.requires.along.small)
+
+pub overflow_sub-fork : goal.overflow_sub-fork
+overflow_sub-fork c =
+    let filled : Filled c.args.query.n c.args.query.slots (graph_of c.args.star.now c.args.weights.now) c.args.query.start (c.args.stem.rank + 1) c.args.work.now c.args.count = c.requires.filled in
+    let now_filled : Filled c.args.query.n c.args.query.slots (graph_of c.args.star.now c.args.weights.now) c.args.query.start (c.args.stem.rank + 1) c.loop-d.work c.loop-d.now = going_filled filled c.loop-d.invariant.0 in
+    let place : Along c.args.query.n (graph_of c.args.star.now c.args.weights.now) c.args.query.start c.args.query.goal (entries c.args.query.n c.loop-d.work c.loop-d.now) c.args.stem.rank c.loop-d.used c.loop-d.barred c.loop-d.path c.loop-d.d (c.args.stem.cost - c.loop-d.behind) = c.loop-d.invariant.0.place in
+    let more : (get_or (entries c.args.query.n c.loop-d.work c.loop-d.now) c.args.stem.rank none).shared < c.loop-d.d = omega (arith, going_shared filled c.loop-d.invariant.0, c.requires.shared_value, c.loop-d-test.true) in
+    let arc : c.step_back-behind.result ≡ weight (graph_of c.args.star.now c.args.weights.now) (get_or c.loop-d.path (c.loop-d.d - 1 - 1) 0) (get_or c.loop-d.path (c.loop-d.d - 1) 0) = c.step_back-behind.ensures.value (back_linked now_filled.entered place more) in
+    let rest_within : c.loop-d.behind + c.step_back-behind.result ≤ c.args.stem.cost = back_le now_filled.entered place more c.loop-d.invariant.0.rest refl arc in
+    rest_within

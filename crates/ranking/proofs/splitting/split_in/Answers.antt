@@ -77,3 +77,12 @@ returns c =
     let shared_is : c.shared_at-shared.result ≡ (get_or (entries c.args.query.n c.args.work.now c.args.count) c.args.rank none).shared = c.shared_at-shared.ensures ∙ ap (λ (e : Entry). e.shared) (due_entry problem filled due) in
     let total_is : (c.shared_at-shared.result + c.tail_length_at.result) ≡ size (get_or (entries c.args.query.n c.args.work.now c.args.count) c.args.rank none) = let z = c.tail_length_at.ensures ∙ ap (λ (e : Entry). length e.tail) (due_entry problem filled due) in omega (arith, shared_is) in
     record { changed = c.deviations.ensures.changed; searching = c.deviations.ensures.emptied.goes_on (rw total_is (due_waiting problem filled due)) }
+
+pub overflow_add-len : goal.overflow_add-len
+overflow_add-len c =
+    let problem : Problem c.args.query.n c.args.query.start c.args.query.goal c.args.star.now c.args.weights.now c.args.overall.now = c.requires.problem in
+    let filled : Filled c.args.query.n c.args.query.slots (graph_of c.args.star.now c.args.weights.now) c.args.query.start c.args.rank c.args.work.now c.args.count = c.requires.filled in
+    let due : Due c.args.query.n (graph_of c.args.star.now c.args.weights.now) c.args.query.start c.args.query.goal c.args.query.slots c.args.query.limit (entries c.args.query.n c.args.work.now c.args.count) c.args.rank = c.requires.due in
+    let shared_is : c.shared_at-shared.result ≡ (get_or (entries c.args.query.n c.args.work.now c.args.count) c.args.rank none).shared = c.shared_at-shared.ensures ∙ ap (λ (e : Entry). e.shared) (due_entry problem filled due) in
+    let total_is : (c.shared_at-shared.result + c.tail_length_at.result) ≡ size (get_or (entries c.args.query.n c.args.work.now c.args.count) c.args.rank none) = let z = c.tail_length_at.ensures ∙ ap (λ (e : Entry). length e.tail) (due_entry problem filled due) in omega (arith, shared_is) in
+    omega (arith, total_is, due_short problem filled due, filled.kept.few)
