@@ -1,7 +1,7 @@
 -- `counting::measure_at`: what is laid out is the path, and it is measured. Assumes nothing.
 use Prim.Native.Nat.{◌+◌, ◌≤◌}
 use native.Mathlib.Omega.{arith}
-use mathlib.Core.Path.{◌≡◌, sym, ◌∙◌, subst}
+use mathlib.Core.Path.{◌≡◌, sym, ◌∙◌, ap, subst}
 use lib.ListN.{length, take}
 use Rattle.terms.specs.Network.{column}
 use Rattle.terms.specs.Paths.{Path}
@@ -37,3 +37,16 @@ returns c =
     let long : c.length_at-len.result ≡ length (route_at c.args.task.start c.args.task.n c.args.work.now c.args.rank) = c.length_at-len.ensures ∙ sym (route_size c.args.task.n c.args.work.now c.args.rank c.requires.rooted.0 c.args.task.start) in
     let laid : take c.length_at-len.result c.lay_out.new.path ≡ (route_at c.args.task.start c.args.task.n c.args.work.now c.args.rank) = all_laid c.length_at-len.result (route_at c.args.task.start c.args.task.n c.args.work.now c.args.rank) c.args.path.now c.lay_out.new.path long c.lay_out.ensures in
     subst (λ p. Measured c.args.limit (figure_over (network c.args.task.n c.args.m (length c.args.bests.now) c.args.star.now c.args.costs.now) c.args.bests.now p) (worst_over (network c.args.task.n c.args.m (length c.args.bests.now) c.args.star.now c.args.costs.now) c.args.bests.now p) c.measure.result.figure c.measure.result.worst) laid c.measure.ensures
+
+pub slice_bounds-measure-end : goal.slice_bounds-measure-end
+slice_bounds-measure-end c =
+    let fits : Fits c.args.task.n (entries c.args.task.n c.args.work.now (c.args.rank + 1)) c.args.rank (entry_at c.args.task.n c.args.work.now c.args.rank) = rooted_fits c.args.task.n c.args.work.now c.args.rank c.requires.rooted.0 in
+    let short : c.length_at-len.result ≤ c.args.task.n = omega (arith, c.length_at-len.ensures, fits.short) in
+    let room : c.length_at-len.result ≤ length c.lay_out.new.path = omega (arith, short, c.requires.ends.1, c.lay_out.auto.path) in
+    room
+
+pub slice_bounds-measure-end-2 : goal.slice_bounds-measure-end-2
+slice_bounds-measure-end-2 c =
+    let long : c.length_at-len.result ≡ length (route_at c.args.task.start c.args.task.n c.args.work.now c.args.rank) = c.length_at-len.ensures ∙ sym (route_size c.args.task.n c.args.work.now c.args.rank c.requires.rooted.0 c.args.task.start) in
+    let laid : take c.length_at-len.result c.lay_out.new.path ≡ (route_at c.args.task.start c.args.task.n c.args.work.now c.args.rank) = all_laid c.length_at-len.result (route_at c.args.task.start c.args.task.n c.args.work.now c.args.rank) c.args.path.now c.lay_out.new.path long c.lay_out.ensures in
+    long ∙ ap length (sym laid)

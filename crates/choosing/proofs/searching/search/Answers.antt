@@ -125,3 +125,8 @@ returns c =
     let in_column : InColumn c.args.task.column (length c.args.weights.now) (length c.args.bests.now) c.args.weights.now c.args.costs.now = c.requires.in_column in
     let counting : Counting c.args.task.n (c.args.task.wanted + 1) (graph_of c.args.star.now c.args.weights.now) c.args.task.start c.args.task.goal (get_or c.args.bests.now (c.args.task.column - 1) 0) (figure_over (network c.args.task.n (length c.args.weights.now) (length c.args.bests.now) c.args.star.now c.args.costs.now) c.args.bests.now) (worst_over (network c.args.task.n (length c.args.weights.now) (length c.args.bests.now) c.args.star.now c.args.costs.now) c.args.bests.now) c.loop-task.work c.loop-task.count c.loop-task.j c.loop-task.leader.place c.loop-task.leader.figure c.loop-task.leader.worst = c.loop-task.invariant.0 in
     record { work_unchanged = c.loop-task.invariant.1 ∙ c.begin-count.ensures.beyond; decided = decided c.args.task.wanted problem priced in_column counting c.requires.le_wanted.0 (omega (arith, space.few)) c.loop-task.invariant.3 c.due.ensures c.loop-task-test.false c.judge.ensures }
+
+pub overflow_add-cost_at : goal.overflow_add-cost_at
+overflow_add-cost_at c =
+    let due_now : (c.loop-task.j < c.loop-task.count) × ((entry_at c.args.task.n c.loop-task.work c.loop-task.j).cost < (get_or c.args.bests.now (c.args.task.column - 1) 0) + c.loop-task.leader.figure) × (c.loop-task.j < c.args.task.wanted) = outlook_due c.due.ensures c.loop-task-test.true in
+    omega (arith, c.cost_at.ensures, due_now.1, c.loop-task.invariant.4)
