@@ -1,7 +1,31 @@
 -- `first_path::find` lends parts of local arrays: the length of the star, and a place for each arc and for each node and one more. Assumes nothing.
-use Rattle.loading.proofs.RoomLaws.{local_room}
+use native.Mathlib.Omega.{arith}
+use mathlib.Core.Path.{sym}
+use Rattle.loading.proofs.DecodeLaws.{few_arcs, few_nodes}
+use Rattle.loading.proofs.RoomLaws.{places_fit, star_fits, local_room}
 use Rattle.column_calls.proofs.first_path.find.Goals as goal
 
 pub find_in-requires : goal.find_in-requires
 find_in-requires c =
     record { accepted = c.requires.accepted; room = local_room c.requires.accepted.0; route_len = c.requires.route_len }
+
+pub overflow_cast-start : goal.overflow_cast-start
+overflow_cast-start c = omega (arith, c.requires.accepted.2.start_in, c.requires.accepted.0.nodes_are, few_nodes c.requires.accepted.0)
+
+pub slice_bounds-star-end : goal.slice_bounds-star-end
+slice_bounds-star-end c = star_fits c.requires.accepted.0
+
+pub slice_bounds-find_in-end : goal.slice_bounds-find_in-end
+slice_bounds-find_in-end c = sym (local_room c.requires.accepted.0).star_long
+
+pub slice_bounds-weights-end : goal.slice_bounds-weights-end
+slice_bounds-weights-end c = few_arcs c.requires.accepted.0
+
+pub slice_bounds-find_in-end-2 : goal.slice_bounds-find_in-end-2
+slice_bounds-find_in-end-2 c = sym (local_room c.requires.accepted.0).weights_long
+
+pub slice_bounds-overall-end : goal.slice_bounds-overall-end
+slice_bounds-overall-end c = places_fit c.requires.accepted.0
+
+pub slice_bounds-find_in-end-3 : goal.slice_bounds-find_in-end-3
+slice_bounds-find_in-end-3 c = sym (local_room c.requires.accepted.0).labels_long

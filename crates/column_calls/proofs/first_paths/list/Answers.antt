@@ -1,9 +1,32 @@
 -- `first_paths::list` lends parts of local arrays: the length of the star, and a place for each arc and for each node and one more. Assumes nothing.
-use mathlib.Core.Path.{refl}
-use Rattle.loading.proofs.RoomLaws.{local_room}
+use native.Mathlib.Omega.{arith}
+use mathlib.Core.Path.{refl, sym}
+use Rattle.loading.proofs.DecodeLaws.{few_arcs, few_nodes}
+use Rattle.loading.proofs.RoomLaws.{places_fit, star_fits, local_room}
 use Rattle.column_calls.proofs.RankLaws.{slices_for}
 use Rattle.column_calls.proofs.first_paths.list.Goals as goal
 
 pub list_in-requires : goal.list_in-requires
 list_in-requires c =
     record { accepted = c.requires.accepted; n_value = (refl, refl, local_room c.requires.accepted.0); list_slices = slices_for c.requires.accepted.0.nodes_are c.requires.list_slices }
+
+pub overflow_cast-query : goal.overflow_cast-query
+overflow_cast-query c = omega (arith, c.requires.accepted.2.start_in, c.requires.accepted.0.nodes_are, few_nodes c.requires.accepted.0)
+
+pub slice_bounds-star-end : goal.slice_bounds-star-end
+slice_bounds-star-end c = star_fits c.requires.accepted.0
+
+pub slice_bounds-list_in-end : goal.slice_bounds-list_in-end
+slice_bounds-list_in-end c = sym (local_room c.requires.accepted.0).star_long
+
+pub slice_bounds-weights-end : goal.slice_bounds-weights-end
+slice_bounds-weights-end c = few_arcs c.requires.accepted.0
+
+pub slice_bounds-list_in-end-2 : goal.slice_bounds-list_in-end-2
+slice_bounds-list_in-end-2 c = sym (local_room c.requires.accepted.0).weights_long
+
+pub slice_bounds-overall-end : goal.slice_bounds-overall-end
+slice_bounds-overall-end c = places_fit c.requires.accepted.0
+
+pub slice_bounds-list_in-end-3 : goal.slice_bounds-list_in-end-3
+slice_bounds-list_in-end-3 c = sym (local_room c.requires.accepted.0).labels_long

@@ -6,7 +6,7 @@ use mathlib.Core.List.{[], ◌∷◌}
 use Rattle.image.specs.Outcome.{gives, after}
 use Rattle.image.proofs.OutcomeLaws.{outcome_fault, outcome_sound, after_fault}
 use Rattle.outcomes.specs.Calls.{rank_rows_of, rank_costs_of, cleared}
-use Rattle.column_calls.proofs.RankLaws.{none_listed, some_listed, no_rows, no_costs, work_unused, work_emptied}
+use Rattle.column_calls.proofs.RankLaws.{none_listed, some_listed, few_listed, no_rows, no_costs, work_unused, work_emptied}
 use Rattle.outcomes.proofs.WorkLaws.{cleared_is, cleared_not}
 use Rattle.column_calls.proofs.rank.write_ranked.Goals as goal
 
@@ -20,3 +20,6 @@ returns c =
     let one : 1 ≤ c.list-count.result = omega (arith, c.if-count-eq0.false) in
     let e = some_listed c.args.image.now c.args.column c.args.start c.args.goal c.args.wanted c.requires.accepted.0.passes c.requires.accepted.1 c.requires.accepted.2 (omega (arith, c.list-count.ensures.value)) in
     record { result_value = ap (λ (x : ℕ). gives (x ∷ [])) c.list-count.ensures.value ∙ sym (outcome_sound _ e); rows_after = c.list-count.ensures.rows_after ∙ ap (λ f. after f (rank_rows_of c.args.image.now c.args.column c.args.start c.args.goal c.args.wanted) c.args.rows.now) (sym e); costs_after = c.list-count.ensures.costs_after ∙ ap (λ f. after f (rank_costs_of c.args.image.now c.args.column c.args.start c.args.goal c.args.wanted) c.args.costs.now) (sym e); work_after = work_emptied one c.list-count.ensures.listed_work ∙ cleared_is c.args.work.now ∙ ap (λ f. cleared f c.args.work.now) (sym e) }
+
+pub overflow_cast-result : goal.overflow_cast-result
+overflow_cast-result c = omega (arith, c.list-count.ensures.value, few_listed c.args.image.now c.args.column c.args.start c.args.goal c.args.wanted, c.requires.list_slices.wanted_to)

@@ -11,7 +11,7 @@ use Rattle.branching.proofs.FirstLaws.{found_tail, found_empty, extent_tail}
 use Rattle.image.specs.Layout.{net_of}
 use Rattle.image.specs.Outcome.{gives}
 use Rattle.image.proofs.OutcomeLaws.{outcome_fault, outcome_sound, after_fault}
-use Rattle.outcomes.proofs.ShortestLaws.{path_none, path_some, values_are, written_is}
+use Rattle.outcomes.proofs.ShortestLaws.{path_none, path_some, path_cost, rest_is, values_are, written_is}
 use Rattle.column_calls.proofs.shortest.write_first.Goals as goal
 
 pub returns-in_default : goal.returns-in_default
@@ -30,3 +30,9 @@ returns c =
     let reach : (1 < c.in-Tail.len) × (c.in-Tail.len ≤ length c.find-found.new.route) = extent_tail c.find-found.ensures.extent c.in-Tail.is in
     let f = first in
     record { result_value = ap gives (values_are c.requires.accepted.0.passes c.requires.accepted.1 c.requires.accepted.2 f.0 _ _ refl reach.1 f.1) ∙ sym (outcome_sound _ (path_some c.requires.accepted.0.passes c.requires.accepted.1 c.requires.accepted.2 f.0)); path_after = c.write_path.ensures ∙ written_is c.requires.accepted.0.passes c.requires.accepted.1 c.requires.accepted.2 f.0 _ _ refl reach.1 f.1 _ }
+
+pub overflow_cast-result-2 : goal.overflow_cast-result-2
+overflow_cast-result-2 c =
+    let first : let g = column (net_of c.args.image.now) c.args.column in First g c.args.start c.args.goal (everything c.args.start) (take c.in-Tail.len c.find-found.new.route) × (cost g (take c.in-Tail.len c.find-found.new.route) ≡ cost g (c.args.start ∷ []) + c.in-Tail.cost) = found_tail c.find-found.ensures.first_found c.in-Tail.is in
+    let reach : (1 < c.in-Tail.len) × (c.in-Tail.len ≤ length c.find-found.new.route) = extent_tail c.find-found.ensures.extent c.in-Tail.is in
+    omega (arith, rest_is c.requires.accepted.0.passes c.requires.accepted.1 c.requires.accepted.2 first.0 _ _ refl reach.1 first.1, path_cost c.requires.accepted.0.passes c.requires.accepted.1 c.requires.accepted.2 first.0)

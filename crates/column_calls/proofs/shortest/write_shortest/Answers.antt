@@ -1,6 +1,6 @@
 -- `shortest::write_shortest` meets its contract. Assumes nothing.
 use Prim.Native.Nat.{◌≤◌}
-use mathlib.Core.Path.{◌∙◌}
+use mathlib.Core.Path.{sym, ◌∙◌}
 use Rattle.loading.proofs.DecodeLaws.{few_nodes}
 use Rattle.terms.proofs.RoomLaws.{part_long}
 use Rattle.column_calls.proofs.shortest.write_shortest.Goals as goal
@@ -9,3 +9,13 @@ pub write_first-requires : goal.write_first-requires
 write_first-requires c =
     let fits : c.args.sizes.n ≤ 200 = few_nodes c.requires.accepted.0 in
     record { accepted = c.requires.accepted; route_len = (part_long 200 _ fits ∙ c.requires.accepted.0.nodes_are, c.requires.image_in_bounds) }
+
+pub slice_bounds-route-end : goal.slice_bounds-route-end
+slice_bounds-route-end c =
+    let fits : c.args.sizes.n ≤ 200 = few_nodes c.requires.accepted.0 in
+    fits
+
+pub slice_bounds-write_first-end : goal.slice_bounds-write_first-end
+slice_bounds-write_first-end c =
+    let fits : c.args.sizes.n ≤ 200 = few_nodes c.requires.accepted.0 in
+    sym (part_long 200 _ fits)

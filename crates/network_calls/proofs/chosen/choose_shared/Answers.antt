@@ -11,7 +11,7 @@ use Rattle.image.proofs.OutcomeLaws.{outcome_fault, after_fault}
 use Rattle.measuring.specs.Bests.{Labelled}
 use Rattle.outcomes.specs.Calls.{cleared}
 use Rattle.outcomes.proofs.WorkLaws.{cleared_is, cleared_not}
-use Rattle.network_calls.proofs.SharedLaws.{rest_admitted, rest_columns, rest_nodes, rest_ends, part_network, reached_row, unreached_row, labelled_part}
+use Rattle.network_calls.proofs.SharedLaws.{rest_admitted, rest_columns, rest_nodes, rest_ends, part_lies, part_network, reached_row, unreached_row, labelled_part}
 use Rattle.network_calls.proofs.ChoiceLaws.{values_in, path_in}
 use Rattle.network_calls.proofs.chosen.choose_shared.Goals as goal
 
@@ -48,3 +48,35 @@ returns c =
     let labelled : Labelled c.args.task.n c.args.extent.m c.args.star.now c.args.costs.now c.args.task.goal c.args.task.column c.label_nodes.new.overall = labelled_part labels_long c.label_nodes.ensures in
     let e = reached_row ready columns c.requires.asked.1 (c.requires.asked.0.nodes_are ∙ rest_nodes c.requires.asked.0.accepted c.args.closed.now) (rest_ends c.requires.asked.0.accepted c.args.closed.now c.requires.asked.0.ends) c.requires.asked.0.in_column.from inside labelled c.if-overall-start.false in
     record { result_value = values_in _ e c.choose_reached.ensures.result_value; path_after = path_in _ e c.args.path.now c.choose_reached.ensures.path_after; work_after = c.choose_reached.ensures.work_after ∙ cleared_is c.args.work.now ∙ ap (λ f. cleared f c.args.work.now) (sym e) }
+
+pub overflow_mul-from : goal.overflow_mul-from
+overflow_mul-from c =
+    let inside : c.args.task.column ≤ c.args.extent.sizes.k = omega (arith, c.requires.asked.0.in_column.upto, c.requires.asked.0.accepted.columns_are) in
+    let ready : Admitted (edition c.args.image.now) (without c.args.closed.now (net_of c.args.image.now)) = rest_admitted c.requires.asked.0.accepted c.args.closed.now in
+    let columns : c.args.extent.sizes.k ≡ length (without c.args.closed.now (net_of c.args.image.now)).columns = rest_columns c.requires.asked.0.accepted c.args.closed.now in
+    let lies : ((c.args.task.column - 1) * c.args.extent.m + c.args.extent.m ≤ length c.args.costs.now) × (length c.args.costs.now ≤ 8000) = part_lies ready columns c.requires.asked.1 c.requires.asked.0.in_column.from inside in
+    omega (arith, lies)
+
+pub overflow_add-to : goal.overflow_add-to
+overflow_add-to c =
+    let inside : c.args.task.column ≤ c.args.extent.sizes.k = omega (arith, c.requires.asked.0.in_column.upto, c.requires.asked.0.accepted.columns_are) in
+    let ready : Admitted (edition c.args.image.now) (without c.args.closed.now (net_of c.args.image.now)) = rest_admitted c.requires.asked.0.accepted c.args.closed.now in
+    let columns : c.args.extent.sizes.k ≡ length (without c.args.closed.now (net_of c.args.image.now)).columns = rest_columns c.requires.asked.0.accepted c.args.closed.now in
+    let lies : ((c.args.task.column - 1) * c.args.extent.m + c.args.extent.m ≤ length c.args.costs.now) × (length c.args.costs.now ≤ 8000) = part_lies ready columns c.requires.asked.1 c.requires.asked.0.in_column.from inside in
+    omega (arith, lies)
+
+pub offset_bounds-costs-from : goal.offset_bounds-costs-from
+offset_bounds-costs-from c =
+    let inside : c.args.task.column ≤ c.args.extent.sizes.k = omega (arith, c.requires.asked.0.in_column.upto, c.requires.asked.0.accepted.columns_are) in
+    let ready : Admitted (edition c.args.image.now) (without c.args.closed.now (net_of c.args.image.now)) = rest_admitted c.requires.asked.0.accepted c.args.closed.now in
+    let columns : c.args.extent.sizes.k ≡ length (without c.args.closed.now (net_of c.args.image.now)).columns = rest_columns c.requires.asked.0.accepted c.args.closed.now in
+    let lies : ((c.args.task.column - 1) * c.args.extent.m + c.args.extent.m ≤ length c.args.costs.now) × (length c.args.costs.now ≤ 8000) = part_lies ready columns c.requires.asked.1 c.requires.asked.0.in_column.from inside in
+    omega (arith, lies)
+
+pub slice_bounds-label_nodes-end : goal.slice_bounds-label_nodes-end
+slice_bounds-label_nodes-end c =
+    let inside : c.args.task.column ≤ c.args.extent.sizes.k = omega (arith, c.requires.asked.0.in_column.upto, c.requires.asked.0.accepted.columns_are) in
+    let ready : Admitted (edition c.args.image.now) (without c.args.closed.now (net_of c.args.image.now)) = rest_admitted c.requires.asked.0.accepted c.args.closed.now in
+    let columns : c.args.extent.sizes.k ≡ length (without c.args.closed.now (net_of c.args.image.now)).columns = rest_columns c.requires.asked.0.accepted c.args.closed.now in
+    let lies : ((c.args.task.column - 1) * c.args.extent.m + c.args.extent.m ≤ length c.args.costs.now) × (length c.args.costs.now ≤ 8000) = part_lies ready columns c.requires.asked.1 c.requires.asked.0.in_column.from inside in
+    omega (arith, lies)

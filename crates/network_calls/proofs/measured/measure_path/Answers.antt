@@ -26,3 +26,8 @@ pub returns : goal.returns
 returns c =
     let held : Held (net_of c.args.image.now) c.args.m c.args.start c.args.goal c.args.star.now c.args.costs.now c.price.new.bests = subst (λ net. Held net c.args.m c.args.start c.args.goal c.args.star.now c.args.costs.now c.price.new.bests) (without_none (net_of c.args.image.now)) c.price.ensures in
     (measured_below (admitted c.requires.accepted.0) c.requires.accepted.0.columns_are c.requires.accepted.1 c.requires.accepted.0.nodes_are c.requires.ends.0 held c.requires.ends.1 (omega arith) c.measure-found.ensures).0
+
+pub overflow_cast-result : goal.overflow_cast-result
+overflow_cast-result c =
+    let held : Held (net_of c.args.image.now) c.args.m c.args.start c.args.goal c.args.star.now c.args.costs.now c.price.new.bests = subst (λ net. Held net c.args.m c.args.start c.args.goal c.args.star.now c.args.costs.now c.price.new.bests) (without_none (net_of c.args.image.now)) c.price.ensures in
+    omega (arith, (measured_below (admitted c.requires.accepted.0) c.requires.accepted.0.columns_are c.requires.accepted.1 c.requires.accepted.0.nodes_are c.requires.ends.0 held c.requires.ends.1 (omega arith) c.measure-found.ensures).1)

@@ -1,9 +1,10 @@
 -- `measured::measure_shared`: row 14 if it applies, or the measure. Assumes nothing.
-use Prim.Native.Nat.{ℕ, ◌+◌}
+use Prim.Native.Nat.{ℕ, ◌+◌, ◌≤◌}
 use mathlib.Core.Path.{◌≡◌, sym, ◌∙◌, ap, ap₂, subst}
 use mathlib.Core.List.{[], ◌∷◌}
 use mathlib.Core.Option.{none}
-use lib.ListN.{take}
+use lib.ListN.{length, take}
+use lib.Seq.{length-take-le}
 use Rattle.terms.specs.Regret.{open_fault}
 use Rattle.terms.proofs.CommonLaws.{no_fault_open}
 use Rattle.image.specs.Outcome.{gives}
@@ -14,7 +15,7 @@ use Rattle.loading.specs.Accepted.{Node}
 use Rattle.loading.proofs.DecodeLaws.{admitted}
 use Rattle.outcomes.proofs.RowLaws.{no_path_at, list_passes}
 use Rattle.network_calls.specs.NodeLists.{list_fault}
-use Rattle.network_calls.proofs.SharedLaws.{first_network, first_fault}
+use Rattle.network_calls.proofs.SharedLaws.{first_lies, first_network, first_fault}
 use Rattle.network_calls.proofs.measured.measure_shared.Goals as goal
 
 pub check_list-list-requires : goal.check_list-list-requires
@@ -36,3 +37,8 @@ returns c =
     let listed : list_fault c.check_list-list.result ≡ open_fault (net_of c.args.image.now) c.args.start c.args.goal c.args.nodes.now = c.check_list-list.ensures ∙ first_fault (admitted c.requires.accepted.0) c.requires.accepted.0.columns_are c.requires.accepted.1 c.args.start c.args.goal c.args.nodes.now in
     let passed : none ≡ open_fault (net_of c.args.image.now) c.args.start c.args.goal c.args.nodes.now = sym (ap list_fault c.in_default.is) ∙ listed in
     ap₂ (λ (f w : ℕ). gives (f ∷ w ∷ [])) c.measure_path.ensures.0 c.measure_path.ensures.1 ∙ sym (outcome_sound _ (list_passes (net_of c.args.image.now) c.args.start c.args.goal c.args.nodes.now passed))
+
+pub slice_bounds-check_list-end : goal.slice_bounds-check_list-end
+slice_bounds-check_list-end c =
+    let first_fits : c.args.m ≤ length c.args.costs.now = first_lies (admitted c.requires.accepted.0) c.requires.accepted.0.columns_are c.requires.accepted.1 in
+    sym (length-take-le _ _ first_fits)
