@@ -13,8 +13,8 @@ loop-u-init c = (omega arith, (1, none_so_far _))
 
 pub loop-u-preserved : goal.loop-u-preserved
 loop-u-preserved c =
-    let is = c.over-x.ensures ∙ value_at c.args.t2 c.args.bests.now c.loop-u.u in
-    (omega arith, elim c.if-figure-x.branch [ then-figure-x y ↦ (c.loop-u.u + 1, raised (omega arith) c.loop-u.invariant.1.1 is y.if-figure-x.true y.1 refl) | else-figure-x n ↦ (c.loop-u.invariant.1.0, kept (omega arith) c.loop-u.invariant.1.1 is n.if-figure-x.false n.1 refl) ])
+    let is = c.over-x.ensures ∙ value_at c.args.sums c.args.bests.now c.loop-u.u in
+    (omega arith, elim c.if-figure-x.branch [ then-figure-x y ↦ (c.loop-u.u + 1, raised (omega arith) c.loop-u.invariant.1.1 is y.if-figure-x.true y.figure-is refl) | else-figure-x n ↦ (c.loop-u.invariant.1.0, kept (omega arith) c.loop-u.invariant.1.1 is n.if-figure-x.false n.figure-is refl) ])
 
 pub returns : goal.returns
 returns c =

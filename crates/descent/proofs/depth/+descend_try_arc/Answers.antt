@@ -18,6 +18,11 @@ use Rattle.descent.proofs.StepLaws.{flag_on, flag_off, more_room, begun_more, ke
 use Rattle.descent.proofs.SweepLaws.{leads_start, descend_arrived, descend_onward, ends_of, kept_none, kept_both, begun_kept, given_kept, leads_on, leads_cut, leads_end}
 use Rattle.descent.proofs.depth.+descend_try_arc.Goals as goal
 
+-- the rule at the node is the rule at the arc's head
+at_node : (limit left : ℕ) (net : Net) (s' t' v : ℕ) (seen : List ℕ) (z : State) {node head : ℕ} {path : List ℕ} {r : Run} → node ≡ head
+    → Ends path (at_arc limit left net s' t' seen v node z) r → Ends path (at_arc limit left net s' t' seen v head z) r
+at_node limit left net s' t' v seen z e x = ends_as (ap (λ (h : ℕ). at_arc limit left net s' t' seen v h z) (sym e)) x
+
 pub descend-complete-requires : goal.descend-complete-requires
 descend-complete-requires t c =
     let few : c.args.partial.depth < length c.args.used.now = omega (arith, c.requires.begun.room) in
@@ -166,14 +171,12 @@ try_arc-bounds-used-h t c =
 pub try_arc-returns-then-used-h-ne0 : goal.try_arc-returns-then-used-h-ne0
 try_arc-returns-then-used-h-ne0 t c =
     let node_is : (get_or c.args.star.now (c.args.partial.arcs + c.args.i) 0) ≡ get_or (heads_of c.args.partial.arcs c.args.star.now) c.args.i 0 = head_at c.requires.fits c.args.i c.requires.i_lt_arcs in
-    let at_node : {path : List ℕ} {r : Run} (net : Net) (s' t' v : ℕ) (seen : List ℕ) (z : State) → Ends path (at_arc c.args.partial.limit (length c.args.used.now - (c.args.partial.depth + 1)) net s' t' seen v (get_or c.args.star.now (c.args.partial.arcs + c.args.i) 0) z) r → Ends path (at_arc c.args.partial.limit (length c.args.used.now - (c.args.partial.depth + 1)) net s' t' seen v (get_or (heads_of c.args.partial.arcs c.args.star.now) c.args.i 0) z) r = λ net s' t' v seen z e. ends_as (ap (λ (h : ℕ). at_arc c.args.partial.limit (length c.args.used.now - (c.args.partial.depth + 1)) net s' t' seen v h z) (sym node_is)) e in
-    record { kept = kept_none; ends = λ net s' t' v seen z l from to g. at_node net s' t' v seen z (ends_as (at_used c.args.partial.limit _ net s' t' seen v (get_or c.args.star.now (c.args.partial.arcs + c.args.i) 0) z (rw g.nodes_are at (flag_on (get_or c.args.star.now (c.args.partial.arcs + c.args.i) 0) c.requires.begun.flagged c.if-used-h-ne0.true))) (goes g.matches)) }
+    record { kept = kept_none; ends = λ net s' t' v seen z l from to g. at_node c.args.partial.limit (length c.args.used.now - (c.args.partial.depth + 1)) net s' t' v seen z node_is (ends_as (at_used c.args.partial.limit _ net s' t' seen v (get_or c.args.star.now (c.args.partial.arcs + c.args.i) 0) z (rw g.nodes_are at (flag_on (get_or c.args.star.now (c.args.partial.arcs + c.args.i) 0) c.requires.begun.flagged c.if-used-h-ne0.true))) (goes g.matches)) }
 
 pub try_arc-returns-then-limit-tried : goal.try_arc-returns-then-limit-tried
 try_arc-returns-then-limit-tried t c =
     let node_is : (get_or c.args.star.now (c.args.partial.arcs + c.args.i) 0) ≡ get_or (heads_of c.args.partial.arcs c.args.star.now) c.args.i 0 = head_at c.requires.fits c.args.i c.requires.i_lt_arcs in
-    let at_node : {path : List ℕ} {r : Run} (net : Net) (s' t' v : ℕ) (seen : List ℕ) (z : State) → Ends path (at_arc c.args.partial.limit (length c.args.used.now - (c.args.partial.depth + 1)) net s' t' seen v (get_or c.args.star.now (c.args.partial.arcs + c.args.i) 0) z) r → Ends path (at_arc c.args.partial.limit (length c.args.used.now - (c.args.partial.depth + 1)) net s' t' seen v (get_or (heads_of c.args.partial.arcs c.args.star.now) c.args.i 0) z) r = λ net s' t' v seen z e. ends_as (ap (λ (h : ℕ). at_arc c.args.partial.limit (length c.args.used.now - (c.args.partial.depth + 1)) net s' t' seen v h z) (sym node_is)) e in
-    record { kept = kept_none; ends = λ net s' t' v seen z l from to g. at_node net s' t' v seen z (ends_as (at_full c.args.partial.limit _ net s' t' seen v (get_or c.args.star.now (c.args.partial.arcs + c.args.i) 0) z (rw g.nodes_are at (flag_off (get_or c.args.star.now (c.args.partial.arcs + c.args.i) 0) c.requires.begun.flagged c.if-used-h-ne0.false)) (omega (arith, g.matches.tried_is, c.if-limit-tried.true))) stopped) }
+    record { kept = kept_none; ends = λ net s' t' v seen z l from to g. at_node c.args.partial.limit (length c.args.used.now - (c.args.partial.depth + 1)) net s' t' v seen z node_is (ends_as (at_full c.args.partial.limit _ net s' t' seen v (get_or c.args.star.now (c.args.partial.arcs + c.args.i) 0) z (rw g.nodes_are at (flag_off (get_or c.args.star.now (c.args.partial.arcs + c.args.i) 0) c.requires.begun.flagged c.if-used-h-ne0.false)) (omega (arith, g.matches.tried_is, c.if-limit-tried.true))) stopped) }
 
 pub try_arc-drops-requires : goal.try_arc-drops-requires
 try_arc-drops-requires t c =
@@ -186,10 +189,9 @@ try_arc-drops-requires t c =
 pub try_arc-returns-then-drops : goal.try_arc-returns-then-drops
 try_arc-returns-then-drops t c =
     let node_is : (get_or c.args.star.now (c.args.partial.arcs + c.args.i) 0) ≡ get_or (heads_of c.args.partial.arcs c.args.star.now) c.args.i 0 = head_at c.requires.fits c.args.i c.requires.i_lt_arcs in
-    let at_node : {path : List ℕ} {r : Run} (net : Net) (s' t' v : ℕ) (seen : List ℕ) (z : State) → Ends path (at_arc c.args.partial.limit (length c.args.used.now - (c.args.partial.depth + 1)) net s' t' seen v (get_or c.args.star.now (c.args.partial.arcs + c.args.i) 0) z) r → Ends path (at_arc c.args.partial.limit (length c.args.used.now - (c.args.partial.depth + 1)) net s' t' seen v (get_or (heads_of c.args.partial.arcs c.args.star.now) c.args.i 0) z) r = λ net s' t' v seen z e. ends_as (ap (λ (h : ℕ). at_arc c.args.partial.limit (length c.args.used.now - (c.args.partial.depth + 1)) net s' t' seen v h z) (sym node_is)) e in
     let head_in : c.args.i < length (heads_of c.args.partial.arcs c.args.star.now) = omega (arith, heads_long c.requires.fits, c.requires.i_lt_arcs) in
     let drops_node : (net : Net) (s' t' v : ℕ) (seen : List ℕ) (z : State) → v < length c.args.used.now → get_or (outs_of (length c.args.used.now) c.args.partial.arcs c.args.star.now) v 0 ≤ c.args.i → c.args.i < get_or (outs_of (length c.args.used.now) c.args.partial.arcs c.args.star.now) (v + 1) 0 → GivenIn net s' t' seen z c.args.star.now c.args.costs.now c.args.labels.now c.args.bests.now (length c.args.used.now) c.args.partial v c.args.route.now c.args.path.now c.args.held → dropped net s' t' (laid seen v) v (get_or c.args.star.now (c.args.partial.arcs + c.args.i) 0) z.found ≡ c.drops.result = λ net s' t' v seen z l from to g. ap (λ (h : ℕ). dropped net s' t' (laid seen v) v h z.found) node_is ∙ drops_is g c.requires.fits.ground (omega (arith, c.requires.begun.room, c.requires.fits.ground.few)) c.requires.begun.sums_low c.args.i l from to head_in (star_drops c.requires.fits node_is c.drops.ensures) in
-    record { kept = kept_none; ends = λ net s' t' v seen z l from to g. at_node net s' t' v seen z (ends_as
+    record { kept = kept_none; ends = λ net s' t' v seen z l from to g. at_node c.args.partial.limit (length c.args.used.now - (c.args.partial.depth + 1)) net s' t' v seen z node_is (ends_as
           (at_dropped c.args.partial.limit _ net s' t' seen v (get_or c.args.star.now (c.args.partial.arcs + c.args.i) 0) z (rw g.nodes_are at (flag_off (get_or c.args.star.now (c.args.partial.arcs + c.args.i) 0) c.requires.begun.flagged c.if-used-h-ne0.false)) (omega (arith, g.matches.tried_is, c.if-limit-tried.false))
           (drops_node net s' t' v seen z l from to g ∙ c.if-drops.true))
           (goes (matches_counted g.matches))) }
@@ -281,14 +283,13 @@ try_arc-returns t c =
     let free : get_or c.args.used.now (get_or c.args.star.now (c.args.partial.arcs + c.args.i) 0) 0 ≡ 0 = c.if-used-h-ne0.false in
     let room : c.args.partial.depth + 1 < length c.args.used.now = more_room (get_or c.args.star.now (c.args.partial.arcs + c.args.i) 0) c.requires.begun node_from node_in free in
     let flags_long : length (set c.args.used.now (get_or c.args.star.now (c.args.partial.arcs + c.args.i) 0) 1) ≡ length c.args.used.now = length-set c.args.used.now (get_or c.args.star.now (c.args.partial.arcs + c.args.i) 0) 1 in
-    let at_node : {path : List ℕ} {r : Run} (net : Net) (s' t' v : ℕ) (seen : List ℕ) (z : State) → Ends path (at_arc c.args.partial.limit (length c.args.used.now - (c.args.partial.depth + 1)) net s' t' seen v (get_or c.args.star.now (c.args.partial.arcs + c.args.i) 0) z) r → Ends path (at_arc c.args.partial.limit (length c.args.used.now - (c.args.partial.depth + 1)) net s' t' seen v (get_or (heads_of c.args.partial.arcs c.args.star.now) c.args.i 0) z) r = λ net s' t' v seen z e. ends_as (ap (λ (h : ℕ). at_arc c.args.partial.limit (length c.args.used.now - (c.args.partial.depth + 1)) net s' t' seen v h z) (sym node_is)) e in
     let drops_node : (net : Net) (s' t' v : ℕ) (seen : List ℕ) (z : State) → v < length c.args.used.now → get_or (outs_of (length c.args.used.now) c.args.partial.arcs c.args.star.now) v 0 ≤ c.args.i → c.args.i < get_or (outs_of (length c.args.used.now) c.args.partial.arcs c.args.star.now) (v + 1) 0 → GivenIn net s' t' seen z c.args.star.now c.args.costs.now c.args.labels.now c.args.bests.now (length c.args.used.now) c.args.partial v c.args.route.now c.args.path.now c.args.held → dropped net s' t' (laid seen v) v (get_or c.args.star.now (c.args.partial.arcs + c.args.i) 0) z.found ≡ c.drops.result = λ net s' t' v seen z l from to g. ap (λ (h : ℕ). dropped net s' t' (laid seen v) v h z.found) node_is ∙ drops_is g c.requires.fits.ground (omega (arith, c.requires.begun.room, c.requires.fits.ground.few)) c.requires.begun.sums_low c.args.i l from to head_in (star_drops c.requires.fits node_is c.drops.ensures) in
     let few : c.args.partial.depth ≤ 200 = omega (arith, c.requires.begun.room, c.requires.fits.ground.few) in
     let drops = star_drops c.requires.fits node_is c.drops.ensures in
     record { kept = kept_back (get_or c.args.star.now (c.args.partial.arcs + c.args.i) 0) c.requires.begun node_from node_in free c.descend-run.ensures.kept; ends = λ net s' t' v seen z l from to g.
           let deeper = rw flags_long at (c.descend-run.ensures.ends net s' t' (v ∷ seen) (one_more z)) in
           let weighs = kept_open g c.requires.fits.ground few c.requires.begun.sums_low c.args.i l from to head_in drops c.if-drops.false in
-          at_node net s' t' v seen z (ends_as
+          at_node c.args.partial.limit (length c.args.used.now - (c.args.partial.depth + 1)) net s' t' v seen z node_is (ends_as
           (at_taken c.args.partial.limit _ net s' t' seen v (get_or c.args.star.now (c.args.partial.arcs + c.args.i) 0) z (rw g.nodes_are at (flag_off (get_or c.args.star.now (c.args.partial.arcs + c.args.i) 0) c.requires.begun.flagged free)) (omega (arith, g.matches.tried_is, c.if-limit-tried.false))
           (drops_node net s' t' v seen z l from to g ∙ c.if-drops.false))
           (deeper (given_more (get_or c.args.star.now (c.args.partial.arcs + c.args.i) 0) g c.args.i (omega (arith, room, c.requires.begun.route_long)) (star_longer c.requires.fits c.lengthen.ensures) (λ u k. ap (λ (h : ℕ). weight (column net (suc u)) v h) node_is ∙ weighs u k)))) }
