@@ -161,6 +161,8 @@ module _ (b : List ℕ) (r s t K work : ℕ) (sound-now : RankingSound b r s t K
               let route : route_of now.week ≡ p = ap route_of (h.holds ∙ ap (week_of words) e) ∙ route_held words p f w n (short now.ran e) in
               let kept = closure_stands ok r s t K s_lo s_hi sound-now.search.from sound-now.search.upto sound-now.wanted_from words i in_map was_open run.1 (sym (ap (unmoved net s t words new i) route) ∙ free) in
               ap shown e ∙ recounted p f w n kept.0 ∙ sym (ap shown kept.1)
+          by_answer (left_open _ _ _ _ _) e settles free = elim settles [ ]
+          by_answer no_path e settles free = elim settles [ ]
 
       holds_standing : stands net s t now.week new i ≡ true → Holds net r s t K (record { week = with_map now.week new; ran = now.ran })
       unfolding with_map

@@ -1,10 +1,11 @@
 -- `deciding::answer`: the run was cut, or the path that it found is measured and written. Assumes nothing.
 use native.Mathlib.Omega.{arith}
 use mathlib.Core.Path.{sym, subst}
+use lib.Seq.{length-take-le}
 use Rattle.terms.specs.Paths.{OpenPath}
 use Rattle.image.specs.Layout.{net_of}
 use Rattle.image.proofs.OutcomeLaws.{outcome_fault, after_fault}
-use Rattle.loading.proofs.DecodeLaws.{admitted}
+use Rattle.loading.proofs.DecodeLaws.{admitted, few_nodes}
 use Rattle.search_calls.proofs.AnswerLaws.{Found, found, cut_many, values_are, written_is}
 use Rattle.search_calls.proofs.deciding.answer.Goals as goal
 
@@ -33,3 +34,23 @@ pub returns : goal.returns
 returns c =
     let told : Found c.args.image.now c.args.task.start c.args.task.goal c.args.task.limit c.search_image-run.new.best c.in-Going.held = found c.args.image.now c.args.task.start c.args.task.goal c.args.task.limit (admitted c.requires.accepted.0) c.requires.accepted.2 c.in-Going.held c.search_image-run.ensures c.in-Going.is in
     record { result_value = values_are told c.measure_path-found.ensures.0 c.measure_path-found.ensures.1; path_after = written_is told c.args.path.now c.write_path.ensures }
+
+pub slice_bounds-measure_path-end : goal.slice_bounds-measure_path-end
+slice_bounds-measure_path-end c =
+    let told : Found c.args.image.now c.args.task.start c.args.task.goal c.args.task.limit c.search_image-run.new.best c.in-Going.held = found c.args.image.now c.args.task.start c.args.task.goal c.args.task.limit (admitted c.requires.accepted.0) c.requires.accepted.2 c.in-Going.held c.search_image-run.ensures c.in-Going.is in
+    told.ranges
+
+pub slice_bounds-measure_path-end-2 : goal.slice_bounds-measure_path-end-2
+slice_bounds-measure_path-end-2 c =
+    let told : Found c.args.image.now c.args.task.start c.args.task.goal c.args.task.limit c.search_image-run.new.best c.in-Going.held = found c.args.image.now c.args.task.start c.args.task.goal c.args.task.limit (admitted c.requires.accepted.0) c.requires.accepted.2 c.in-Going.held c.search_image-run.ensures c.in-Going.is in
+    sym (length-take-le _ _ told.fits)
+
+pub overflow_cast-result : goal.overflow_cast-result
+overflow_cast-result c =
+    let told : Found c.args.image.now c.args.task.start c.args.task.goal c.args.task.limit c.search_image-run.new.best c.in-Going.held = found c.args.image.now c.args.task.start c.args.task.goal c.args.task.limit (admitted c.requires.accepted.0) c.requires.accepted.2 c.in-Going.held c.search_image-run.ensures c.in-Going.is in
+    omega (arith, told.short, c.requires.accepted.0.nodes_are, few_nodes c.requires.accepted.0)
+
+pub overflow_cast-result-2 : goal.overflow_cast-result-2
+overflow_cast-result-2 c =
+    let told : Found c.args.image.now c.args.task.start c.args.task.goal c.args.task.limit c.search_image-run.new.best c.in-Going.held = found c.args.image.now c.args.task.start c.args.task.goal c.args.task.limit (admitted c.requires.accepted.0) c.requires.accepted.2 c.in-Going.held c.search_image-run.ensures c.in-Going.is in
+    omega (arith, told.few, c.requires.accepted.1.limit_to)

@@ -1,10 +1,10 @@
 -- `deciding::decide` lends parts of local arrays: a star, and a place for each cost, node and column. Assumes nothing.
 use native.Mathlib.Omega.{arith}
-use mathlib.Core.Path.{refl}
+use mathlib.Core.Path.{sym, refl}
 use Rattle.terms.proofs.RoomLaws.{part_long}
 use Rattle.loading.specs.Accepted.{Accepted}
-use Rattle.loading.proofs.DecodeLaws.{few_nodes}
-use Rattle.loading.proofs.RoomLaws.{places_fit}
+use Rattle.loading.proofs.DecodeLaws.{few_nodes, few_columns}
+use Rattle.loading.proofs.RoomLaws.{places_fit, star_fits, all_fit}
 use Rattle.network_calls.proofs.ChoiceLaws.{choice_room}
 use Rattle.search_calls.proofs.deciding.decide.Goals as goal
 
@@ -13,3 +13,48 @@ decide_in-requires c =
     let ready : Accepted c.args.image.now c.args.sizes = c.requires.0 in
     let a = ready in
     record { accepted = (a, record { nodes_are = refl; arcs_are = refl; limit_to = omega arith }, c.requires.1); choice_room = (choice_room a, part_long 201 _ (places_fit a)); n_in_bounds = (omega (arith, few_nodes a), omega (arith, a.nodes_are, c.requires.2)) }
+
+pub overflow_cast-task : goal.overflow_cast-task
+overflow_cast-task c =
+    let ready : Accepted c.args.image.now c.args.sizes = c.requires.0 in
+    omega (arith, c.requires.1.start_in.upto, ready.nodes_are, few_nodes ready)
+
+pub slice_bounds-star-end : goal.slice_bounds-star-end
+slice_bounds-star-end c =
+    let ready : Accepted c.args.image.now c.args.sizes = c.requires.0 in
+    star_fits ready
+
+pub slice_bounds-decide_in-end : goal.slice_bounds-decide_in-end
+slice_bounds-decide_in-end c =
+    let ready : Accepted c.args.image.now c.args.sizes = c.requires.0 in
+    sym (part_long 3403 _ (star_fits ready))
+
+pub slice_bounds-costs-end : goal.slice_bounds-costs-end
+slice_bounds-costs-end c =
+    let ready : Accepted c.args.image.now c.args.sizes = c.requires.0 in
+    all_fit ready
+
+pub slice_bounds-decide_in-end-2 : goal.slice_bounds-decide_in-end-2
+slice_bounds-decide_in-end-2 c =
+    let ready : Accepted c.args.image.now c.args.sizes = c.requires.0 in
+    sym (part_long 8000 _ (all_fit ready))
+
+pub slice_bounds-overall-end : goal.slice_bounds-overall-end
+slice_bounds-overall-end c =
+    let ready : Accepted c.args.image.now c.args.sizes = c.requires.0 in
+    places_fit ready
+
+pub slice_bounds-decide_in-end-3 : goal.slice_bounds-decide_in-end-3
+slice_bounds-decide_in-end-3 c =
+    let ready : Accepted c.args.image.now c.args.sizes = c.requires.0 in
+    sym (part_long 201 _ (places_fit ready))
+
+pub slice_bounds-bests-end : goal.slice_bounds-bests-end
+slice_bounds-bests-end c =
+    let ready : Accepted c.args.image.now c.args.sizes = c.requires.0 in
+    few_columns ready
+
+pub slice_bounds-decide_in-end-4 : goal.slice_bounds-decide_in-end-4
+slice_bounds-decide_in-end-4 c =
+    let ready : Accepted c.args.image.now c.args.sizes = c.requires.0 in
+    sym (part_long 8 _ (few_columns ready))

@@ -3,13 +3,14 @@ use Prim.Native.Nat.{ℕ, ◌+◌}
 use native.Mathlib.Omega.{arith}
 use mathlib.Core.Path.{sym, ◌∙◌, ap, subst}
 use lib.ListN.{take}
+use lib.Seq.{length-take-le}
 use Rattle.star.specs.Layout.{Network}
 use Rattle.image.specs.Outcome.{outcome, after}
 use Rattle.image.proofs.OutcomeLaws.{then_fault, then_next, outcome_fault, after_fault}
 use Rattle.loading.proofs.DecodeLaws.{admitted}
 use Rattle.measuring.specs.Bests.{Labelled}
 use Rattle.outcomes.proofs.RowLaws.{column_bounds}
-use Rattle.network_calls.proofs.SharedLaws.{first_network, reached, reached_row, unreached_row}
+use Rattle.network_calls.proofs.SharedLaws.{first_lies, first_network, reached, reached_row, unreached_row}
 use Rattle.search_calls.specs.Calls.{decided_rows, limit_of, search_path, search_values}
 use Rattle.search_calls.proofs.SharedLaws.{first_labelled}
 use Rattle.search_calls.proofs.deciding.decide_shared.Goals as goal
@@ -37,3 +38,6 @@ returns c =
     let labelled : Labelled c.args.sizes.n c.args.m c.args.star.now c.args.costs.now c.args.task.goal 1 c.label_nodes.new.overall = first_labelled (c.label_nodes.auto.overall ∙ c.requires.shared.1) c.label_nodes.ensures in
     let e = sym (then_next (limit_of c.args.image.now c.args.task.start c.args.task.goal c.args.task.limit) (reached_row (admitted c.requires.accepted.0) c.requires.accepted.0.columns_are c.requires.shared.0 c.requires.accepted.0.nodes_are c.requires.accepted.2 (omega arith) (column_bounds c.requires.accepted.0).0 labelled c.if-overall-start.false)) in
     record { result_value = c.answer.ensures.result_value ∙ ap (λ f. outcome f (search_values c.args.image.now c.args.task.start c.args.task.goal)) e; path_after = c.answer.ensures.path_after ∙ ap (λ f. after f (search_path c.args.image.now c.args.task.start c.args.task.goal) c.args.path.now) e }
+
+pub slice_bounds-label_nodes-end : goal.slice_bounds-label_nodes-end
+slice_bounds-label_nodes-end c = sym (length-take-le _ _ (first_lies (admitted c.requires.accepted.0) c.requires.accepted.0.columns_are c.requires.shared.0))

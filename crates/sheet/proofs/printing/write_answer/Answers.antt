@@ -19,7 +19,7 @@ write_settled-requires c =
 pub write_open-requires : goal.write_open-requires
 write_open-requires c =
     let path_fits_open : Printable c.args.path.now c.in-Open.found.length = subst (λ a. Printable c.args.path.now (nodes_of a)) c.in-Open.is c.requires.1 in
-    let short_open : length (answer_text (left_open (take c.in-Open.found.length c.args.path.now) c.in-Open.found.figure c.in-Open.found.worst c.in-Open.found.count c.in-Open.floor)) ≤ 1024 = open_short path_fits_open (omega (arith, c.struct_known-in-Open-1.given)) (omega (arith, c.struct_known-in-Open-1.given)) (omega (arith, c.struct_known-in-Open-1.given)) (omega (arith, c.known_told-in-Open-1.given)) in
+    let short_open : length (answer_text (left_open (take c.in-Open.found.length c.args.path.now) c.in-Open.found.figure c.in-Open.found.worst c.in-Open.found.count c.in-Open.floor)) ≤ 1024 = open_short path_fits_open (omega arith) (omega arith) (omega arith) (omega arith) in
     omega (arith, short_open, c.requires.0)
 
 -- ---- a refusal
@@ -32,7 +32,7 @@ returns-in-Settled c =
 pub returns-in-Open : goal.returns-in-Open
 returns-in-Open c =
     let path_fits_open : Printable c.args.path.now c.in-Open.found.length = subst (λ a. Printable c.args.path.now (nodes_of a)) c.in-Open.is c.requires.1 in
-    let short_open : length (answer_text (left_open (take c.in-Open.found.length c.args.path.now) c.in-Open.found.figure c.in-Open.found.worst c.in-Open.found.count c.in-Open.floor)) ≤ 1024 = open_short path_fits_open (omega (arith, c.struct_known-in-Open-1.given)) (omega (arith, c.struct_known-in-Open-1.given)) (omega (arith, c.struct_known-in-Open-1.given)) (omega (arith, c.known_told-in-Open-1.given)) in
+    let short_open : length (answer_text (left_open (take c.in-Open.found.length c.args.path.now) c.in-Open.found.figure c.in-Open.found.worst c.in-Open.found.count c.in-Open.floor)) ≤ 1024 = open_short path_fits_open (omega arith) (omega arith) (omega arith) (omega arith) in
     (wrote_as (sym (ap (λ a. decided_text a c.args.path.now) c.in-Open.is)) c.write_open.ensures, omega (arith, short_open, c.write_open.ensures.behind))
 
 pub returns-in-Refused : goal.returns-in-Refused

@@ -11,11 +11,11 @@ use Rattle.sheet.proofs.printing.write_refused.Goals as goal
 pub write_pair-requires : goal.write_pair-requires
 unfolding refused_line
 write_pair-requires c =
-    let short : length (refused_line c.number.result c.place.result) ≤ 1024 = refused_short c.number.result c.place.result (omega (arith, c.number.type-inv)) (omega (arith, c.place.type-inv)) in
+    let short : length (refused_line c.number.result c.place.result) ≤ 1024 = refused_short c.number.result c.place.result (omega (arith, c.number.type_inv)) (omega (arith, c.place.type_inv)) in
     omega (arith, short, c.requires)
 
 pub returns : goal.returns
 unfolding refused_line
 returns c =
-    let short : length (refused_line c.number.result c.place.result) ≤ 1024 = refused_short c.number.result c.place.result (omega (arith, c.number.type-inv)) (omega (arith, c.place.type-inv)) in
+    let short : length (refused_line c.number.result c.place.result) ≤ 1024 = refused_short c.number.result c.place.result (omega (arith, c.number.type_inv)) (omega (arith, c.place.type_inv)) in
     (wrote_as (ap₂ refused_line c.number.ensures c.place.ensures) c.write_pair.ensures, omega (arith, short, c.write_pair.ensures.behind))

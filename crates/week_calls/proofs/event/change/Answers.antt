@@ -6,7 +6,7 @@ use Rattle.loading.proofs.DecodeLaws.{few_arcs}
 use Rattle.week_calls.specs.Weeks.{with_map, run_week, stands}
 use Rattle.week_calls.proofs.WeekLaws.{change_stands, change_runs, opening, moving}
 use Rattle.week_calls.proofs.event.change.Goals as goal
-use Rattle.week_calls.proofs.event.change.Goals.{then-close, else-close}
+use Rattle.week_calls.proofs.event.change.Goals.{then-close+else-stands, else-close}
 
 pub turn-next-requires : goal.turn-next-requires
 turn-next-requires c = omega (arith, c.requires.1, few_arcs c.requires.0.accepted)
@@ -20,5 +20,5 @@ returns-then-stands c =
 pub returns : goal.returns
 returns c =
     let net = net_of c.args.image.now in
-    let not-kept = elim c.if-close.branch [ then-close w ↦ moving c.args.close (sym (ap (λ l. stands net c.args.asked.start c.args.asked.goal c.args.week l c.args.arc) c.turn-next.ensures) ∙ sym w.3.ensures ∙ w.4.left) | else-close w ↦ opening (stands net c.args.asked.start c.args.asked.goal c.args.week _ c.args.arc) w.left ] in
+    let not-kept = elim c.if-close.branch [ then-close+else-stands w ↦ moving c.args.close (sym (ap (λ l. stands net c.args.asked.start c.args.asked.goal c.args.week l c.args.arc) c.turn-next.ensures) ∙ sym w.stands.ensures ∙ w.if-stands.false) | else-close w ↦ opening (stands net c.args.asked.start c.args.asked.goal c.args.week _ c.args.arc) w.if-close.false ] in
     record { value = c.run.ensures.value ∙ ap (run_week net c.args.asked.column c.args.asked.start c.args.asked.goal c.args.asked.wanted) c.turn-next.ensures ∙ sym (change_runs net c.args.asked.column c.args.asked.start c.args.asked.goal c.args.asked.wanted c.args.week c.args.arc c.args.close not-kept); work_after = c.run.ensures.work_after }

@@ -56,4 +56,4 @@ returns c =
     let p = passes in
     let s = then_next _ p.0 ∙ right_arc (net_of c.args.image.now) c.args.arc (omega (arith, p.1.arcs_are, inside)) in
     let week_is = c.follow-after.ensures.value ∙ sym (if_passes _ c.args.week s) in
-    record { week_value = week_is; tally_value = ap (λ (x : ℕ). gives (x ∷ [])) (c.closed_roads-roads.ensures.0 ∙ ap (λ (m : ℕ). closed_roads c.follow-after.result.closed m) p.1.arcs_are ∙ ap (λ w. closed_roads w.closed (length (net_of c.args.image.now).arcs)) week_is) ∙ sym (outcome_sound _ s); work_after = c.follow-after.ensures.work_after ∙ cleared_is c.args.work.now ∙ ap (λ c. cleared c c.args.work.now) (sym s) }
+    record { week_value = week_is; tally_value = ap (λ (x : ℕ). gives (x ∷ [])) (c.closed_roads-roads.ensures.0 ∙ ap (λ (m : ℕ). closed_roads c.follow-after.result.closed m) p.1.arcs_are ∙ ap (λ w. closed_roads w.closed (length (net_of c.args.image.now).arcs)) week_is) ∙ sym (outcome_sound _ s); work_after = c.follow-after.ensures.work_after ∙ cleared_is c.args.work.now ∙ ap (λ f. cleared f c.args.work.now) (sym s) }

@@ -17,5 +17,5 @@ choose_left-answer-requires c =
 pub returns : goal.returns
 unfolding run_week
 returns c =
-    let net = without c.args.t4 (net_of c.args.image.now) in
-    record { value = c.hold.ensures ∙ made_is c.args.t4 c.choose_left-answer.result (robust net c.args.asked.column c.args.asked.start c.args.asked.goal c.args.asked.wanted) (no_open_path net c.args.asked.column c.args.asked.start c.args.asked.goal) _ (λ number place e. none_found net c.args.asked.column c.args.asked.start c.args.asked.goal c.args.asked.wanted e) c.choose_left-answer.ensures.result_value c.choose_left-answer.ensures.path_after; work_after = c.clear.ensures ∙ ap (λ (k : ℕ). replicate k 0) c.choose_left-answer.auto.work }
+    let net = without c.args.closed (net_of c.args.image.now) in
+    record { value = c.hold.ensures ∙ made_is c.args.closed c.choose_left-answer.result (robust net c.args.asked.column c.args.asked.start c.args.asked.goal c.args.asked.wanted) (no_open_path net c.args.asked.column c.args.asked.start c.args.asked.goal) _ (λ number place e. none_found net c.args.asked.column c.args.asked.start c.args.asked.goal c.args.asked.wanted e) c.choose_left-answer.ensures.result_value c.choose_left-answer.ensures.path_after; work_after = c.clear.ensures ∙ ap (λ (k : ℕ). replicate k 0) c.choose_left-answer.auto.work }
