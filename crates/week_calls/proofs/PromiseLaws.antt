@@ -161,8 +161,8 @@ module _ (b : List ℕ) (r s t K work : ℕ) (sound-now : RankingSound b r s t K
               let route : route_of now.week ≡ p = ap route_of (h.holds ∙ ap (week_of words) e) ∙ route_held words p f w n (short now.ran e) in
               let kept = closure_stands ok r s t K s_lo s_hi sound-now.search.from sound-now.search.upto sound-now.wanted_from words i in_map was_open run.1 (sym (ap (unmoved net s t words new i) route) ∙ free) in
               ap shown e ∙ recounted p f w n kept.0 ∙ sym (ap shown kept.1)
-          by_answer (left_open _ _ _ _ _) e settles free = elim settles [ ]
-          by_answer no_path e settles free = elim settles [ ]
+          by_answer (left_open _ _ _ _ _) e x free = elim x [ ]
+          by_answer no_path e x free = elim x [ ]
 
       holds_standing : stands net s t now.week new i ≡ true → Holds net r s t K (record { week = with_map now.week new; ran = now.ran })
       unfolding with_map
@@ -213,8 +213,8 @@ module _ (b : List ℕ) (r s t K work : ℕ) (sound-now : RankingSound b r s t K
   -- every list of events
   holds_after : {now : Course} → Holds net r s t K now → (events : List Event) → Holds net r s t K (after_events b r s t K now events)
   unfolding after_events
-  holds_after h [] = h
-  holds_after h (e ∷ es) = holds_after (by_fault h e (event_fault b r s t K e.room e.arc) refl) es
+  holds_after {now = now} h [] = h
+  holds_after {now = now} h (e ∷ es) = holds_after {now = follow b r s t K now e} (by_fault h e (event_fault b r s t K e.room e.arc) refl) es
 
   -- a fresh map
   holds_fresh : Holds net r s t K (record { week = week_of (replicate 16 0) (robust net r s t K); ran = replicate 16 0 })

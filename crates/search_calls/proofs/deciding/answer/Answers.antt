@@ -38,7 +38,7 @@ returns c =
 pub slice_bounds-measure_path-end : goal.slice_bounds-measure_path-end
 slice_bounds-measure_path-end c =
     let told : Found c.args.image.now c.args.task.start c.args.task.goal c.args.task.limit c.search_image-run.new.best c.in-Going.held = found c.args.image.now c.args.task.start c.args.task.goal c.args.task.limit (admitted c.requires.accepted.0) c.requires.accepted.2 c.in-Going.held c.search_image-run.ensures c.in-Going.is in
-    told.ranges
+    told.fits
 
 pub slice_bounds-measure_path-end-2 : goal.slice_bounds-measure_path-end-2
 slice_bounds-measure_path-end-2 c =
