@@ -12,5 +12,8 @@ returns-in-ClosedRoads c =
 
 pub returns-in-Refused : goal.returns-in-Refused
 returns-in-Refused c =
-    record { result_value = ap₂ (λ (n p : ℕ). n ∷ p ∷ 0 ∷ []) c.number.ensures c.place.ensures
-      ∙ ap (λ t. week_reply_of (given t)) (sym c.in-Refused.is); week_value = refl }
+    record {
+      result_value = ap₂ (λ (n p : ℕ). n ∷ p ∷ 0 ∷ []) c.number.ensures c.place.ensures
+          ∙ ap (λ t. week_reply_of (given t)) (sym c.in-Refused.is);
+      week_value = refl;
+    }

@@ -5,5 +5,4 @@ use Rattle.capi.proofs.images.vihrolom_build.Goals as goal
 
 pub returns : goal.returns
 returns c =
-    let both = (c.of_built.ensures ∙ ap reply_of c.build-answer.ensures.result_value, c.build-answer.ensures.1) in
-    record { result_value = both.0; image_after = both.1.0; reads_back = both.1.1 }
+    record { result_value = c.of_built.ensures ∙ ap reply_of c.build-answer.ensures.result_value; image_after = c.build-answer.ensures.image_after; reads_back = c.build-answer.ensures.reads_back }

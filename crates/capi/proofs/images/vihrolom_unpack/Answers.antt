@@ -5,5 +5,4 @@ use Rattle.capi.proofs.images.vihrolom_unpack.Goals as goal
 
 pub returns : goal.returns
 returns c =
-    let both = (c.of_unpacked.ensures ∙ ap reply_of c.unpack-answer.ensures.result_value, c.unpack-answer.ensures.1) in
-    record { result_value = both.0; nodes_after = both.1.0; costs_after = both.1.1.0; writes_again = both.1.1.1 }
+    record { result_value = c.of_unpacked.ensures ∙ ap reply_of c.unpack-answer.ensures.result_value; nodes_after = c.unpack-answer.ensures.nodes_after; costs_after = c.unpack-answer.ensures.costs_after; writes_again = c.unpack-answer.ensures.writes_again }

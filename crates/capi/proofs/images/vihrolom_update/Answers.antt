@@ -5,5 +5,4 @@ use Rattle.capi.proofs.images.vihrolom_update.Goals as goal
 
 pub returns : goal.returns
 returns c =
-    let both = (c.of_updated.ensures ∙ ap reply_of c.update-answer.ensures.result_value, c.update-answer.ensures.1) in
-    record { result_value = both.0; image_after = both.1.0; updates = both.1.1 }
+    record { result_value = c.of_updated.ensures ∙ ap reply_of c.update-answer.ensures.result_value; image_after = c.update-answer.ensures.image_after; updates = c.update-answer.ensures.updates }

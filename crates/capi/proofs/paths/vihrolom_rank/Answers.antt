@@ -5,5 +5,4 @@ use Rattle.capi.proofs.paths.vihrolom_rank.Goals as goal
 
 pub returns : goal.returns
 returns c =
-    let both = (c.of_listed.ensures ∙ ap reply_of c.rank-answer.ensures.result_value, c.rank-answer.ensures.1) in
-    record { result_value = both.0; rows_after = both.1.0; costs_after = both.1.1.0; work_after = both.1.1.1.0; kept2 = both.1.1.1.1 }
+    record { result_value = c.of_listed.ensures ∙ ap reply_of c.rank-answer.ensures.result_value; rows_after = c.rank-answer.ensures.rows_after; costs_after = c.rank-answer.ensures.costs_after; work_after = c.rank-answer.ensures.work_after; kept2 = c.rank-answer.ensures.kept2 }

@@ -5,5 +5,4 @@ use Rattle.capi.proofs.paths.vihrolom_robust.Goals as goal
 
 pub returns : goal.returns
 returns c =
-    let both = (c.of_decided.ensures ∙ ap reply_of c.robust-answer.ensures.result_value, c.robust-answer.ensures.1) in
-    record { result_value = both.0; path_after = both.1.0; work_after = both.1.1.0; kept3 = both.1.1.1 }
+    record { result_value = c.of_decided.ensures ∙ ap reply_of c.robust-answer.ensures.result_value; path_after = c.robust-answer.ensures.path_after; work_after = c.robust-answer.ensures.work_after; kept3 = c.robust-answer.ensures.kept3 }

@@ -5,5 +5,4 @@ use Rattle.capi.proofs.weeks.vihrolom_week_fresh.Goals as goal
 
 pub returns : goal.returns
 returns c =
-    let both = (c.of_weekly.ensures.result_value ∙ ap week_reply_of c.fresh-answer.ensures.tally_value, (c.of_weekly.ensures.week_value ∙ c.fresh-answer.ensures.week_value, c.fresh-answer.ensures.1.1)) in
-    record { result_value = both.0; week_value = both.1.0; work_after = both.1.1.0; kept_week = both.1.1.1 }
+    record { result_value = c.of_weekly.ensures.result_value ∙ ap week_reply_of c.fresh-answer.ensures.tally_value; week_value = c.of_weekly.ensures.week_value ∙ c.fresh-answer.ensures.week_value; work_after = c.fresh-answer.ensures.work_after; kept_week = c.fresh-answer.ensures.kept_week }

@@ -31,8 +31,11 @@ descend-complete-requires t c =
 pub descend-returns-then-v-partial : goal.descend-returns-then-v-partial
 descend-returns-then-v-partial t c =
     let few : c.args.partial.depth < length c.args.used.now = omega (arith, c.requires.begun.room) in
-    record { kept = kept_none; ends = λ net s' t' seen z g. ends_as (descend_arrived c.args.partial.limit g few c.if-v-partial.true)
-          (goes (c.complete.ensures (figure net s' t') z (ap (figure net s' t') (route_is c.args.route.now c.args.partial.depth g.nodes_are) ∙ figure_is g) g.matches)) }
+    record {
+      kept = kept_none;
+      ends = λ net s' t' seen z g. ends_as (descend_arrived c.args.partial.limit g few c.if-v-partial.true)
+          (goes (c.complete.ensures (figure net s' t') z (ap (figure net s' t') (route_is c.args.route.now c.args.partial.depth g.nodes_are) ∙ figure_is g) g.matches));
+    }
 
 pub descend-overflow_mul-outs : goal.descend-overflow_mul-outs
 descend-overflow_mul-outs t c =
@@ -87,8 +90,7 @@ pub descend-try_arc-run-requires : goal.descend-try_arc-run-requires
 descend-try_arc-run-requires t c =
     let ends : get_or c.args.star.now (3 * c.args.partial.arcs + c.args.v + 1) 0 ≡ get_or (outs_of (length c.args.used.now) c.args.partial.arcs c.args.star.now) (c.args.v + 1) 0 = next_out_at c.requires.fits c.args.v c.requires.v_in_bounds in
     let out_in : get_or c.args.star.now (3 * c.args.partial.arcs + c.args.v + 1) 0 ≤ length (heads_of c.args.partial.arcs c.args.star.now) = omega (arith, ends, c.requires.fits.ground.outs_within (c.args.v + 1) (omega (arith, c.requires.v_in_bounds))) in
-    let same_flags : length c.loop-i.used ≡ length c.args.used.now = ap length c.loop-i.invariant.1.flags in
-    (
+    let same_flags : length c.loop-i.used ≡ length c.args.used.now = ap length c.loop-i.invariant.1.flags in (
       omega (arith, c.decreases, same_flags),
       (rw same_flags c.requires.fits, (rw same_flags (begun_kept c.requires.begun c.loop-i.invariant.1 c.loop-i.invariant.2 c.loop-i.invariant.3), omega (arith, out_in, heads_long c.requires.fits, c.loop-i-test))),
     )
@@ -106,9 +108,12 @@ descend-returns-in_default t c =
     let out_in : get_or c.args.star.now (3 * c.args.partial.arcs + c.args.v + 1) 0 ≤ length (heads_of c.args.partial.arcs c.args.star.now) = omega (arith, ends, c.requires.fits.ground.outs_within (c.args.v + 1) (omega (arith, c.requires.v_in_bounds))) in
     let same_flags : length c.loop-i.used ≡ length c.args.used.now = ap length c.loop-i.invariant.1.flags in
     let arc_ends : (net : Net) (s' t' : ℕ) (seen : List ℕ) (z : State) (g : GivenIn net s' t' seen z c.args.star.now c.args.costs.now c.args.labels.now c.args.bests.now (length c.args.used.now) c.args.partial c.args.v c.args.route.now c.args.path.now c.args.held) → Ends c.try_arc-run.new.path (at_arc c.args.partial.limit (length c.args.used.now - (c.args.partial.depth + 1)) net s' t' seen c.args.v (get_or (heads_of c.args.partial.arcs c.args.star.now) c.loop-i.i 0) (c.loop-i.invariant.4 net s' t' seen z g).now) c.try_arc-run.result = λ net s' t' seen z g. let e = rw same_flags at (c.try_arc-run.ensures.ends net s' t' c.args.v seen (c.loop-i.invariant.4 net s' t' seen z g).now) in e c.requires.v_in_bounds (omega (arith, begins, c.loop-i.invariant.0)) (omega (arith, ends, c.loop-i-test.true)) (given_kept g c.loop-i.invariant.1 (c.loop-i.invariant.4 net s' t' seen z g).matches) in
-    record { kept = kept_both c.loop-i.invariant.1 c.try_arc-run.ensures.kept; ends = λ net s' t' seen z g. ends_as
+    record {
+      kept = kept_both c.loop-i.invariant.1 c.try_arc-run.ensures.kept;
+      ends = λ net s' t' seen z g. ends_as
           (descend_onward c.args.partial.limit g few _ _ c.if-v-partial.false c.requires.v_in_bounds begins ends ∙ leads_cut (c.loop-i.invariant.4 net s' t' seen z g) c.loop-i-test.true out_in (ends_of c.in_default.is (arc_ends net s' t' seen z g)))
-          stopped }
+          stopped;
+    }
 
 pub descend-overflow_add-i-in-loop-i : goal.descend-overflow_add-i-in-loop-i
 descend-overflow_add-i-in-loop-i t c =
@@ -122,8 +127,7 @@ descend-loop-i-preserved t c =
     let out_in : get_or c.args.star.now (3 * c.args.partial.arcs + c.args.v + 1) 0 ≤ length (heads_of c.args.partial.arcs c.args.star.now) = omega (arith, ends, c.requires.fits.ground.outs_within (c.args.v + 1) (omega (arith, c.requires.v_in_bounds))) in
     let begins : get_or c.args.star.now (3 * c.args.partial.arcs + c.args.v) 0 ≡ get_or (outs_of (length c.args.used.now) c.args.partial.arcs c.args.star.now) c.args.v 0 = out_at c.requires.fits c.args.v (omega (arith, c.requires.v_in_bounds)) in
     let same_flags : length c.loop-i.used ≡ length c.args.used.now = ap length c.loop-i.invariant.1.flags in
-    let arc_ends : (net : Net) (s' t' : ℕ) (seen : List ℕ) (z : State) (g : GivenIn net s' t' seen z c.args.star.now c.args.costs.now c.args.labels.now c.args.bests.now (length c.args.used.now) c.args.partial c.args.v c.args.route.now c.args.path.now c.args.held) → Ends c.try_arc-run.new.path (at_arc c.args.partial.limit (length c.args.used.now - (c.args.partial.depth + 1)) net s' t' seen c.args.v (get_or (heads_of c.args.partial.arcs c.args.star.now) c.loop-i.i 0) (c.loop-i.invariant.4 net s' t' seen z g).now) c.try_arc-run.result = λ net s' t' seen z g. let e = rw same_flags at (c.try_arc-run.ensures.ends net s' t' c.args.v seen (c.loop-i.invariant.4 net s' t' seen z g).now) in e c.requires.v_in_bounds (omega (arith, begins, c.loop-i.invariant.0)) (omega (arith, ends, c.loop-i-test.true)) (given_kept g c.loop-i.invariant.1 (c.loop-i.invariant.4 net s' t' seen z g).matches) in
-    (
+    let arc_ends : (net : Net) (s' t' : ℕ) (seen : List ℕ) (z : State) (g : GivenIn net s' t' seen z c.args.star.now c.args.costs.now c.args.labels.now c.args.bests.now (length c.args.used.now) c.args.partial c.args.v c.args.route.now c.args.path.now c.args.held) → Ends c.try_arc-run.new.path (at_arc c.args.partial.limit (length c.args.used.now - (c.args.partial.depth + 1)) net s' t' seen c.args.v (get_or (heads_of c.args.partial.arcs c.args.star.now) c.loop-i.i 0) (c.loop-i.invariant.4 net s' t' seen z g).now) c.try_arc-run.result = λ net s' t' seen z g. let e = rw same_flags at (c.try_arc-run.ensures.ends net s' t' c.args.v seen (c.loop-i.invariant.4 net s' t' seen z g).now) in e c.requires.v_in_bounds (omega (arith, begins, c.loop-i.invariant.0)) (omega (arith, ends, c.loop-i-test.true)) (given_kept g c.loop-i.invariant.1 (c.loop-i.invariant.4 net s' t' seen z g).matches) in (
       omega arith,
       kept_both c.loop-i.invariant.1 c.try_arc-run.ensures.kept,
       omega (arith, c.try_arc-run.auto, c.loop-i.invariant.2),
@@ -191,10 +195,13 @@ try_arc-returns-then-drops t c =
     let node_is : (get_or c.args.star.now (c.args.partial.arcs + c.args.i) 0) ≡ get_or (heads_of c.args.partial.arcs c.args.star.now) c.args.i 0 = head_at c.requires.fits c.args.i c.requires.i_lt_arcs in
     let head_in : c.args.i < length (heads_of c.args.partial.arcs c.args.star.now) = omega (arith, heads_long c.requires.fits, c.requires.i_lt_arcs) in
     let drops_node : (net : Net) (s' t' v : ℕ) (seen : List ℕ) (z : State) → v < length c.args.used.now → get_or (outs_of (length c.args.used.now) c.args.partial.arcs c.args.star.now) v 0 ≤ c.args.i → c.args.i < get_or (outs_of (length c.args.used.now) c.args.partial.arcs c.args.star.now) (v + 1) 0 → GivenIn net s' t' seen z c.args.star.now c.args.costs.now c.args.labels.now c.args.bests.now (length c.args.used.now) c.args.partial v c.args.route.now c.args.path.now c.args.held → dropped net s' t' (laid seen v) v (get_or c.args.star.now (c.args.partial.arcs + c.args.i) 0) z.found ≡ c.drops.result = λ net s' t' v seen z l from to g. ap (λ (h : ℕ). dropped net s' t' (laid seen v) v h z.found) node_is ∙ drops_is g c.requires.fits.ground (omega (arith, c.requires.begun.room, c.requires.fits.ground.few)) c.requires.begun.sums_low c.args.i l from to head_in (star_drops c.requires.fits node_is c.drops.ensures) in
-    record { kept = kept_none; ends = λ net s' t' v seen z l from to g. at_node c.args.partial.limit (length c.args.used.now - (c.args.partial.depth + 1)) net s' t' v seen z node_is (ends_as
+    record {
+      kept = kept_none;
+      ends = λ net s' t' v seen z l from to g. at_node c.args.partial.limit (length c.args.used.now - (c.args.partial.depth + 1)) net s' t' v seen z node_is (ends_as
           (at_dropped c.args.partial.limit _ net s' t' seen v (get_or c.args.star.now (c.args.partial.arcs + c.args.i) 0) z (rw g.nodes_are at (flag_off (get_or c.args.star.now (c.args.partial.arcs + c.args.i) 0) c.requires.begun.flagged c.if-used-h-ne0.false)) (omega (arith, g.matches.tried_is, c.if-limit-tried.false))
           (drops_node net s' t' v seen z l from to g ∙ c.if-drops.true))
-          (goes (matches_counted g.matches))) }
+          (goes (matches_counted g.matches)));
+    }
 
 pub try_arc-bounds-used-h-2 : goal.try_arc-bounds-used-h-2
 try_arc-bounds-used-h-2 t c =
@@ -246,8 +253,7 @@ try_arc-descend-run-requires t c =
     let node_from : 1 ≤ (get_or c.args.star.now (c.args.partial.arcs + c.args.i) 0) = omega (arith, node_is, c.requires.fits.ground.head_from c.args.i head_in) in
     let free : get_or c.args.used.now (get_or c.args.star.now (c.args.partial.arcs + c.args.i) 0) 0 ≡ 0 = c.if-used-h-ne0.false in
     let room : c.args.partial.depth + 1 < length c.args.used.now = more_room (get_or c.args.star.now (c.args.partial.arcs + c.args.i) 0) c.requires.begun node_from node_in free in
-    let flags_long : length (set c.args.used.now (get_or c.args.star.now (c.args.partial.arcs + c.args.i) 0) 1) ≡ length c.args.used.now = length-set c.args.used.now (get_or c.args.star.now (c.args.partial.arcs + c.args.i) 0) 1 in
-    (
+    let flags_long : length (set c.args.used.now (get_or c.args.star.now (c.args.partial.arcs + c.args.i) 0) 1) ≡ length c.args.used.now = length-set c.args.used.now (get_or c.args.star.now (c.args.partial.arcs + c.args.i) 0) 1 in (
       omega (arith, c.decreases, room, flags_long),
       (
         rw flags_long c.requires.fits,
@@ -286,10 +292,13 @@ try_arc-returns t c =
     let drops_node : (net : Net) (s' t' v : ℕ) (seen : List ℕ) (z : State) → v < length c.args.used.now → get_or (outs_of (length c.args.used.now) c.args.partial.arcs c.args.star.now) v 0 ≤ c.args.i → c.args.i < get_or (outs_of (length c.args.used.now) c.args.partial.arcs c.args.star.now) (v + 1) 0 → GivenIn net s' t' seen z c.args.star.now c.args.costs.now c.args.labels.now c.args.bests.now (length c.args.used.now) c.args.partial v c.args.route.now c.args.path.now c.args.held → dropped net s' t' (laid seen v) v (get_or c.args.star.now (c.args.partial.arcs + c.args.i) 0) z.found ≡ c.drops.result = λ net s' t' v seen z l from to g. ap (λ (h : ℕ). dropped net s' t' (laid seen v) v h z.found) node_is ∙ drops_is g c.requires.fits.ground (omega (arith, c.requires.begun.room, c.requires.fits.ground.few)) c.requires.begun.sums_low c.args.i l from to head_in (star_drops c.requires.fits node_is c.drops.ensures) in
     let few : c.args.partial.depth ≤ 200 = omega (arith, c.requires.begun.room, c.requires.fits.ground.few) in
     let drops = star_drops c.requires.fits node_is c.drops.ensures in
-    record { kept = kept_back (get_or c.args.star.now (c.args.partial.arcs + c.args.i) 0) c.requires.begun node_from node_in free c.descend-run.ensures.kept; ends = λ net s' t' v seen z l from to g.
+    record {
+      kept = kept_back (get_or c.args.star.now (c.args.partial.arcs + c.args.i) 0) c.requires.begun node_from node_in free c.descend-run.ensures.kept;
+      ends = λ net s' t' v seen z l from to g.
           let deeper = rw flags_long at (c.descend-run.ensures.ends net s' t' (v ∷ seen) (one_more z)) in
           let weighs = kept_open g c.requires.fits.ground few c.requires.begun.sums_low c.args.i l from to head_in drops c.if-drops.false in
           at_node c.args.partial.limit (length c.args.used.now - (c.args.partial.depth + 1)) net s' t' v seen z node_is (ends_as
           (at_taken c.args.partial.limit _ net s' t' seen v (get_or c.args.star.now (c.args.partial.arcs + c.args.i) 0) z (rw g.nodes_are at (flag_off (get_or c.args.star.now (c.args.partial.arcs + c.args.i) 0) c.requires.begun.flagged free)) (omega (arith, g.matches.tried_is, c.if-limit-tried.false))
           (drops_node net s' t' v seen z l from to g ∙ c.if-drops.false))
-          (deeper (given_more (get_or c.args.star.now (c.args.partial.arcs + c.args.i) 0) g c.args.i (omega (arith, room, c.requires.begun.route_long)) (star_longer c.requires.fits c.lengthen.ensures) (λ u k. ap (λ (h : ℕ). weight (column net (suc u)) v h) node_is ∙ weighs u k)))) }
+          (deeper (given_more (get_or c.args.star.now (c.args.partial.arcs + c.args.i) 0) g c.args.i (omega (arith, room, c.requires.begun.route_long)) (star_longer c.requires.fits c.lengthen.ensures) (λ u k. ap (λ (h : ℕ). weight (column net (suc u)) v h) node_is ∙ weighs u k))));
+    }

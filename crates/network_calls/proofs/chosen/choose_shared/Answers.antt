@@ -21,7 +21,7 @@ label_nodes-requires c =
     let ready : Admitted (edition c.args.image.now) (without c.args.closed.now (net_of c.args.image.now)) = rest_admitted c.requires.asked.0.accepted c.args.closed.now in
     let columns : c.args.extent.sizes.k ≡ length (without c.args.closed.now (net_of c.args.image.now)).columns = rest_columns c.requires.asked.0.accepted c.args.closed.now in
     let N = c.requires.overall_len.0 ∙ ap (λ (x : ℕ). x + 1) (c.requires.asked.0.accepted.nodes_are ∙ rest_nodes c.requires.asked.0.accepted c.args.closed.now) in
- (subst (λ x. Network x c.args.star.now (take ((c.args.task.column - 1) * c.args.extent.m + c.args.extent.m - (c.args.task.column - 1) * c.args.extent.m) (drop ((c.args.task.column - 1) * c.args.extent.m) c.args.costs.now))) (sym N) (part_network ready columns c.requires.asked.1 c.requires.asked.0.in_column.from inside), omega (arith, N, (rest_ends c.requires.asked.0.accepted c.args.closed.now c.requires.asked.0.ends).goal_in.upto))
+    (subst (λ x. Network x c.args.star.now (take ((c.args.task.column - 1) * c.args.extent.m + c.args.extent.m - (c.args.task.column - 1) * c.args.extent.m) (drop ((c.args.task.column - 1) * c.args.extent.m) c.args.costs.now))) (sym N) (part_network ready columns c.requires.asked.1 c.requires.asked.0.in_column.from inside), omega (arith, N, (rest_ends c.requires.asked.0.accepted c.args.closed.now c.requires.asked.0.ends).goal_in.upto))
 
 pub returns-then-overall-start : goal.returns-then-overall-start
 returns-then-overall-start c =

@@ -21,7 +21,7 @@ loop-u-preserved c =
     let inside : c.loop-u.u + 1 ≤ length (rest c.args.closed.now c.args.image.now).columns = omega (arith, c.loop-u-test.true, rest_columns c.requires.accepted.0 c.args.closed.now) in
     let own : c.narrow.result ≡ label (rest c.args.closed.now c.args.image.now).nodes (column (rest c.args.closed.now c.args.image.now) (c.loop-u.u + 1)) c.args.goal c.args.start = let E = rest_ends c.requires.accepted.0 c.args.closed.now c.requires.accepted.1 in c.narrow.ensures ∙ own_label (rest_admitted c.requires.accepted.0 c.args.closed.now) c.load_left.ensures.1 (omega arith) inside E.start_in.from E.start_in.upto in
     let net = rest c.args.closed.now c.args.image.now in
- let room : c.loop-u.u + 1 ≤ length c.loop-u.bests = omega (arith, c.loop-u.invariant.4, c.requires.room.1, c.loop-u-test.true) in
+    let room : c.loop-u.u + 1 ≤ length c.loop-u.bests = omega (arith, c.loop-u.invariant.4, c.requires.room.1, c.loop-u-test.true) in
     let at : c.loop-u.u ≡ c.loop-u.u + 1 - 1 = omega arith in
     let new : set c.loop-u.bests c.loop-u.u c.narrow.result ≡ set c.loop-u.bests (c.loop-u.u + 1 - 1) (label net.nodes (column net (c.loop-u.u + 1)) c.args.goal c.args.start) = ap₂ (λ (j y : ℕ). set c.loop-u.bests j y) at own in (
       omega (arith, c.loop-u-test.true),

@@ -10,7 +10,7 @@ pub returns-then-m-arcs : goal.returns-then-m-arcs
 returns-then-m-arcs c =
     let ok = rest_admitted c.requires.accepted.0 c.args.closed.now in
     let k-are = rest_columns c.requires.accepted.0 c.args.closed.now in
- held ok k-are c.requires.accepted.1 c.requires.reached.0.ends (c.column_bests.auto.bests ∙ c.requires.reached.1) (bests_all ok k-are c.requires.accepted.1 c.args.trip.start c.args.trip.goal (c.requires.accepted.0.nodes_are ∙ rest_nodes c.requires.accepted.0 c.args.closed.now) c.requires.reached.1 (c.if-m-arcs.true ∙ sym (rest_arcs c.requires.accepted.0 c.args.closed.now c.closed_roads-gone.ensures.0)) c.column_bests.ensures)
+    held ok k-are c.requires.accepted.1 c.requires.reached.0.ends (c.column_bests.auto.bests ∙ c.requires.reached.1) (bests_all ok k-are c.requires.accepted.1 c.args.trip.start c.args.trip.goal (c.requires.accepted.0.nodes_are ∙ rest_nodes c.requires.accepted.0 c.args.closed.now) c.requires.reached.1 (c.if-m-arcs.true ∙ sym (rest_arcs c.requires.accepted.0 c.args.closed.now c.closed_roads-gone.ensures.0)) c.column_bests.ensures)
 
 pub returns-else-m-arcs : goal.returns-else-m-arcs
 returns-else-m-arcs c = held (rest_admitted c.requires.accepted.0 c.args.closed.now) (rest_columns c.requires.accepted.0 c.args.closed.now) c.requires.accepted.1 c.requires.reached.0.ends (c.own_bests.auto.bests ∙ c.requires.reached.1) c.own_bests.ensures

@@ -41,11 +41,11 @@ unfolding ranking_rows
 returns-then-work-workspace c =
     let passes : (search_rows c.args.image.now c.args.column c.args.start c.args.goal ≡ sound) × Accepted c.args.image.now c.in-Network.sizes = given_sizes _ (λ e. (search_sound _ _ _ _ e).accepted) (sym (ap checked c.in-Network.is) ∙ c.check_search-answer.ensures) in
     let p = passes in
- sym (outcome_fault _ (then_next _ p.0 ∙ then_next _ (right_count c.args.wanted c.if-wanted-lt1.false c.if-wanted-gt256.false) ∙ ap (λ n. room_row c.args.work (workspace n c.args.wanted)) (sym p.1.nodes_are) ∙ too_short _ _ (omega (arith, c.workspace.ensures, c.if-work-workspace.true))))
+    sym (outcome_fault _ (then_next _ p.0 ∙ then_next _ (right_count c.args.wanted c.if-wanted-lt1.false c.if-wanted-gt256.false) ∙ ap (λ n. room_row c.args.work (workspace n c.args.wanted)) (sym p.1.nodes_are) ∙ too_short _ _ (omega (arith, c.workspace.ensures, c.if-work-workspace.true))))
 
 pub returns : goal.returns
 unfolding ranking_rows
 returns c =
     let passes : (search_rows c.args.image.now c.args.column c.args.start c.args.goal ≡ sound) × Accepted c.args.image.now c.in-Network.sizes = given_sizes _ (λ e. (search_sound _ _ _ _ e).accepted) (sym (ap checked c.in-Network.is) ∙ c.check_search-answer.ensures) in
     let p = passes in
- ap gives (sizes_of p.1) ∙ sym (outcome_sound _ (then_next _ p.0 ∙ then_next _ (right_count c.args.wanted c.if-wanted-lt1.false c.if-wanted-gt256.false) ∙ ap (λ n. room_row c.args.work (workspace n c.args.wanted)) (sym p.1.nodes_are) ∙ long_enough _ _ (omega (arith, c.workspace.ensures, c.if-work-workspace.false))))
+    ap gives (sizes_of p.1) ∙ sym (outcome_sound _ (then_next _ p.0 ∙ then_next _ (right_count c.args.wanted c.if-wanted-lt1.false c.if-wanted-gt256.false) ∙ ap (λ n. room_row c.args.work (workspace n c.args.wanted)) (sym p.1.nodes_are) ∙ long_enough _ _ (omega (arith, c.workspace.ensures, c.if-work-workspace.false))))

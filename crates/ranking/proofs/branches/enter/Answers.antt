@@ -43,9 +43,13 @@ returns-in_default c =
     let count_is : length (entries c.args.query.n c.args.work.now c.args.detour.count) ≡ c.args.detour.count = length_entries c.args.query.n c.args.work.now c.args.detour.count in
     let F = filled in
     let W = wanted in
-    record { restored = restored; changed = unchanged F; by_index = λ limit. ⊎_elim (settled_empty problem deviation _ limit F.entered)
-            (λ d. let z = ap (λ (k : ℕ). (get_or (entries c.args.query.n c.args.work.now c.args.detour.count) (k - 1) none).cost) (W.full d.2) in settled_dear problem deviation _ limit F.entered d.0 d.3 (count_is ∙ W.full d.2) F.some (omega (arith, z, W.last d.2, d.1)))
-            (within_empty result c.in_default.is) }
+    record {
+      restored = restored;
+      changed = unchanged F;
+      by_index = λ limit. ⊎_elim (settled_empty problem deviation _ limit F.entered)
+          (λ d. let z = ap (λ (k : ℕ). (get_or (entries c.args.query.n c.args.work.now c.args.detour.count) (k - 1) none).cost) (W.full d.2) in settled_dear problem deviation _ limit F.entered d.0 d.3 (count_is ∙ W.full d.2) F.some (omega (arith, z, W.last d.2, d.1)))
+          (within_empty result c.in_default.is);
+    }
 
 pub place_for-place-requires : goal.place_for-place-requires
 place_for-place-requires c =

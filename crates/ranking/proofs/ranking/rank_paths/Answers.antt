@@ -18,13 +18,12 @@ pub loop-j-smaller : goal.loop-j-smaller
 loop-j-smaller c = omega (arith, c.loop-j-test.true, c.loop-j.invariant.0.kept.upto)
 
 pub loop-j-preserved : goal.loop-j-preserved
-loop-j-preserved c =
-    (
-      record { some = c.loop-j.invariant.0.some; few = c.loop-j.invariant.0.few; kept = c.advance-count.ensures.changed.kept; entered = c.advance-count.ensures.changed.entered },
-      c.advance-count.ensures.stage,
-      c.advance-count.ensures.changed.beyond ∙ c.loop-j.invariant.2,
-      c.advance-count.auto.work ∙ c.loop-j.invariant.3,
-    )
+loop-j-preserved c = (
+  record { some = c.loop-j.invariant.0.some; few = c.loop-j.invariant.0.few; kept = c.advance-count.ensures.changed.kept; entered = c.advance-count.ensures.changed.entered },
+  c.advance-count.ensures.stage,
+  c.advance-count.ensures.changed.beyond ∙ c.loop-j.invariant.2,
+  c.advance-count.auto.work ∙ c.loop-j.invariant.3,
+)
 
 pub returns : goal.returns
 returns c =

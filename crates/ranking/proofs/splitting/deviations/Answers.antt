@@ -44,8 +44,7 @@ loop-d-preserved c =
     let place : Along c.args.query.n (graph_of c.args.star.now c.args.weights.now) c.args.query.start c.args.query.goal (entries c.args.query.n c.loop-d.work c.loop-d.now) c.args.stem.rank c.loop-d.used c.loop-d.barred c.loop-d.path c.loop-d.d (c.args.stem.cost - c.loop-d.behind) = c.loop-d.invariant.0.place in
     let more : (get_or (entries c.args.query.n c.loop-d.work c.loop-d.now) c.args.stem.rank none).shared < c.loop-d.d = omega (arith, going_shared filled c.loop-d.invariant.0, c.requires.shared_value, c.loop-d-test.true) in
     let arc : c.step_back-behind.result ≡ weight (graph_of c.args.star.now c.args.weights.now) (get_or c.loop-d.path (c.loop-d.d - 1 - 1) 0) (get_or c.loop-d.path (c.loop-d.d - 1) 0) = c.step_back-behind.ensures.value (back_linked now_filled.entered place more) in
-    let back_place : Along c.args.query.n (graph_of c.args.star.now c.args.weights.now) c.args.query.start c.args.query.goal (entries c.args.query.n c.loop-d.work c.loop-d.now) c.args.stem.rank c.step_back-behind.new.used c.loop-d.barred c.loop-d.path (c.loop-d.d - 1) (c.args.stem.cost - (c.loop-d.behind + c.step_back-behind.result)) = along_back now_filled.entered place more c.loop-d.invariant.0.rest refl arc (rw place.laid.flags_long at c.step_back-behind.ensures.laid_2) in
-    (
+    let back_place : Along c.args.query.n (graph_of c.args.star.now c.args.weights.now) c.args.query.start c.args.query.goal (entries c.args.query.n c.loop-d.work c.loop-d.now) c.args.stem.rank c.step_back-behind.new.used c.loop-d.barred c.loop-d.path (c.loop-d.d - 1) (c.args.stem.cost - (c.loop-d.behind + c.step_back-behind.result)) = along_back now_filled.entered place more c.loop-d.invariant.0.rest refl arc (rw place.laid.flags_long at c.step_back-behind.ensures.laid_2) in (
       going_next filled c.loop-d.invariant.0 more back_place (back_rest now_filled.entered place more c.loop-d.invariant.0.rest refl arc) c.deviate-now.ensures.restored c.deviate-now.ensures.barred_unchanged c.deviate-now.ensures.changed c.deviate-now.ensures.settled c.deviate-now.auto.path,
       c.deviate-now.auto.path ∙ c.loop-d.invariant.1,
       c.deviate-now.auto.work ∙ c.loop-d.invariant.2,

@@ -15,13 +15,12 @@ label_columns-requires c =
     record { accepted = (c.requires.accepted.0, c.requires.accepted.2.ends.goal_in); labels_len = c.requires.table_room.0.labels_long }
 
 pub take_bests-requires : goal.take_bests-requires
-take_bests-requires c =
-    (
-      c.label_columns.auto.labels ∙ c.requires.table_room.0.labels_long ∙ ap₂ (λ (k n : ℕ). k * (n + 1)) (sym c.requires.table_room.0.bests_long) (sym c.requires.accepted.1.nodes_are),
-      omega (arith, c.requires.accepted.1.nodes_are, c.requires.accepted.0.nodes_are, c.requires.accepted.2.ends.start_in.upto),
-      omega (arith, c.requires.table_room.0.bests_long, few_columns c.requires.accepted.0),
-      omega (arith, c.requires.accepted.1.nodes_are, few_nodes c.requires.accepted.0),
-    )
+take_bests-requires c = (
+  c.label_columns.auto.labels ∙ c.requires.table_room.0.labels_long ∙ ap₂ (λ (k n : ℕ). k * (n + 1)) (sym c.requires.table_room.0.bests_long) (sym c.requires.accepted.1.nodes_are),
+  omega (arith, c.requires.accepted.1.nodes_are, c.requires.accepted.0.nodes_are, c.requires.accepted.2.ends.start_in.upto),
+  omega (arith, c.requires.table_room.0.bests_long, few_columns c.requires.accepted.0),
+  omega (arith, c.requires.accepted.1.nodes_are, few_nodes c.requires.accepted.0),
+)
 
 pub search-requires : goal.search-requires
 search-requires c =

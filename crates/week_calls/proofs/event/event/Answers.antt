@@ -40,7 +40,7 @@ follow-after-requires c =
     let passes : (fresh_fault c.args.image.now c.args.column c.args.start c.args.goal c.args.wanted (length c.args.work.now) ≡ sound) × Accepted c.args.image.now c.in-Network.sizes = given_sizes _ (λ e. (ranking_sound _ _ _ _ _ _ e).search.accepted) (sym (ap checked c.in-Network.is) ∙ c.check_ranking-answer.ensures) in
     let inside : c.args.arc < c.in-Network.sizes.m = omega (arith, c.if-sizes-arc.false) in
     let p = passes in
- (asked_of c.args.column c.args.start c.args.goal c.args.wanted p.1 p.0, inside)
+    (asked_of c.args.column c.args.start c.args.goal c.args.wanted p.1 p.0, inside)
 
 pub closed_roads-roads-requires : goal.closed_roads-roads-requires
 unfolding fresh_fault

@@ -28,7 +28,7 @@ unfolding fresh_fault
 run-week-requires c =
     let passes : (fresh_fault c.args.image.now c.args.column c.args.start c.args.goal c.args.wanted (length c.args.work.now) ≡ sound) × Accepted c.args.image.now c.in-Network.sizes = given_sizes _ (λ e. (ranking_sound _ _ _ _ _ _ e).search.accepted) (sym (ap checked c.in-Network.is) ∙ c.check_ranking-answer.ensures) in
     let p = passes in
- asked_of c.args.column c.args.start c.args.goal c.args.wanted p.1 p.0
+    asked_of c.args.column c.args.start c.args.goal c.args.wanted p.1 p.0
 
 pub returns : goal.returns
 unfolding fresh_week fresh_outcome run_week fresh_fault
