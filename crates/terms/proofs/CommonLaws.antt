@@ -2,7 +2,7 @@
 use Prim.Native.Nat.{ℕ, suc, ◌≤◌}
 use native.Mathlib.Omega.{arith}
 use mathlib.Core.Path.{◌≡◌, refl, sym, ◌∙◌, ap, ap₂, subst}
-use mathlib.Core.Bool.{true, not}
+use mathlib.Core.Bool.{true}
 use mathlib.Core.Logic.{◌≢◌, ⊎_elim}
 use mathlib.Core.List.Memᴰ
 use mathlib.Core.List.{List, [], map}
@@ -10,8 +10,8 @@ use mathlib.Core.Option.{none}
 use lib.ListN.{length, get_or, get_or-eq_default}
 use lib.Seq.{take-length}
 use borrow.Author.Tests.{not-true}
-use Rattle.terms.specs.Lists.{◌∈◌, elem, pick}
-use Rattle.terms.specs.Network.{Arc, Net, mark, weigh, cost_column, linked, column, restrict, open_everywhere, common, Cost, at_most, marked, Admitted}
+use Rattle.terms.specs.Lists.{◌∈◌, elem}
+use Rattle.terms.specs.Network.{Arc, Net, mark, weigh, cost_column, linked, column, open_everywhere, common, Cost, at_most, marked, Admitted}
 use Rattle.terms.specs.Paths.{Route, Path, OpenPath, cost}
 use Rattle.terms.specs.Regret.{open_fault}
 use Rattle.terms.proofs.ListLaws.{split, clash, le_or_lt, elem_mem, mem_elem, pick_mem, get_or_mem, mem_place}

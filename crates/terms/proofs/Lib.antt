@@ -15,3 +15,4 @@ pub mod Demand2Laws
 pub mod DemandLaws
 pub mod Demand3Laws
 pub mod RoomLaws
+pub mod StarredLaws

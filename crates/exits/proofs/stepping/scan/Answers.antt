@@ -1,6 +1,5 @@
 -- `stepping::scan` goes through the indices once. The loop: the least number so far, and the first head that has it. Assumes nothing.
 use native.Mathlib.Omega.{arith}
-use mathlib.Core.Logic.{⊎_elim}
 use mathlib.Core.Path.{refl}
 use Rattle.exits.proofs.ExitLaws.{scan_start, scan_take, scan_pass, scan_none, scan_best}
 use Rattle.exits.proofs.stepping.scan.Goals as goal

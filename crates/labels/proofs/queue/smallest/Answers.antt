@@ -1,5 +1,4 @@
 -- `queue::smallest` returns a place of the ring between its ends. The loop: the best place so far is one. Assumes nothing.
-use mathlib.Core.Logic.{⊎_elim}
 use Prim.Native.Nat.{◌+◌, ◌%◌}
 use native.Mathlib.Omega.{arith}
 use Rattle.labels.specs.Queue.{Held}
