@@ -1,5 +1,6 @@
 // Find on networks of 0 to 3 and of 1,000 arcs, and between nodes for which the answer is written down.
 use super::pairs::note_network;
+use std::io;
 use test_calls::answers::found;
 use test_calls::find_calls::find_agrees;
 use test_fixtures::networks::{S_COSTS, S_NODES, largest_nodes};
@@ -42,9 +43,9 @@ fn note_s(image: &mut [u8]) -> Report {
     note_rows(report, image, &S_FOUND)
 }
 
-fn network_s() {
+fn network_s(rt: &impl Print) -> io::Result<()> {
     let mut image = [0u8; 84];
-    note_s(&mut image).print(b"network S");
+    note_s(&mut image).print(rt, b"network S")
 }
 
 // n = 4, k = 1: the first arcs of the line 1 2 3 4.
@@ -69,11 +70,11 @@ fn note_lines(nodes: &[u16], costs: &[u32], image: &mut [u8]) -> Report {
     report
 }
 
-fn short_lines() {
+fn short_lines(rt: &impl Print) -> io::Result<()> {
     let nodes = [1u16, 2, 2, 3, 3, 4];
     let costs = [7u32; 3];
     let mut image = [0u8; 48];
-    note_lines(&nodes, &costs, &mut image).print(b"0 to 3 arcs");
+    note_lines(&nodes, &costs, &mut image).print(rt, b"0 to 3 arcs")
 }
 
 // On the largest network: the last record, and what stands behind it, take 10 looks.
@@ -91,15 +92,15 @@ fn note_largest(nodes: &mut [u16], costs: &[u32], image: &mut [u8]) -> Report {
 }
 
 // n = 200, m = 1,000, k = 1.
-fn largest_network() {
+fn largest_network(rt: &impl Print) -> io::Result<()> {
     let mut nodes = [0u16; 2000];
     let costs = [7u32; 1000];
     let mut image = [0u8; 8024];
-    note_largest(&mut nodes, &costs, &mut image).print(b"1,000 arcs");
+    note_largest(&mut nodes, &costs, &mut image).print(rt, b"1,000 arcs")
 }
 
-pub fn run() {
-    network_s();
-    short_lines();
-    largest_network();
+pub fn run(rt: &impl Print) -> io::Result<()> {
+    network_s(rt)?;
+    short_lines(rt)?;
+    largest_network(rt)
 }

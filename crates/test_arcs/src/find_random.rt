@@ -1,5 +1,6 @@
 // Find on random networks of 2 to 8 nodes.
 use super::pairs::note_network;
+use std::io;
 use test_fixtures::networks::draw_network;
 use test_fixtures::random::{Random, draw};
 use test_fixtures::report::{FIND, Report};
@@ -44,10 +45,10 @@ fn networks_with(
 }
 
 // The most arcs are 56, and the most costs 448.
-pub fn run() {
+pub fn run(rt: &impl Print) -> io::Result<()> {
     let mut numbers = [0u32; 520];
     let mut nodes = [0u16; 112];
     let mut costs = [0u32; 448];
     let mut image = [0u8; 2040];
-    networks_with(&mut numbers, &mut nodes, &mut costs, &mut image).print(b"random networks");
+    networks_with(&mut numbers, &mut nodes, &mut costs, &mut image).print(rt, b"random networks")
 }

@@ -10,7 +10,9 @@ mod find_random;
 mod pairs;
 mod plain_search;
 
-fn main() {
-    find_cases::run();
-    find_random::run();
+use std::io;
+
+fn main(rt: HostRuntime) -> io::Result<()> {
+    find_cases::run(&rt)?;
+    find_random::run(&rt)
 }

@@ -4,6 +4,7 @@ use super::image_calls::note_refused_image;
 use super::image_changes::{change_s, note_changed_bytes, note_changed_rows, note_lengths};
 use super::image_networks::{note_largest, note_network};
 use super::image_refusals::{all_refuse, build_refuses};
+use std::io;
 use test_calls::answers::refusal;
 use test_fixtures::closing::CLOSED;
 use test_fixtures::networks::{S_COSTS, S_NODES};
@@ -40,11 +41,11 @@ fn network_without_arcs() -> Report {
     note_network(Report::new(), second_edition(2, 1), &[], &[], image)
 }
 
-fn accepted() {
-    note_s(&S_COSTS).print(b"network S in edition 2");
-    note_s(&CLOSED_COSTS).print(b"network S with closed arcs");
-    network_without_arcs().print(b"network without arcs in edition 2");
-    note_largest(2, CLOSED).print(b"largest network, all closed");
+fn accepted(rt: &impl Print) -> io::Result<()> {
+    note_s(&S_COSTS).print(rt, b"network S in edition 2")?;
+    note_s(&CLOSED_COSTS).print(rt, b"network S with closed arcs")?;
+    network_without_arcs().print(rt, b"network without arcs in edition 2")?;
+    note_largest(2, CLOSED).print(rt, b"largest network, all closed")
 }
 
 // Network S's image with fields changed, in rows like those of image_changes.rt.
@@ -84,10 +85,10 @@ fn note_cut(report: Report, image: &mut [u8]) -> Report {
     note_refused_image(report, &image[0..23], refusal(1, 0))
 }
 
-fn changed_fields() {
+fn changed_fields(rt: &impl Print) -> io::Result<()> {
     let mut image = [0u8; 84];
     let report = note_changed_rows(&CHANGED_FIELDS, &mut image);
-    note_cut(report, &mut image).print(b"changed editions");
+    note_cut(report, &mut image).print(rt, b"changed editions")
 }
 
 // Numbers that are no edition, some of which have 1 or 2 as their low bytes.
@@ -179,28 +180,28 @@ fn rows_in_order(mut report: Report) -> Report {
     build_refuses(report, second, &[1, 2], &[CLOSED], 31, 13, 0)
 }
 
-fn refused_lists() {
+fn refused_lists(rt: &impl Print) -> io::Result<()> {
     let report = editions_refused(&WRONG_EDITIONS, &S_NODES, &S_COSTS, &CLOSED_COSTS);
-    rows_in_order(note_wrong_costs(report, &WRONG_COSTS, &S_NODES)).print(b"refused editions");
+    rows_in_order(note_wrong_costs(report, &WRONG_COSTS, &S_NODES)).print(rt, b"refused editions")
 }
 
 // The image of network S with closed arcs, cut short or made longer.
-fn other_lengths() {
+fn other_lengths(rt: &impl Print) -> io::Result<()> {
     let mut image = [0u8; 120];
     lay_out(&CLOSED_COSTS, &mut image);
-    note_lengths(&image).print(b"other lengths in edition 2");
+    note_lengths(&image).print(rt, b"other lengths in edition 2")
 }
 
 // The same image with each byte changed.
-fn changed_bytes() {
+fn changed_bytes(rt: &impl Print) -> io::Result<()> {
     let mut image = s_image(&CLOSED_COSTS);
-    note_changed_bytes(&mut image).print(b"changed bytes in edition 2");
+    note_changed_bytes(&mut image).print(rt, b"changed bytes in edition 2")
 }
 
-pub fn run() {
-    accepted();
-    changed_fields();
-    refused_lists();
-    other_lengths();
-    changed_bytes();
+pub fn run(rt: &impl Print) -> io::Result<()> {
+    accepted(rt)?;
+    changed_fields(rt)?;
+    refused_lists(rt)?;
+    other_lengths(rt)?;
+    changed_bytes(rt)
 }

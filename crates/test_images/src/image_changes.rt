@@ -1,6 +1,7 @@
 // Network S's image with fields changed, cut short or made longer, and with each byte changed: what
 // Check and Unpack say of it.
 use super::image_calls::{note_image, note_refused_image};
+use std::io;
 use test_calls::answers::refusal;
 use test_fixtures::networks::lay_out_s;
 use test_fixtures::report::Report;
@@ -79,9 +80,9 @@ pub fn note_changed_rows(rows: &[[u16; 7]], image: &mut [u8]) -> Report {
     report
 }
 
-fn changed_fields() {
+fn changed_fields(rt: &impl Print) -> io::Result<()> {
     let mut image = [0u8; 84];
-    note_changed_rows(&CHANGED_FIELDS, &mut image).print(b"changed fields");
+    note_changed_rows(&CHANGED_FIELDS, &mut image).print(rt, b"changed fields")
 }
 
 // The first `length` bytes of the image, or the image with zeros behind it; but not the image
@@ -108,10 +109,10 @@ pub fn note_lengths(image: &[u8]) -> Report {
     report
 }
 
-fn other_lengths() {
+fn other_lengths(rt: &impl Print) -> io::Result<()> {
     let mut image = [0u8; 120];
     lay_out_s(&mut image);
-    note_lengths(&image).print(b"other lengths");
+    note_lengths(&image).print(rt, b"other lengths")
 }
 
 fn byte_at(image: &[u8], at: usize) -> u8 {
@@ -138,14 +139,14 @@ pub fn note_changed_bytes(image: &mut [u8]) -> Report {
     report
 }
 
-fn changed_bytes() {
+fn changed_bytes(rt: &impl Print) -> io::Result<()> {
     let mut image = [0u8; 84];
     lay_out_s(&mut image);
-    note_changed_bytes(&mut image).print(b"changed bytes");
+    note_changed_bytes(&mut image).print(rt, b"changed bytes")
 }
 
-pub fn run() {
-    changed_fields();
-    other_lengths();
-    changed_bytes();
+pub fn run(rt: &impl Print) -> io::Result<()> {
+    changed_fields(rt)?;
+    other_lengths(rt)?;
+    changed_bytes(rt)
 }

@@ -1,6 +1,7 @@
 // Sound networks: Build gives the image of the lists, and Check and Unpack take it. Tried with
 // network S, the network without arcs and the largest network.
 use super::image_calls::{build_agrees, check_agrees, rebuild_agrees, unpack_agrees};
+use std::io;
 use test_calls::answers::{Answer, refusal, single, sizes};
 use test_fixtures::networks::{S_COSTS, S_NODES, largest_nodes, lay_out_s};
 use test_fixtures::plain_image::{Header, arc_count, encode, first_edition, total};
@@ -87,19 +88,19 @@ fn note_s(image: &[u8]) -> Report {
         .note(CHECK, check_agrees(image, sizes(first_edition(4, 2), 5)))
 }
 
-fn network_s() {
+fn network_s(rt: &impl Print) -> io::Result<()> {
     let mut image = [0u8; 84];
     lay_out_s(&mut image);
-    note_s(&image).print(b"network S");
+    note_s(&image).print(rt, b"network S")
 }
 
 // n = 2, m = 0, k = 1: the image is the header, 24 bytes.
-fn network_without_arcs() {
+fn network_without_arcs(rt: &impl Print) -> io::Result<()> {
     let image = b"\x01\0\x02\0\0\0\x01\0\x18\0\0\0\x18\0\0\0\x18\0\0\0\0\0\0\0";
     let report = note_network(Report::new(), first_edition(2, 1), &[], &[], image);
     report
         .note(CHECK, check_agrees(image, sizes(first_edition(2, 1), 0)))
-        .print(b"network without arcs");
+        .print(rt, b"network without arcs")
 }
 
 fn lay_out_largest(header: Header, nodes: &mut [u16], costs: &[u32], image: &mut [u8]) {
@@ -121,12 +122,12 @@ pub fn note_largest(edition: u32, cost: u32) -> Report {
     note_network(Report::new(), header, &nodes, &costs, &image)
 }
 
-fn largest_network() {
-    note_largest(1, 1000000).print(b"largest network");
+fn largest_network(rt: &impl Print) -> io::Result<()> {
+    note_largest(1, 1000000).print(rt, b"largest network")
 }
 
-pub fn run() {
-    network_s();
-    network_without_arcs();
-    largest_network();
+pub fn run(rt: &impl Print) -> io::Result<()> {
+    network_s(rt)?;
+    network_without_arcs(rt)?;
+    largest_network(rt)
 }

@@ -1,6 +1,7 @@
 // The refusal table on lists: what Build answers, and what Check and Unpack answer for the image of
 // the same lists. All are of edition 1; editions.rt has what differs in edition 2.
 use super::image_calls::{build_agrees, note_refused_image};
+use std::io;
 use test_calls::answers::refusal;
 use test_fixtures::plain_image::{Header, encode, first_edition, total};
 use test_fixtures::report::{BUILD, CHECK, Report};
@@ -270,7 +271,7 @@ fn slices_too_short(mut report: Report) -> Report {
     lists_refused(report, 2, 1, 0, 0, 23, 13)
 }
 
-pub fn run() {
+pub fn run(rt: &impl Print) -> io::Result<()> {
     let mut report = sizes_out_of_range(Report::new());
     report = lists_too_long(report);
     report = lengths_wrong(report);
@@ -280,5 +281,5 @@ pub fn run() {
     report = several_arc_rows(report);
     report = several_list_rows(report);
     report = slices_last(report);
-    slices_too_short(report).print(b"refused lists");
+    slices_too_short(report).print(rt, b"refused lists")
 }

@@ -18,13 +18,15 @@ mod random_networks;
 mod rank_refusals;
 mod robust_refusals;
 
-fn main() {
-    image_networks::run();
-    image_refusals::run();
-    image_changes::run();
-    editions::run();
-    random_networks::run();
-    path_refusals::run();
-    rank_refusals::run();
-    robust_refusals::run();
+use std::io;
+
+fn main(rt: HostRuntime) -> io::Result<()> {
+    image_networks::run(&rt)?;
+    image_refusals::run(&rt)?;
+    image_changes::run(&rt)?;
+    editions::run(&rt)?;
+    random_networks::run(&rt)?;
+    path_refusals::run(&rt)?;
+    rank_refusals::run(&rt)?;
+    robust_refusals::run(&rt)
 }

@@ -1,6 +1,7 @@
 // The refusal table on the numbers and slices that the path layer's calls are given with network S.
 // Their node lists stand with the cases of test_routes, and the images that they refuse with those of
 // Check.
+use std::io;
 use test_calls::answers::refusal;
 use test_calls::path_calls::{label_agrees, regret_agrees, shortest_agrees};
 use test_fixtures::networks::lay_out_s;
@@ -71,8 +72,8 @@ fn refused_numbers(image: &[u8], rows: &[[u32; 7]]) -> Report {
     report
 }
 
-pub fn run() {
+pub fn run(rt: &impl Print) -> io::Result<()> {
     let mut image = [0u8; 84];
     lay_out_s(&mut image);
-    refused_numbers(&image, &REFUSED_NUMBERS).print(b"refused numbers");
+    refused_numbers(&image, &REFUSED_NUMBERS).print(rt, b"refused numbers")
 }

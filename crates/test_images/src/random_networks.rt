@@ -3,6 +3,7 @@
 use super::image_calls::{build_agrees, note_image};
 use super::image_networks::note_network;
 use super::plain_answers::build_answer;
+use std::io;
 use test_fixtures::closing::CLOSED;
 use test_fixtures::networks::{draw_network, number_at};
 use test_fixtures::plain_image::{Header, encode, total};
@@ -226,9 +227,9 @@ fn networks(edition: u32, changed: bool) -> Report {
     )
 }
 
-pub fn run() {
-    networks(1, false).print(b"random networks");
-    networks(1, true).print(b"changed networks");
-    networks(2, false).print(b"random networks of edition 2");
-    networks(2, true).print(b"changed networks of edition 2");
+pub fn run(rt: &impl Print) -> io::Result<()> {
+    networks(1, false).print(rt, b"random networks")?;
+    networks(1, true).print(rt, b"changed networks")?;
+    networks(2, false).print(rt, b"random networks of edition 2")?;
+    networks(2, true).print(rt, b"changed networks of edition 2")
 }

@@ -1,4 +1,5 @@
 // The refusal table on the numbers and slices that Rank is given with network S.
+use std::io;
 use test_calls::answers::refusal;
 use test_calls::rank_calls::{Request, Rooms, rank_agrees};
 use test_fixtures::networks::lay_out_s;
@@ -73,8 +74,8 @@ fn refused_numbers(image: &[u8], rows: &[[u32; 8]]) -> Report {
     report
 }
 
-pub fn run() {
+pub fn run(rt: &impl Print) -> io::Result<()> {
     let mut image = [0u8; 84];
     lay_out_s(&mut image);
-    refused_numbers(&image, &REFUSED_NUMBERS).print(b"refused numbers");
+    refused_numbers(&image, &REFUSED_NUMBERS).print(rt, b"refused numbers")
 }

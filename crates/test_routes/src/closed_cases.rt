@@ -3,6 +3,7 @@ use super::path_cases::{list_refused, regret_is};
 use super::rank_cases::ranked;
 use super::robust_cases::chosen;
 use super::{path_cases, rank_cases, robust_cases};
+use std::io;
 use test_calls::answers::{left_open, settled};
 use test_calls::path_calls::{note_label, note_shortest};
 use test_calls::rank_calls::Request;
@@ -133,10 +134,10 @@ fn note_detour() -> Report {
     detour_in_all(Report::new(), &detour())
 }
 
-pub fn run() {
-    open_everywhere().print(b"network S in edition 2");
-    note_ferry().print(b"ferry closed in a column");
-    note_apart().print(b"no path open in every column");
-    note_cut_off().print(b"goal cut off in a column");
-    note_detour().print(b"node cut off in a column");
+pub fn run(rt: &impl Print) -> io::Result<()> {
+    open_everywhere().print(rt, b"network S in edition 2")?;
+    note_ferry().print(rt, b"ferry closed in a column")?;
+    note_apart().print(rt, b"no path open in every column")?;
+    note_cut_off().print(rt, b"goal cut off in a column")?;
+    note_detour().print(rt, b"node cut off in a column")
 }

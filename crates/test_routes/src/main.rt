@@ -20,12 +20,14 @@ mod robust_cases;
 mod robust_ladder;
 mod robust_random;
 
-fn main() {
-    path_cases::run();
-    rank_cases::run();
-    rank_ladder::run();
-    robust_cases::run();
-    robust_ladder::run();
-    closed_cases::run();
-    random_networks::run();
+use std::io;
+
+fn main(rt: HostRuntime) -> io::Result<()> {
+    path_cases::run(&rt)?;
+    rank_cases::run(&rt)?;
+    rank_ladder::run(&rt)?;
+    robust_cases::run(&rt)?;
+    robust_ladder::run(&rt)?;
+    closed_cases::run(&rt)?;
+    random_networks::run(&rt)
 }

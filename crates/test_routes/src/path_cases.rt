@@ -1,5 +1,6 @@
 // The cases of Label, Shortest and Regret (REFERENCE, section 8): network S, the network of zero costs,
 // the network without arcs and the line of 200 nodes.
+use std::io;
 use test_calls::answers::{pair, refusal};
 use test_calls::path_calls::{note_label, note_shortest, regret_agrees, shortest_agrees};
 use test_fixtures::case_images::{line, line_path, network_s, no_arcs, zero_costs};
@@ -136,25 +137,25 @@ fn note_line(image: &[u8], nodes: &[u16], labels: &[u32]) -> Report {
     list_refused(report, image, 2, 1, &nodes[1..200], 199)
 }
 
-fn on_s() {
-    note_s(Report::new(), &network_s()).print(b"network S");
+fn on_s(rt: &impl Print) -> io::Result<()> {
+    note_s(Report::new(), &network_s()).print(rt, b"network S")
 }
 
-fn on_zero_costs() {
-    note_zero_costs(Report::new(), &zero_costs()).print(b"network of zero costs");
+fn on_zero_costs(rt: &impl Print) -> io::Result<()> {
+    note_zero_costs(Report::new(), &zero_costs()).print(rt, b"network of zero costs")
 }
 
-fn on_no_arcs() {
-    note_no_arcs(Report::new(), &no_arcs()).print(b"network without arcs");
+fn on_no_arcs(rt: &impl Print) -> io::Result<()> {
+    note_no_arcs(Report::new(), &no_arcs()).print(rt, b"network without arcs")
 }
 
-fn on_line() {
-    note_line(&line(), &line_path(), &line_labels()).print(b"line of 200 nodes");
+fn on_line(rt: &impl Print) -> io::Result<()> {
+    note_line(&line(), &line_path(), &line_labels()).print(rt, b"line of 200 nodes")
 }
 
-pub fn run() {
-    on_s();
-    on_zero_costs();
-    on_no_arcs();
-    on_line();
+pub fn run(rt: &impl Print) -> io::Result<()> {
+    on_s(rt)?;
+    on_zero_costs(rt)?;
+    on_no_arcs(rt)?;
+    on_line(rt)
 }

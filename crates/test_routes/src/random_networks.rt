@@ -1,5 +1,6 @@
 // Random networks of 2 to 8 nodes: the calls on their image.
 use super::path_random::note_paths;
+use std::io;
 use test_fixtures::networks::draw_network;
 use test_fixtures::plain_image::{Header, encode, total};
 use test_fixtures::random::{Random, draw};
@@ -79,7 +80,7 @@ fn networks(edition: u32) -> Report {
     networks_with(edition, &mut numbers, &mut nodes, &mut costs, &mut image)
 }
 
-pub fn run() {
-    networks(1).print(b"random networks");
-    networks(2).print(b"random networks of edition 2");
+pub fn run(rt: &impl Print) -> io::Result<()> {
+    networks(1).print(rt, b"random networks")?;
+    networks(2).print(rt, b"random networks of edition 2")
 }

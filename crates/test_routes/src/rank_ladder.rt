@@ -2,6 +2,7 @@
 //
 // In column 2 every arc costs 1, so all paths cost 132, and the first are those that differ at the
 // end: path c takes the higher node at step 65 - b exactly if c has the bit b.
+use std::io;
 use test_calls::answers::single;
 use test_calls::rank_calls::{Request, rank_into};
 use test_fixtures::ladder::{ladder, lay_out_rows};
@@ -56,6 +57,6 @@ fn note_columns(mut report: Report, image: &[u8]) -> Report {
     note_column(report, image, 2)
 }
 
-pub fn run() {
-    note_columns(Report::new(), &ladder(false)).print(b"ladder of 199 nodes");
+pub fn run(rt: &impl Print) -> io::Result<()> {
+    note_columns(Report::new(), &ladder(false)).print(rt, b"ladder of 199 nodes")
 }

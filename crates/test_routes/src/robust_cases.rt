@@ -1,5 +1,6 @@
 // The cases of Robust (REFERENCE, section 8): network S, the network of zero costs, the network without
 // arcs and the line of 200 nodes.
+use std::io;
 use test_calls::answers::{Answer, left_open, refusal, settled};
 use test_calls::rank_calls::Request;
 use test_calls::robust_calls::{
@@ -108,25 +109,25 @@ fn note_lines(mut report: Report, image: &[u8], nodes: &[u16]) -> Report {
     note_line(report, image, 256, nodes)
 }
 
-fn on_s() {
-    note_s(Report::new(), &network_s()).print(b"network S");
+fn on_s(rt: &impl Print) -> io::Result<()> {
+    note_s(Report::new(), &network_s()).print(rt, b"network S")
 }
 
-fn on_zero_costs() {
-    note_zero_costs(Report::new(), &zero_costs()).print(b"network of zero costs");
+fn on_zero_costs(rt: &impl Print) -> io::Result<()> {
+    note_zero_costs(Report::new(), &zero_costs()).print(rt, b"network of zero costs")
 }
 
-fn on_no_arcs() {
-    no_path(Report::new(), &no_arcs(), 2, 1, 1, 2).print(b"network without arcs");
+fn on_no_arcs(rt: &impl Print) -> io::Result<()> {
+    no_path(Report::new(), &no_arcs(), 2, 1, 1, 2).print(rt, b"network without arcs")
 }
 
-fn on_line() {
-    note_lines(Report::new(), &line(), &line_path()).print(b"line of 200 nodes");
+fn on_line(rt: &impl Print) -> io::Result<()> {
+    note_lines(Report::new(), &line(), &line_path()).print(rt, b"line of 200 nodes")
 }
 
-pub fn run() {
-    on_s();
-    on_zero_costs();
-    on_no_arcs();
-    on_line();
+pub fn run(rt: &impl Print) -> io::Result<()> {
+    on_s(rt)?;
+    on_zero_costs(rt)?;
+    on_no_arcs(rt)?;
+    on_line(rt)
 }

@@ -9,6 +9,7 @@
 // By column 1 the path j + 1 has c = j, so the least figure of the first j is 256 - j up to j = 128,
 // and the stopping rule needs 128 paths. The same holds by column 2, where the path j + 1 has
 // c = 255 - j.
+use std::io;
 use test_calls::answers::{Answer, left_open, settled};
 use test_calls::rank_calls::Request;
 use test_calls::robust_calls::{needed_route_rooms, robust_into};
@@ -69,6 +70,6 @@ fn note_ladder(mut report: Report, image: &[u8]) -> Report {
     chosen(report, image, 2, 256, settled(133, 128, 1, 128), 128)
 }
 
-pub fn run() {
-    note_ladder(Report::new(), &ladder(true)).print(b"ladder of 199 nodes");
+pub fn run(rt: &impl Print) -> io::Result<()> {
+    note_ladder(Report::new(), &ladder(true)).print(rt, b"ladder of 199 nodes")
 }

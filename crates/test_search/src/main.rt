@@ -10,7 +10,9 @@
 mod search_cases;
 mod search_random;
 
-fn main() {
-    search_cases::run();
-    search_random::run();
+use std::io;
+
+fn main(rt: HostRuntime) -> io::Result<()> {
+    search_cases::run(&rt)?;
+    search_random::run(&rt)
 }

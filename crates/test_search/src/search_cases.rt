@@ -1,4 +1,5 @@
 // Search on networks for which the answers are written down.
+use std::io;
 use test_calls::searches::{Choice, Quest, note_no_path, note_refused, note_search};
 use test_fixtures::case_images::{
     apart, detour, ferry, line, line_path, network_s, no_arcs, second_s, zero_costs,
@@ -84,35 +85,35 @@ fn note_s(mut report: Report, image: &[u8]) -> Report {
     finds_none(report, image, 4, [4, 1])
 }
 
-fn of_network_s() {
-    note_s(Report::new(), &network_s()).print(b"network S");
-    note_s(Report::new(), &second_s()).print(b"network S in edition 2");
+fn of_network_s(rt: &impl Print) -> io::Result<()> {
+    note_s(Report::new(), &network_s()).print(rt, b"network S")?;
+    note_s(Report::new(), &second_s()).print(rt, b"network S in edition 2")
 }
 
 // All paths have the figure 0: the first in node order is found, and no later arc is followed.
-fn of_equal_figures() {
+fn of_equal_figures(rt: &impl Print) -> io::Result<()> {
     let image = zero_costs();
     let report = finds(Report::new(), &image, 4, [1, 4], &[1, 3, 2, 4], [0, 1, 4]);
-    finds_none(report, &image, 4, [4, 1]).print(b"network of zero costs");
-    finds_none(Report::new(), &no_arcs(), 2, [1, 2]).print(b"network without arcs");
+    finds_none(report, &image, 4, [4, 1]).print(rt, b"network of zero costs")?;
+    finds_none(Report::new(), &no_arcs(), 2, [1, 2]).print(rt, b"network without arcs")
 }
 
 // An arc that is closed in a column, and one to a node that is cut off from the goal there, is tried and
 // dropped.
-fn of_closed_arcs() {
+fn of_closed_arcs(rt: &impl Print) -> io::Result<()> {
     let by_ferry = ferry();
     let report = finds(Report::new(), &by_ferry, 4, [1, 4], &[1, 3, 4], [5, 1, 5]);
-    report.print(b"ferry closed in a column");
+    report.print(rt, b"ferry closed in a column")?;
     let parted = apart();
     let none = finds_none(Report::new(), &parted, 4, [1, 4]);
-    finds(none, &parted, 4, [2, 4], &[2, 4], [3, 2, 3]).print(b"no path open in every column");
+    finds(none, &parted, 4, [2, 4], &[2, 4], [3, 2, 3]).print(rt, b"no path open in every column")?;
     let cut = detour();
     let way = finds(Report::new(), &cut, 4, [1, 4], &[1, 3, 4], [2, 1, 3]);
-    finds_none(way, &cut, 4, [2, 4]).print(b"node cut off in a column");
+    finds_none(way, &cut, 4, [2, 4]).print(rt, b"node cut off in a column")
 }
 
 // The search goes down all 200 nodes, by one arc to each.
-fn of_line() {
+fn of_line(rt: &impl Print) -> io::Result<()> {
     let image = line();
     let report = finds(
         Report::new(),
@@ -122,7 +123,7 @@ fn of_line() {
         &line_path(),
         [0, 1, 199],
     );
-    finds_none(report, &image, 200, [200, 1]).print(b"line of 200 nodes");
+    finds_none(report, &image, 200, [200, 1]).print(rt, b"line of 200 nodes")
 }
 
 // The ladder that Robust is tested on, of 133 nodes to a path. The paths with the numbers 127 and 128 have the
@@ -130,19 +131,20 @@ fn of_line() {
 // arc to the higher node is dropped: 58 * 3 arcs. Path 0 is completed first, then path 128, and from then on all
 // that takes 128 or more in a column is dropped: at 127 nodes of the steps 58 to 64 all four arcs are tried, at
 // the 128 of step 65 the two arcs to the lower and the higher node, and two arcs to the goal.
-fn of_ladder() {
+fn of_ladder(rt: &impl Print) -> io::Result<()> {
     let mut nodes = [0u16; 133];
     lay_out_rows(1, 128, &mut nodes);
     let image = ladder(true);
     finds(Report::new(), &image, 199, [1, 199], &nodes, [128, 1, 940]).print(
+        rt,
         b"ladder of 199 nodes",
-    );
+    )
 }
 
-pub fn run() {
-    of_network_s();
-    of_equal_figures();
-    of_closed_arcs();
-    of_line();
-    of_ladder();
+pub fn run(rt: &impl Print) -> io::Result<()> {
+    of_network_s(rt)?;
+    of_equal_figures(rt)?;
+    of_closed_arcs(rt)?;
+    of_line(rt)?;
+    of_ladder(rt)
 }

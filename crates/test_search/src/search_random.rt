@@ -1,4 +1,5 @@
 // Random networks of 2 to 8 nodes: Descent from every node to one.
+use std::io;
 use test_calls::rank_calls::{Request, WORK_PLACES, needed_rooms};
 use test_calls::robust_calls::robust_answer;
 use test_calls::searches::{Choice, Quest, note_no_path, note_search};
@@ -236,7 +237,7 @@ fn networks(edition: u32) -> Report {
     networks_with(edition, &mut numbers, &mut nodes, &mut costs, &mut image)
 }
 
-pub fn run() {
-    networks(1).print(b"random networks");
-    networks(2).print(b"random networks of edition 2");
+pub fn run(rt: &impl Print) -> io::Result<()> {
+    networks(1).print(rt, b"random networks")?;
+    networks(2).print(rt, b"random networks of edition 2")
 }

@@ -1,5 +1,6 @@
 // Update on network S, with answers that are written down.
 use super::plain_update::{update_agrees, update_gives};
+use std::io;
 use test_fixtures::networks::{S_COSTS, S_NODES, lay_out_s};
 use test_fixtures::plain_image::{Header, first_edition, second_edition};
 use test_fixtures::report::{Report, UPDATE};
@@ -66,8 +67,8 @@ fn note_images(mut report: Report) -> Report {
     note_wrong(report, 46, 255, &[9, 9, 9, 9], 9)
 }
 
-pub fn run() {
+pub fn run(rt: &impl Print) -> io::Result<()> {
     let report = note_lists(Report::new(), first_edition(4, 2));
     let both = note_lists(report, second_edition(4, 2));
-    note_images(both).print(b"network S");
+    note_images(both).print(rt, b"network S")
 }

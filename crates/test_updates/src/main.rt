@@ -9,7 +9,9 @@ mod cases;
 mod plain_update;
 mod random_lists;
 
-fn main() {
-    cases::run();
-    random_lists::run();
+use std::io;
+
+fn main(rt: HostRuntime) -> io::Result<()> {
+    cases::run(&rt)?;
+    random_lists::run(&rt)
 }

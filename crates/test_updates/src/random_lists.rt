@@ -1,6 +1,7 @@
 // Update on random networks of 2 to 8 nodes, with lists of up to 40 records that have few stamps and few
 // arcs and columns, so that several records are about one cost and many stamps are equal.
 use super::plain_update::update_agrees;
+use std::io;
 use test_fixtures::networks::{draw_network, number_at};
 use test_fixtures::numbers::count;
 use test_fixtures::plain_image::Header;
@@ -119,7 +120,7 @@ fn note_networks(
     report
 }
 
-pub fn run() {
+pub fn run(rt: &impl Print) -> io::Result<()> {
     let mut numbers = [0u32; 520];
     let mut nodes = [0u16; 112];
     let mut costs = [0u32; 448];
@@ -134,5 +135,5 @@ pub fn run() {
         &mut image,
         &mut after,
     )
-    .print(b"random lists");
+    .print(rt, b"random lists")
 }

@@ -1,6 +1,7 @@
 // Weeks on network S from 1 to 4, with states that are written down. Its paths are 1 2 4, 1 3 4 and 1 2 3 4; they cost
 // 8, 7 and 5 in column 1, and 5, 8 and 13 in column 2.
 use super::held::{Asked, event_agrees, fresh_agrees};
+use std::io;
 use test_calls::answers::single;
 use test_calls::rank_calls::Request;
 use test_calls::robust_calls::needed_route_rooms;
@@ -147,8 +148,8 @@ fn note_weeks(mut report: Report, image: &[u8]) -> Report {
     note_lines(report, image, between(1, 4, 1), NO_PATH, &NO_PATH_EVENTS)
 }
 
-pub fn run() {
+pub fn run(rt: &impl Print) -> io::Result<()> {
     let mut image = [0u8; 84];
     lay_out_s(&mut image);
-    note_weeks(Report::new(), &image).print(b"network S");
+    note_weeks(Report::new(), &image).print(rt, b"network S")
 }

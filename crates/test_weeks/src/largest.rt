@@ -8,6 +8,7 @@ use super::held::{Asked, event_agrees, fresh_agrees};
 use super::left::numbered;
 use super::map::turned;
 use super::step::Run;
+use std::io;
 use test_calls::answers::{refusal, single};
 use test_calls::rank_calls::Request;
 use test_calls::robust_calls::needed_route_rooms;
@@ -145,9 +146,9 @@ fn lay_out(arcs: &mut [u16], image: &mut [u8]) {
     encode(first_edition(200, 1), arcs, &[1; 1000], image);
 }
 
-pub fn run() {
+pub fn run(rt: &impl Print) -> io::Result<()> {
     let mut arcs = [0u16; 2000];
     let mut image = [0u8; 8024];
     lay_out(&mut arcs, &mut image);
-    note_events(&image).print(b"largest network");
+    note_events(&image).print(rt, b"largest network")
 }

@@ -22,9 +22,11 @@ mod refusals;
 mod step;
 mod verdict;
 
-fn main() {
-    cases::run();
-    refusals::run();
-    largest::run();
-    random_networks::run();
+use std::io;
+
+fn main(rt: HostRuntime) -> io::Result<()> {
+    cases::run(&rt)?;
+    refusals::run(&rt)?;
+    largest::run(&rt)?;
+    random_networks::run(&rt)
 }

@@ -3,6 +3,7 @@ use super::all_roads::note_all_roads;
 use super::left::{first_costs, first_nodes};
 use super::made_states::note_made_states;
 use super::random_weeks::note_week;
+use std::io;
 use test_fixtures::networks::draw_network;
 use test_fixtures::plain_image::{Header, encode, total};
 use test_fixtures::random::{Random, draw};
@@ -103,8 +104,8 @@ fn networks(purpose: Purpose, count: u32) -> Report {
     networks_with(purpose, count, &mut numbers)
 }
 
-pub fn run() {
-    networks(Purpose::Weeks, 2400).print(b"random weeks");
-    networks(Purpose::AllRoads, 240).print(b"all roads closed and reopened");
-    networks(Purpose::MadeStates, 2000).print(b"states made otherwise");
+pub fn run(rt: &impl Print) -> io::Result<()> {
+    networks(Purpose::Weeks, 2400).print(rt, b"random weeks")?;
+    networks(Purpose::AllRoads, 240).print(rt, b"all roads closed and reopened")?;
+    networks(Purpose::MadeStates, 2000).print(rt, b"states made otherwise")
 }

@@ -2,6 +2,7 @@
 // holds, and a refused fresh week is all 0.
 use super::held::{Asked, event_agrees, fresh_agrees};
 use super::left::numbered;
+use std::io;
 use test_calls::answers::{Answer, refusal};
 use test_calls::rank_calls::Request;
 use test_fixtures::networks::lay_out_s;
@@ -123,8 +124,8 @@ fn note_images(mut report: Report) -> Report {
     note_wrong(report, 46, 255, refusal(9, 0))
 }
 
-pub fn run() {
+pub fn run(rt: &impl Print) -> io::Result<()> {
     let mut image = [0u8; 84];
     lay_out_s(&mut image);
-    note_images(note_table(&image)).print(b"refused on network S");
+    note_images(note_table(&image)).print(rt, b"refused on network S")
 }

@@ -6,19 +6,25 @@
 #![tactic(auto)]
 
 use sheet::{Printed, sheet};
+use std::io;
+use std::io::{Read, Write};
+
+// The bytes of the input that are read at most.
+const IMAGE_PLACES: u64 = 36025;
 
 // Prints the sheet of an image, by way of a slice that is long enough.
-fn print(image: &[u8], text: &mut [u8]) {
+fn print(rt: &impl Print, image: &[u8], text: &mut [u8]) -> io::Result<()> {
     let answer = sheet(image, text);
     if let Printed::Text(length) = answer {
         let end = length as usize;
-        io::write_all(1, &text[..end]);
+        io::writer(rt).write_all(&text[..end])?;
     }
+    Ok(())
 }
 
-fn main() {
-    let mut input = [0u8; 36025];
+fn main(rt: HostRuntime) -> io::Result<()> {
+    let mut input = Vec::new(rt.alloc());
     let mut text = [0u8; 1024];
-    let length = io::read_full(0, &mut input);
-    print(&input[..length], &mut text);
+    rt.reader().take(IMAGE_PLACES).read_to_end(&mut input)?;
+    print(&rt, &input, &mut text)
 }

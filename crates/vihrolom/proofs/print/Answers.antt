@@ -1,0 +1,16 @@
+-- The text that `sheet` names lies in the slice.
+use Rattle.std.proofs.Common.{◌≤◌, ◌∙◌, sym, ap, length}
+use lib.Seq.{length-take-le}
+use Rattle.sheet.specs.Answers.{printed}
+use Rattle.sheet.proofs.PrintLaws.{sheet_fits}
+use Rattle.vihrolom.proofs.print.Goals as goal
+
+pub slice_bounds-write_all-end : goal.slice_bounds-write_all-end
+slice_bounds-write_all-end g c =
+    let fits : c.in-Text.length ≤ length c.sheet-answer.new.text = sheet_fits c.args.image.now c.args.text.now (sym (ap printed c.in-Text.is) ∙ c.sheet-answer.ensures.result_value) c.sheet-answer.ensures.text_after in
+    fits
+
+pub slice_bounds-write_all-end-in-Text : goal.slice_bounds-write_all-end-in-Text
+slice_bounds-write_all-end-in-Text g c =
+    let fits : c.in-Text.length ≤ length c.sheet-answer.new.text = sheet_fits c.args.image.now c.args.text.now (sym (ap printed c.in-Text.is) ∙ c.sheet-answer.ensures.result_value) c.sheet-answer.ensures.text_after in
+    sym (length-take-le _ _ fits)
