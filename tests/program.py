@@ -1,6 +1,6 @@
 """The program `vihrolom` on whole inputs: each must print the sheet that examples/make.py computes apart.
 
-    rt check vihrolom && python3 tests/program.py
+    (cd crates/vihrolom && rt run <stdin) && python3 tests/program.py
 
 The longest inputs pin how much the program reads: an image has at most 36,024 bytes, and one byte more
 must be seen to be there.
@@ -14,7 +14,7 @@ ROOT = os.path.dirname(os.path.dirname(os.path.abspath(__file__)))
 sys.path.insert(0, os.path.join(ROOT, "examples"))
 import make  # noqa: E402
 
-PROGRAM = os.path.join(ROOT, "target", "bin", "vihrolom")
+PROGRAM = os.path.join(ROOT, "crates", "vihrolom", "out", "vihrolom")
 
 
 def largest():
