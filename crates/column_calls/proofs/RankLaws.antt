@@ -29,7 +29,7 @@ use Rattle.branching.specs.declared.first.Found.{Found}
 use Rattle.ranking.specs.Ranking.{Ranked}
 use Rattle.ranking.proofs.ResultLaws.{ranked_count, ranked_cost}
 use Rattle.terms.proofs.PathLaws.{column_within}
-use Rattle.outcomes.specs.Calls.{ranking_rows, room_row, workspace, path_row, rank_rows, rank_of, rank_rows_of, rank_costs_of}
+use Rattle.outcomes.specs.Calls.{ranking_rows, room_row, path_row, rank_rows, rank_of, rank_rows_of, rank_costs_of}
 use Rattle.loading.specs.Accepted.{InColumn, Ends}
 use Rattle.loading.specs.Loaded.{Loaded}
 use Rattle.loading.proofs.LoadLaws.{loaded_least}

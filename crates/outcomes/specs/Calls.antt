@@ -1,7 +1,6 @@
 -- docs/REFERENCE.md, sections 4.2 to 4.6 and 6: what Label, Shortest, Regret, Rank and Robust come to, for every image, list, number and length of a lent slice. Assumes nothing.
 use Rattle.std.specs.Prelude.{ℕ, ◌+◌, ◌*◌, not, ◌&&◌, ◌||◌, List, [], ◌∷◌, map, leb, ltb, eqb, length, get_or, take, replicate}
 use Rattle.std.proofs.Math.Option.{Option, none, some}
-use Rattle.terms.specs.Lists.{numbers}
 use Rattle.terms.specs.Network.{Graph, Net, column, common}
 use Rattle.terms.specs.Paths.{Route, cost, paths}
 use Rattle.terms.specs.Ranking.{ranked}
