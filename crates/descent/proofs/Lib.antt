@@ -4,6 +4,7 @@ pub mod OrderLaws
 pub mod DescentLaws
 pub mod LimitLaws
 pub mod RowLaws
+pub mod SampleLaws
 -- for the proofs of this crate
 mod StarLaws
 mod TableLaws

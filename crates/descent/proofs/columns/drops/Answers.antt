@@ -1,7 +1,6 @@
 -- `columns::drops`: no column before u drops the node. Assumes nothing.
 use native.Mathlib.Omega.{arith}
 use mathlib.Core.Path.{sym, ◌∙◌}
-use mathlib.Core.Bool.{false}
 use borrow.Author.Count.{below_more}
 use Rattle.descent.specs.Rows.{in_column, in_none}
 use Rattle.descent.proofs.columns.drops.Goals as goal
