@@ -1,11 +1,11 @@
 -- `laying::lay_out`: the parent's place is lower, and what is laid out for it is the first part. Assumes nothing.
-use Prim.Native.Nat.{ℕ, ◌+◌, ◌-◌, ◌≤◌, min}
+use Prim.Native.Nat.{ℕ, ◌+◌, ◌-◌, min}
 use native.Mathlib.Omega.{arith}
 use mathlib.Core.Path.{◌≡◌, sym, ◌∙◌, ap}
 use mathlib.Core.List.{List, ◌++◌}
-use lib.ListN.{length, take, drop, length-set}
+use lib.ListN.{take, drop}
 use Rattle.candidates.specs.Slots.{entry_at}
-use Rattle.candidates.specs.Routes.{size, route_at, Rooted}
+use Rattle.candidates.specs.Routes.{route_at, Rooted}
 use Rattle.candidates.proofs.RootedLaws.{rooted_fits, parent_rooted, parent_lower, leaves_early, taken, taken_start, taken_parent, taken_length, route_is}
 use Rattle.candidates.proofs.LayingLaws.{both_laid, start_laid, parent_laid}
 use Rattle.candidates.proofs.laying.+lay_out.Goals as goal

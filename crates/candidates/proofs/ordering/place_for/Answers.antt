@@ -2,7 +2,7 @@
 use Prim.Native.Nat.{◌+◌, ◌-◌, ◌/◌}
 use native.Mathlib.Omega.{arith}
 use mathlib.Core.Path.{◌≡◌, sym, ◌∙◌}
-use mathlib.Core.Bool.{true, false}
+use mathlib.Core.Bool.{true}
 use Rattle.candidates.specs.Slots.{entries}
 use Rattle.candidates.specs.Placing.{ahead}
 use Rattle.candidates.proofs.EntryLaws.{length_entries}

@@ -1,10 +1,8 @@
 -- `selecting::number_left`: of the first i indices those that the map leaves stand at the front. Assumes nothing.
-use Prim.Native.Nat.{ℕ, ◌+◌, ◌<◌}
+use Prim.Native.Nat.{ℕ, ◌<◌}
 use native.Mathlib.Omega.{arith}
 use mathlib.Core.Path.{◌≡◌, refl, sym, ◌∙◌, ap}
 use mathlib.Core.Bool.{true, false, not}
-use mathlib.Core.List.{List}
-use mathlib.Core.Logic.{⊎_elim}
 use lib.ListN.{length, get_or, set, length-set}
 use lib.Seq.{take_all}
 use Rattle.terms.specs.Lists.{keep, numbers}

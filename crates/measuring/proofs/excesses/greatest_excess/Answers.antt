@@ -2,7 +2,6 @@
 use Prim.Native.Nat.{◌+◌}
 use native.Mathlib.Omega.{arith}
 use mathlib.Core.Path.{◌≡◌}
-use mathlib.Core.Logic.{⊎_elim}
 use lib.ListN.{length}
 use Rattle.terms.proofs.LargestLaws.{none_so_far, raised, kept, greatest}
 use Rattle.measuring.specs.Steps.{excesses}

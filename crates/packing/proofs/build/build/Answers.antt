@@ -7,7 +7,7 @@ use mathlib.Core.List.{[], ◌∷◌, ◌++◌}
 use lib.ListN.{length, take, drop}
 use Rattle.image.specs.Bytes.{encode}
 use Rattle.image.specs.Outcome.{gives}
-use Rattle.image.specs.Layout.{half, costs_start}
+use Rattle.image.specs.Layout.{half}
 use Rattle.image.specs.Refusals.{verdict}
 use Rattle.packing.specs.Calls.{build_outcome}
 use Rattle.image.proofs.OutcomeLaws.{outcome_fault, outcome_sound, after_fault, after_sound}

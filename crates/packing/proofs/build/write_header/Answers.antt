@@ -2,7 +2,6 @@
 use Prim.Native.Nat.{ℕ}
 use mathlib.Core.Path.{subst}
 use Rattle.packing.proofs.BuildLaws.{Wrote, header_written}
-use Rattle.image.specs.Layout.{costs_start}
 use Rattle.packing.proofs.build.write_header.Goals as goal
 
 pub returns : goal.returns
