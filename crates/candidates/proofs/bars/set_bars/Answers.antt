@@ -9,7 +9,6 @@ use Rattle.candidates.proofs.EntryLaws.{length_entries, entries_at}
 use Rattle.candidates.proofs.RootedLaws.{rooted_fits, parent_rooted, parent_lower, leaves_late, leaves_early}
 use Rattle.candidates.proofs.BarLaws.{bars_own, bars_root, bars_parent, marked_step}
 use Rattle.candidates.proofs.bars.set_bars.Goals as goal
-use Rattle.candidates.proofs.bars.set_bars.Goals as goal
 
 pub loop-n-init : goal.loop-n-init
 loop-n-init c = (refl, omega arith, c.requires.rooted.0, c.requires.place_bound.0, c.requires.place_bound.1, refl)
@@ -26,7 +25,8 @@ returns-then-at-shared c =
     let inside : c.loop-n.p < length (entries c.args.n c.args.work.now (c.args.place + 1)) = omega (arith, length_entries c.args.n c.args.work.now (c.args.place + 1)) in
     let stands : get_or (entries c.args.n c.args.work.now (c.args.place + 1)) c.loop-n.p none ≡ (entry_at c.args.n c.args.work.now c.loop-n.p) = entries_at c.args.n c.args.work.now (c.args.place + 1) c.loop-n.p (omega arith) in
     let node_is : c.node_at.result ≡ get_or (entry_at c.args.n c.args.work.now c.loop-n.p).tail (c.args.at - (entry_at c.args.n c.args.work.now c.loop-n.p).shared) 0 = c.node_at.ensures ∙ ap (λ (x : ℕ). get_or (entry_at c.args.n c.args.work.now c.loop-n.p).tail (c.args.at - x) 0) c.shared_at-shared.ensures in
-    marked_step c.args.value c.loop-n.flags (bars_own c.requires.rooted.0.family c.loop-n.p c.args.at inside (entry_at c.args.n c.args.work.now c.loop-n.p) stands (λ z. c.if-at-shared.true (z ∙ sym c.shared_at-shared.ensures))) node_is ∙ c.loop-n.invariant.5
+    let apart : c.args.at ≡ c.shared_at-shared.result → ⊥ = c.if-at-shared.true in
+    marked_step c.args.value c.loop-n.flags (bars_own c.requires.rooted.0.family c.loop-n.p c.args.at inside (entry_at c.args.n c.args.work.now c.loop-n.p) stands (λ z. apart (z ∙ sym c.shared_at-shared.ensures))) node_is ∙ c.loop-n.invariant.5
 
 pub parent_at-parent-requires : goal.parent_at-parent-requires
 parent_at-parent-requires c = c.loop-n.invariant.2.readable

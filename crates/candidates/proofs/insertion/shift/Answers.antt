@@ -9,7 +9,7 @@ use Rattle.candidates.proofs.InsertionLaws.{Moving, moving_none, moving_more, sh
 use Rattle.candidates.proofs.insertion.shift.Goals as goal
 
 pub loop-p-init : goal.loop-p-init
-loop-p-init c = (c.requires.0, omega arith, refl, moving_none)
+loop-p-init c = (omega arith, omega arith, refl, moving_none)
 
 pub loop-p-preserved : goal.loop-p-preserved
 unfolding order

@@ -91,7 +91,8 @@ returns-then-image-image_length c =
     let fields_is : c.fields_right.result ≡ fields_right c.args.image.now (arc_count c.args.image.now) (column_count c.args.image.now) = rw (← m_is, ← k_is) c.fields_right.ensures in
     let fields : fields_right c.args.image.now (arc_count c.args.image.now) (column_count c.args.image.now) ≡ true = sym fields_is ∙ c.if-not-fields_right.false in
     let total_is : c.image_length.result ≡ total (arc_count c.args.image.now) (column_count c.args.image.now) = rw (← m_is, ← k_is) c.image_length.ensures in
-    rw (row_5 c.args.latest c.args.image.now long taken ranges fields (λ w. c.if-image-image_length.true (w ∙ sym total_is)))
+    let other : length c.args.image.now ≡ c.image_length.result → ⊥ = c.if-image-image_length.true in
+    rw (row_5 c.args.latest c.args.image.now long taken ranges fields (λ w. other (w ∙ sym total_is)))
 
 pub returns : goal.returns
 unfolding outcome edition node_count arc_count column_count

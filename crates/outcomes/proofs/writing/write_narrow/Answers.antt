@@ -14,7 +14,7 @@ pub loop-i-init : goal.loop-i-init
 loop-i-init c = (omega arith, refl, refl)
 
 pub narrow-requires : goal.narrow-requires
-narrow-requires c = c.requires.by_index (c.loop-i.i + 1) c.loop-i-test.true
+narrow-requires c = c.requires.by_index (c.loop-i.i + 1) (omega arith)
 
 pub loop-i-preserved : goal.loop-i-preserved
 loop-i-preserved c =
