@@ -13,7 +13,7 @@ use borrow.Author.Tests.{eqb-true, eq-eqb, le-leb}
 use Rattle.terms.specs.Lists.{◌∈◌, keep}
 use Rattle.terms.specs.Network.{Arc, Net, mark, heads, linked, weight, cost_column, column, Cost, at_most, marked, Admitted}
 use Rattle.terms.specs.Paths.{paths}
-use Rattle.terms.specs.Regret.{best, label}
+use Rattle.terms.specs.Regret.{best}
 use Rattle.terms.proofs.ListLaws.{split, clash, get_or_mem, take_map, mem_length}
 use Rattle.terms.proofs.PathLaws.{column_within, path_listed}
 use Rattle.terms.proofs.GraphLaws.{linked_arc, arc_linked, carried}
