@@ -2,15 +2,14 @@
 ghost use Rattle.std.specs.Prelude.{◌≡◌, length};
 ghost use Rattle.image.specs.Outcome.{sound};
 ghost use Rattle.image.specs.Layout.{net_of};
-ghost use Rattle.loading.specs.Accepted.{Accepted};
 ghost use Rattle.image.specs.Calls.{image_fault};
 ghost use Rattle.star.specs.Found.{sought};
 ghost use Rattle.arc_calls.specs.Calls.{FindsArc, find_of, find_outcome};
 ghost use Rattle.arc_calls.specs.Answers.{found};
 
 use image::check::check;
-use image::{Checked, Refusal, Sizes};
-use loading::{number_arcs, read_arcs};
+use image::{Checked, Refusal};
+use loading::{Network, number_arcs, read_arcs};
 use star::{Arc, find_arc};
 
 // Find's answer: the arc's index, or that there is none; and at how many records it looked.
@@ -23,34 +22,33 @@ pub enum Found {
 
 // The arc from tail to head in an accepted image, with room for the indices, tails and heads of its arcs.
 fn seek_in(
-    image: &[u8],
-    sizes: Sizes,
+    network: &Network<'_>,
     tail: u32,
     head: u32,
     arcs: &mut [u16],
     tails: &mut [u16],
     heads: &mut [u16],
 ) -> Arc
-    requires { Accepted image.now sizes × (length arcs.old ≡ sizes.m) × (length tails.old ≡ sizes.m) × (length heads.old ≡ sizes.m) }
-    ensures { sought result ≡ find_of image.now tail head }
+    requires arcs_len { length arcs.old ≡ network.now.sizes.m }
+    requires tails_len { length tails.old ≡ network.now.sizes.m }
+    requires heads_len { length heads.old ≡ network.now.sizes.m }
+    ensures { sought result ≡ find_of network.now.image.now tail head }
 {
     number_arcs(arcs);
-    read_arcs(image, sizes, arcs, tails, heads);
+    read_arcs(network, arcs, tails, heads);
     find_arc(tails, heads, 0, arcs.len(), tail as usize, head as usize)
 }
 
 // The same, with room made for them.
-fn seek_arc(image: &[u8], sizes: Sizes, tail: u32, head: u32) -> Arc
-    requires { Accepted image.now sizes }
-    ensures { sought result ≡ find_of image.now tail head }
+fn seek_arc(network: &Network<'_>, tail: u32, head: u32) -> Arc
+    ensures { sought result ≡ find_of network.now.image.now tail head }
 {
     let mut arcs = [0u16; 1000];
     let mut tails = [0u16; 1000];
     let mut heads = [0u16; 1000];
-    let m = sizes.m as usize;
+    let m = network.sizes.m as usize;
     seek_in(
-        image,
-        sizes,
+        network,
         tail,
         head,
         &mut arcs[..m],
@@ -68,7 +66,8 @@ pub fn find(image: &[u8], tail: u32, head: u32) -> Found
     let Checked::Network(sizes) = answer else {
         return Found::Refused(answer.refusal());
     };
-    let arc = seek_arc(image, sizes, tail, head);
+    let network = Network { image, sizes };
+    let arc = seek_arc(&network, tail, head);
     match arc {
         Arc::At(index, looks) => Found::At(index as u32, looks),
         Arc::Nothing(looks) => Found::Nothing(looks),

@@ -3,19 +3,17 @@ ghost use Rattle.std.specs.Prelude.{◌≡◌, length};
 ghost use Rattle.terms.specs.Network.{column};
 ghost use Rattle.branching.specs.Branches.{everything};
 ghost use Rattle.branching.specs.Found.{Extent, FirstFound};
-ghost use Rattle.image.specs.Layout.{net_of};
-ghost use Rattle.loading.specs.Accepted.{Accepted, InColumn, Ends};
+ghost use Rattle.loading.specs.Networks.{net};
+ghost use Rattle.loading.specs.Accepted.{InColumn, Ends};
 ghost use Rattle.loading.specs.Loaded.{Room};
 
 use branching::{Found, shortest as first_path};
-use image::Sizes;
-use loading::load;
+use loading::{Network, load};
 
 // The first path from start to goal in column u, laid out in route, with room for all that the
 // search needs.
 fn find_in(
-    image: &[u8],
-    sizes: Sizes,
+    network: &Network<'_>,
     u: u32,
     start: u16,
     goal: usize,
@@ -24,34 +22,35 @@ fn find_in(
     overall: &mut [u64],
     route: &mut [u16],
 ) -> Found
-    requires accepted { Accepted image.now sizes × InColumn image.now u × Ends (net_of image.now).nodes start goal }
-    requires room { Room sizes.n sizes.m star.old weights.old overall.old }
-    requires route_len { length route.old ≡ (net_of image.now).nodes }
+    requires column { InColumn network.now.image.now u }
+    requires ends { Ends (net network.now).nodes start goal }
+    requires room { Room network.now.sizes.n network.now.sizes.m star.old weights.old overall.old }
+    requires route_len { length route.old ≡ (net network.now).nodes }
     ensures extent { Extent 1 route.new result }
-    ensures first_found { FirstFound (column (net_of image.now) u) start goal (everything start) route.new result }
+    ensures first_found { FirstFound (column (net network.now) u) start goal (everything start) route.new result }
 {
-    let m = load(image, sizes, u, goal, star, weights, overall);
+    let m = load(network, u, goal, star, weights, overall);
     let places = overall.len();
     let size = 3 * m + places + 1 + places;
     first_path(&star[..size], &weights[..m], start, goal, overall, route)
 }
 
 // The same, with room made for it.
-pub fn find(image: &[u8], sizes: Sizes, u: u32, start: u32, goal: u32, route: &mut [u16]) -> Found
-    requires accepted { Accepted image.now sizes × InColumn image.now u × Ends (net_of image.now).nodes start goal }
-    requires route_len { length route.old ≡ (net_of image.now).nodes }
+pub fn find(network: &Network<'_>, u: u32, start: u32, goal: u32, route: &mut [u16]) -> Found
+    requires column { InColumn network.now.image.now u }
+    requires ends { Ends (net network.now).nodes start goal }
+    requires route_len { length route.old ≡ (net network.now).nodes }
     ensures extent { Extent 1 route.new result }
-    ensures first_found { FirstFound (column (net_of image.now) u) start goal (everything start) route.new result }
+    ensures first_found { FirstFound (column (net network.now) u) start goal (everything start) route.new result }
 {
     let mut star = [0u16; 3403];
     let mut weights = [0u32; 1000];
     let mut overall = [0u64; 201];
-    let arcs = sizes.m as usize;
-    let places = sizes.n as usize + 1;
+    let arcs = network.sizes.m as usize;
+    let places = network.sizes.n as usize + 1;
     let size = 3 * arcs + places + 1 + places;
     find_in(
-        image,
-        sizes,
+        network,
         u,
         start as u16,
         goal as usize,

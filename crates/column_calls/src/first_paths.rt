@@ -7,16 +7,15 @@ ghost use Rattle.labels.specs.Labels.{far};
 ghost use Rattle.listing.specs.Rows.{rows_of};
 ghost use Rattle.ranking.specs.Ranking.{Problem};
 ghost use Rattle.image.specs.Outcome.{sound, after};
-ghost use Rattle.image.specs.Layout.{net_of};
-ghost use Rattle.loading.specs.Accepted.{Accepted, InColumn, Ends};
+ghost use Rattle.loading.specs.Networks.{net};
+ghost use Rattle.loading.specs.Accepted.{InColumn, Ends};
 ghost use Rattle.loading.specs.Loaded.{Room};
 ghost use Rattle.outcomes.specs.Calls.{rank_of, rank_rows_of, rank_costs_of};
 ghost use Rattle.column_calls.specs.Slices.{ListSlices, ListedWork};
 
-use image::Sizes;
 use labels::FAR;
 use listing::{clear, write_rows};
-use loading::load;
+use loading::{Network, load};
 use ranking::{Query, rank_paths};
 
 // Writes the first paths from start to goal in a loaded column, as many as there are slots or all, and
@@ -47,8 +46,7 @@ fn list_loaded(
 // The same from the image on, with room for all that the search needs. Nothing is touched if there is
 // no path.
 fn list_in(
-    image: &[u8],
-    sizes: Sizes,
+    network: &Network<'_>,
     u: u32,
     query: Query,
     star: &mut [u16],
@@ -58,15 +56,16 @@ fn list_in(
     rows: &mut [u16],
     costs: &mut [u32],
 ) -> usize
-    requires accepted { Accepted image.now sizes × InColumn image.now u × Ends (net_of image.now).nodes query.start query.goal }
-    requires n_value { (query.n ≡ sizes.n) × (query.limit ≡ far) × Room sizes.n sizes.m star.old weights.old overall.old }
+    requires column { InColumn network.now.image.now u }
+    requires ends { Ends (net network.now).nodes query.start query.goal }
+    requires n_value { (query.n ≡ network.now.sizes.n) × (query.limit ≡ far) × Room network.now.sizes.n network.now.sizes.m star.old weights.old overall.old }
     requires list_slices { ListSlices query.n query.slots rows.old costs.old work.old }
-    ensures value { result ≡ length (rank_of image.now u query.start query.goal query.slots) }
-    ensures rows_after { rows.new ≡ after sound (rank_rows_of image.now u query.start query.goal query.slots) rows.old }
-    ensures costs_after { costs.new ≡ after sound (rank_costs_of image.now u query.start query.goal query.slots) costs.old }
+    ensures value { result ≡ length (rank_of network.now.image.now u query.start query.goal query.slots) }
+    ensures rows_after { rows.new ≡ after sound (rank_rows_of network.now.image.now u query.start query.goal query.slots) rows.old }
+    ensures costs_after { costs.new ≡ after sound (rank_costs_of network.now.image.now u query.start query.goal query.slots) costs.old }
     ensures listed_work { ListedWork result work.old work.new }
 {
-    let m = load(image, sizes, u, query.goal, star, weights, overall);
+    let m = load(network, u, query.goal, star, weights, overall);
     let start = query.start as usize;
     if overall[start] == FAR {
         return 0;
@@ -86,8 +85,7 @@ fn list_in(
 
 // The same, with room made for it.
 pub fn list(
-    image: &[u8],
-    sizes: Sizes,
+    network: &Network<'_>,
     u: u32,
     start: u32,
     goal: u32,
@@ -96,18 +94,19 @@ pub fn list(
     costs: &mut [u32],
     work: &mut [u32],
 ) -> usize
-    requires accepted { Accepted image.now sizes × InColumn image.now u × Ends (net_of image.now).nodes start goal }
-    requires list_slices { ListSlices (net_of image.now).nodes wanted rows.old costs.old work.old }
-    ensures value { result ≡ length (rank_of image.now u start goal wanted) }
-    ensures rows_after { rows.new ≡ after sound (rank_rows_of image.now u start goal wanted) rows.old }
-    ensures costs_after { costs.new ≡ after sound (rank_costs_of image.now u start goal wanted) costs.old }
+    requires column { InColumn network.now.image.now u }
+    requires ends { Ends (net network.now).nodes start goal }
+    requires list_slices { ListSlices (net network.now).nodes wanted rows.old costs.old work.old }
+    ensures value { result ≡ length (rank_of network.now.image.now u start goal wanted) }
+    ensures rows_after { rows.new ≡ after sound (rank_rows_of network.now.image.now u start goal wanted) rows.old }
+    ensures costs_after { costs.new ≡ after sound (rank_costs_of network.now.image.now u start goal wanted) costs.old }
     ensures listed_work { ListedWork result work.old work.new }
 {
     let mut star = [0u16; 3403];
     let mut weights = [0u32; 1000];
     let mut overall = [0u64; 201];
-    let arcs = sizes.m as usize;
-    let n = sizes.n as usize;
+    let arcs = network.sizes.m as usize;
+    let n = network.sizes.n as usize;
     let places = n + 1;
     let size = 3 * arcs + places + 1 + places;
     let query = Query {
@@ -118,8 +117,7 @@ pub fn list(
         limit: FAR,
     };
     list_in(
-        image,
-        sizes,
+        network,
         u,
         query,
         &mut star[..size],

@@ -1,17 +1,17 @@
 // Label: for each node the least cost to the goal.
 ghost use Rattle.std.specs.Prelude.{◌≡◌, ◌++◌, ◌+◌, ◌≤◌, ◌<◌, length, drop};
 ghost use Rattle.image.specs.Outcome.{after, outcome};
-ghost use Rattle.image.specs.Layout.{net_of};
 ghost use Rattle.image.specs.Calls.{sizes};
 ghost use Rattle.image.specs.Answers.{checked};
 ghost use Rattle.column_calls.specs.Answers.{labelled};
 ghost use Rattle.outcomes.specs.Calls.{label_fault, label_outcome, labels_of};
-ghost use Rattle.loading.specs.Accepted.{Accepted, Node, InColumn};
+ghost use Rattle.loading.specs.Networks.{net};
+ghost use Rattle.loading.specs.Accepted.{Node, InColumn};
 ghost use Rattle.loading.specs.Loaded.{Room};
 
 use image::check::check;
-use image::{Checked, Refusal, Sizes, is_node};
-use loading::load;
+use image::{Checked, Refusal, is_node};
+use loading::{Network, load};
 use outcomes::{is_column, write_narrow};
 
 // Label's answer.
@@ -43,8 +43,7 @@ fn check_label(image: &[u8], column: u32, goal: u32, room: usize) -> Checked
 
 // Writes the labels of the column, with room for its graph and the exact labels.
 fn write_labels_in(
-    image: &[u8],
-    sizes: Sizes,
+    network: &Network<'_>,
     column: u32,
     goal: u32,
     star: &mut [u16],
@@ -52,29 +51,30 @@ fn write_labels_in(
     exact: &mut [u64],
     labels: &mut [u32],
 )
-    requires accepted { Accepted image.now sizes × InColumn image.now column × Node (net_of image.now).nodes goal }
-    requires room { Room sizes.n sizes.m star.old weights.old exact.old × ((net_of image.now).nodes ≤ length labels.old) }
-    ensures { labels.new ≡ labels_of image.now column goal ++ drop (net_of image.now).nodes labels.old }
+    requires column { InColumn network.now.image.now column }
+    requires goal { Node (net network.now).nodes goal }
+    requires room { Room network.now.sizes.n network.now.sizes.m star.old weights.old exact.old × ((net network.now).nodes ≤ length labels.old) }
+    ensures { labels.new ≡ labels_of network.now.image.now column goal ++ drop (net network.now).nodes labels.old }
 {
-    load(image, sizes, column, goal as usize, star, weights, exact);
+    load(network, column, goal as usize, star, weights, exact);
     write_narrow(exact, labels);
 }
 
 // Writes the labels of the column.
-fn write_labels(image: &[u8], sizes: Sizes, column: u32, goal: u32, labels: &mut [u32])
-    requires accepted { Accepted image.now sizes × InColumn image.now column × Node (net_of image.now).nodes goal }
-    requires image_in_bounds { (net_of image.now).nodes ≤ length labels.old }
-    ensures { labels.new ≡ labels_of image.now column goal ++ drop (net_of image.now).nodes labels.old }
+fn write_labels(network: &Network<'_>, column: u32, goal: u32, labels: &mut [u32])
+    requires column { InColumn network.now.image.now column }
+    requires goal { Node (net network.now).nodes goal }
+    requires image_in_bounds { (net network.now).nodes ≤ length labels.old }
+    ensures { labels.new ≡ labels_of network.now.image.now column goal ++ drop (net network.now).nodes labels.old }
 {
     let mut star = [0u16; 3403];
     let mut weights = [0u32; 1000];
     let mut exact = [0u64; 201];
-    let arcs = sizes.m as usize;
-    let places = sizes.n as usize + 1;
+    let arcs = network.sizes.m as usize;
+    let places = network.sizes.n as usize + 1;
     let size = 3 * arcs + places + 1 + places;
     write_labels_in(
-        image,
-        sizes,
+        network,
         column,
         goal,
         &mut star[..size],
@@ -93,6 +93,7 @@ pub fn label(image: &[u8], column: u32, goal: u32, labels: &mut [u32]) -> Labell
     let Checked::Network(sizes) = answer else {
         return Labelled::Refused(answer.refusal());
     };
-    write_labels(image, sizes, column, goal, labels);
+    let network = Network { image, sizes };
+    write_labels(&network, column, goal, labels);
     Labelled::Written
 }

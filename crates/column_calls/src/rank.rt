@@ -1,17 +1,18 @@
 // Rank: the first paths of the ranking order.
 ghost use Rattle.std.specs.Prelude.{◌≡◌, [], ◌∷◌, length};
 ghost use Rattle.image.specs.Outcome.{outcome, after};
-ghost use Rattle.image.specs.Layout.{net_of};
 ghost use Rattle.image.specs.Calls.{sizes};
 ghost use Rattle.image.specs.Answers.{checked};
 ghost use Rattle.column_calls.specs.Answers.{listed};
 ghost use Rattle.outcomes.specs.Calls.{path_row, rank_rows, rank_fault, rank_of, rank_rows_of, rank_costs_of, rank_outcome, cleared};
-ghost use Rattle.loading.specs.Accepted.{Accepted, InColumn, Ends};
+ghost use Rattle.loading.specs.Networks.{net};
+ghost use Rattle.loading.specs.Accepted.{InColumn, Ends};
 ghost use Rattle.outcomes.specs.Demands.{Kept2};
 ghost use Rattle.column_calls.specs.Slices.{ListSlices};
 
 use super::first_paths::list;
-use image::{Checked, Refusal, Sizes};
+use image::{Checked, Refusal};
+use loading::Network;
 use outcomes::check_ranking;
 
 // Rank's answer.
@@ -52,8 +53,7 @@ fn check_rank(
 
 // Row 15, and the paths. Whether there is one is decided before anything is written.
 fn write_ranked(
-    image: &[u8],
-    sizes: Sizes,
+    network: &Network<'_>,
     column: u32,
     start: u32,
     goal: u32,
@@ -62,14 +62,15 @@ fn write_ranked(
     costs: &mut [u32],
     work: &mut [u32],
 ) -> Listed
-    requires accepted { Accepted image.now sizes × InColumn image.now column × Ends (net_of image.now).nodes start goal }
-    requires list_slices { ListSlices (net_of image.now).nodes wanted rows.old costs.old work.old }
-    ensures result_value { listed result ≡ outcome (path_row image.now column start goal) (length (rank_of image.now column start goal wanted) ∷ []) }
-    ensures rows_after { rows.new ≡ after (path_row image.now column start goal) (rank_rows_of image.now column start goal wanted) rows.old }
-    ensures costs_after { costs.new ≡ after (path_row image.now column start goal) (rank_costs_of image.now column start goal wanted) costs.old }
-    ensures work_after { work.new ≡ cleared (path_row image.now column start goal) work.old }
+    requires column { InColumn network.now.image.now column }
+    requires ends { Ends (net network.now).nodes start goal }
+    requires list_slices { ListSlices (net network.now).nodes wanted rows.old costs.old work.old }
+    ensures result_value { listed result ≡ outcome (path_row network.now.image.now column start goal) (length (rank_of network.now.image.now column start goal wanted) ∷ []) }
+    ensures rows_after { rows.new ≡ after (path_row network.now.image.now column start goal) (rank_rows_of network.now.image.now column start goal wanted) rows.old }
+    ensures costs_after { costs.new ≡ after (path_row network.now.image.now column start goal) (rank_costs_of network.now.image.now column start goal wanted) costs.old }
+    ensures work_after { work.new ≡ cleared (path_row network.now.image.now column start goal) work.old }
 {
-    let count = list(image, sizes, column, start, goal, wanted, rows, costs, work);
+    let count = list(network, column, start, goal, wanted, rows, costs, work);
     if count == 0 {
         return Listed::Refused(Refusal::NoPath);
     }
@@ -106,5 +107,6 @@ pub fn rank(
     let Checked::Network(sizes) = answer else {
         return Listed::Refused(answer.refusal());
     };
-    write_ranked(image, sizes, column, start, goal, wanted, rows, costs, work)
+    let network = Network { image, sizes };
+    write_ranked(&network, column, start, goal, wanted, rows, costs, work)
 }

@@ -2,16 +2,17 @@
 ghost use Rattle.std.specs.Prelude.{◌≡◌, ◌≤◌, length};
 ghost use Rattle.terms.specs.Network.{column};
 ghost use Rattle.image.specs.Outcome.{outcome, after};
-ghost use Rattle.image.specs.Layout.{net_of};
 ghost use Rattle.image.specs.Calls.{sizes};
 ghost use Rattle.image.specs.Answers.{checked};
 ghost use Rattle.column_calls.specs.Answers.{routed};
 ghost use Rattle.outcomes.specs.Calls.{shortest_rows, path_row, shortest_fault, shortest_of, shortest_values, shortest_outcome};
-ghost use Rattle.loading.specs.Accepted.{Accepted, InColumn, Ends};
+ghost use Rattle.loading.specs.Networks.{net};
+ghost use Rattle.loading.specs.Accepted.{InColumn, Ends};
 
 use super::first_path::find;
 use branching::Found;
-use image::{Checked, Refusal, Sizes};
+use image::{Checked, Refusal};
+use loading::Network;
 use outcomes::{check_search, write_path};
 
 // Shortest's answer.
@@ -38,20 +39,20 @@ fn check_shortest(image: &[u8], column: u32, start: u32, goal: u32, room: usize)
 
 // Row 15, and the path, with room to lay it out before it is written.
 fn write_first(
-    image: &[u8],
-    sizes: Sizes,
+    network: &Network<'_>,
     column: u32,
     start: u32,
     goal: u32,
     route: &mut [u16],
     path: &mut [u16],
 ) -> Routed
-    requires accepted { Accepted image.now sizes × InColumn image.now column × Ends (net_of image.now).nodes start goal }
-    requires route_len { (length route.old ≡ (net_of image.now).nodes) × ((net_of image.now).nodes ≤ length path.old) }
-    ensures result_value { routed result ≡ outcome (path_row image.now column start goal) (shortest_values image.now column start goal) }
-    ensures path_after { path.new ≡ after (path_row image.now column start goal) (shortest_of image.now column start goal) path.old }
+    requires column { InColumn network.now.image.now column }
+    requires ends { Ends (net network.now).nodes start goal }
+    requires route_len { (length route.old ≡ (net network.now).nodes) × ((net network.now).nodes ≤ length path.old) }
+    ensures result_value { routed result ≡ outcome (path_row network.now.image.now column start goal) (shortest_values network.now.image.now column start goal) }
+    ensures path_after { path.new ≡ after (path_row network.now.image.now column start goal) (shortest_of network.now.image.now column start goal) path.old }
 {
-    let found = find(image, sizes, column, start, goal, route);
+    let found = find(network, column, start, goal, route);
     let Found::Tail(len, cost) = found else {
         return Routed::Refused(Refusal::NoPath);
     };
@@ -61,29 +62,21 @@ fn write_first(
 
 // The same, with room made for the path.
 fn write_shortest(
-    image: &[u8],
-    sizes: Sizes,
+    network: &Network<'_>,
     column: u32,
     start: u32,
     goal: u32,
     path: &mut [u16],
 ) -> Routed
-    requires accepted { Accepted image.now sizes × InColumn image.now column × Ends (net_of image.now).nodes start goal }
-    requires image_in_bounds { (net_of image.now).nodes ≤ length path.old }
-    ensures result_value { routed result ≡ outcome (path_row image.now column start goal) (shortest_values image.now column start goal) }
-    ensures path_after { path.new ≡ after (path_row image.now column start goal) (shortest_of image.now column start goal) path.old }
+    requires column { InColumn network.now.image.now column }
+    requires ends { Ends (net network.now).nodes start goal }
+    requires image_in_bounds { (net network.now).nodes ≤ length path.old }
+    ensures result_value { routed result ≡ outcome (path_row network.now.image.now column start goal) (shortest_values network.now.image.now column start goal) }
+    ensures path_after { path.new ≡ after (path_row network.now.image.now column start goal) (shortest_of network.now.image.now column start goal) path.old }
 {
     let mut route = [0u16; 200];
-    let places = sizes.n as usize;
-    write_first(
-        image,
-        sizes,
-        column,
-        start,
-        goal,
-        &mut route[..places],
-        path,
-    )
+    let places = network.sizes.n as usize;
+    write_first(network, column, start, goal, &mut route[..places], path)
 }
 
 // REFERENCE, section 4.3.
@@ -95,5 +88,6 @@ pub fn shortest(image: &[u8], column: u32, start: u32, goal: u32, path: &mut [u1
     let Checked::Network(sizes) = answer else {
         return Routed::Refused(answer.refusal());
     };
-    write_shortest(image, sizes, column, start, goal, path)
+    let network = Network { image, sizes };
+    write_shortest(&network, column, start, goal, path)
 }

@@ -1,3 +1,4 @@
 pub mod Accepted
+pub mod Networks
 pub mod Selected
 pub mod Loaded

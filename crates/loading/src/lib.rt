@@ -3,6 +3,10 @@
 #![tactic(auto)]
 
 mod filling;
+mod network;
+
+pub use network::Network;
+
 mod loading;
 mod reading;
 mod selecting;

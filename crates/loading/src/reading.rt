@@ -2,25 +2,25 @@
 ghost use Rattle.std.specs.Prelude.{◌≡◌, map, ◌+◌, ◌*◌, ◌-◌, ◌≤◌, length};
 ghost use Rattle.terms.specs.Network.{cost_column};
 ghost use Rattle.image.specs.Bytes.{decode};
-ghost use Rattle.image.specs.Layout.{costs_start, net_of};
-ghost use Rattle.loading.specs.Accepted.{Accepted, InColumn};
+ghost use Rattle.image.specs.Layout.{costs_start};
+ghost use Rattle.loading.specs.Accepted.{InColumn};
+ghost use Rattle.loading.specs.Networks.{net};
 ghost use Rattle.loading.specs.Selected.{Indices, at_places, selected, in_a_row};
 
-use image::{Sizes, costs_start, read_costs, read16, read32};
+use crate::network::Network;
+use image::{costs_start, read_costs, read16, read32};
 
 // The tails and heads of the arcs at these indices.
-pub fn read_arcs(image: &[u8], sizes: Sizes, kept: &[u16], tails: &mut [u16], heads: &mut [u16])
-    requires accepted { Accepted image.now sizes × Indices sizes.m kept.now }
+pub fn read_arcs(network: &Network<'_>, kept: &[u16], tails: &mut [u16], heads: &mut [u16])
+    requires indices { Indices network.now.sizes.m kept.now }
     requires tails_len { (length tails.old ≡ length kept.now) × (length heads.old ≡ length kept.now) }
-    ensures tails_after { tails.new ≡ map (λ a. a.0) (selected kept.now (net_of image.now)).arcs }
-    ensures heads_after { heads.new ≡ map (λ a. a.1) (selected kept.now (net_of image.now)).arcs }
+    ensures tails_after { tails.new ≡ map (λ a. a.0) (selected kept.now (net network.now)).arcs }
+    ensures heads_after { heads.new ≡ map (λ a. a.1) (selected kept.now (net network.now)).arcs }
 {
-    let mut i = 0;
-    while i < kept.len() {
-        let arc = kept[i] as usize;
-        tails[i] = read16(image, 24 + 4 * arc) as u16;
-        heads[i] = read16(image, 26 + 4 * arc) as u16;
-        i += 1;
+    for (i, &index) in kept.iter().enumerate() {
+        let arc = index as usize;
+        tails[i] = read16(network.image, 24 + 4 * arc) as u16;
+        heads[i] = read16(network.image, 26 + 4 * arc) as u16;
     }
 }
 
@@ -37,11 +37,9 @@ fn pick_costs(column: &[u8], m: usize, kept: &[u16], weights: &mut [u32])
     requires { (4 * m ≤ length column.now) × (m ≤ 1000) × Indices m kept.now × (length weights.old ≡ length kept.now) }
     ensures { weights.new ≡ at_places kept.now (decode 4 m column.now) }
 {
-    let mut i = 0;
-    while i < kept.len() {
-        let arc = kept[i] as usize;
+    for (i, &index) in kept.iter().enumerate() {
+        let arc = index as usize;
         weights[i] = read32(column, 4 * arc);
-        i += 1;
     }
 }
 
@@ -59,27 +57,28 @@ fn copy_costs(column: &[u8], m: usize, kept: &[u16], weights: &mut [u32])
 
 // The costs of column u for the arcs at these indices. The column is a part of the image that starts in
 // its middle.
-pub fn read_column(image: &[u8], sizes: Sizes, u: u32, kept: &[u16], weights: &mut [u32])
-    requires { Accepted image.now sizes × InColumn image.now u × Indices sizes.m kept.now × (length weights.old ≡ length kept.now) }
-    ensures { weights.new ≡ at_places kept.now (cost_column (net_of image.now) u) }
+pub fn read_column(network: &Network<'_>, u: u32, kept: &[u16], weights: &mut [u32])
+    requires column { InColumn network.now.image.now u }
+    requires indices { Indices network.now.sizes.m kept.now }
+    requires weights_len { length weights.old ≡ length kept.now }
+    ensures { weights.new ≡ at_places kept.now (cost_column (net network.now) u) }
 {
-    let m = sizes.m as usize;
-    let start = column_start(sizes.m, u);
-    copy_costs(&image[start..start + 4 * m], m, kept, weights);
+    let m = network.sizes.m as usize;
+    let start = column_start(network.sizes.m, u);
+    copy_costs(&network.image[start..start + 4 * m], m, kept, weights);
 }
 
 // The costs of all columns for the arcs at these indices, one column after the other.
-pub fn read_columns(image: &[u8], sizes: Sizes, kept: &[u16], costs: &mut [u32])
-    requires { Accepted image.now sizes × Indices sizes.m kept.now × (length costs.old ≡ length kept.now * sizes.k) }
-    ensures { costs.new ≡ in_a_row (selected kept.now (net_of image.now)).columns }
+pub fn read_columns(network: &Network<'_>, kept: &[u16], costs: &mut [u32])
+    requires indices { Indices network.now.sizes.m kept.now }
+    requires costs_len { length costs.old ≡ length kept.now * network.now.sizes.k }
+    ensures { costs.new ≡ in_a_row (selected kept.now (net network.now)).columns }
 {
     let m = kept.len();
-    let k = sizes.k;
-    let mut u = 0;
-    while u < k {
+    let k = network.sizes.k;
+    for u in 0..k {
         let from = (u as usize) * m;
         let to = from + m;
-        u += 1;
-        read_column(image, sizes, u, kept, &mut costs[from..to]);
+        read_column(network, u + 1, kept, &mut costs[from..to]);
     }
 }

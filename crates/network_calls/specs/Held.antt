@@ -6,8 +6,7 @@ use Rattle.terms.specs.Paths.{Route, OpenPath}
 use Rattle.terms.specs.Regret as terms
 use Rattle.image.specs.Outcome.{Fault}
 use Rattle.image.specs.Layout.{net_of}
-use Rattle.image.specs.declared.check.Sizes.{Sizes}
-use Rattle.loading.specs.Accepted.{Accepted, InColumn, Ends}
+use Rattle.loading.specs.Accepted.{InColumn, Ends}
 use Rattle.loading.specs.Loaded.{star_size}
 use Rattle.measuring.specs.Columns.{network, column_costs}
 use Rattle.choosing.specs.Counting.{Priced}
@@ -15,9 +14,8 @@ use Rattle.outcomes.specs.Calls.{no_path_row}
 use Rattle.choosing.specs.declared.task.Task.{Task}
 
 -- ---- what is asked
--- image b is accepted and has these sizes, and the task is one in its network
-pub record Asked (b : List ℕ) (sizes : Sizes) (task : Task) : Type 0 where
-  pub accepted : Accepted b sizes
+-- the task is one in the network of image b
+pub record Asked (b : List ℕ) (task : Task) : Type 0 where
   pub in_column : InColumn b task.column
   pub ends : Ends (net_of b).nodes task.start task.goal
   pub nodes_are : task.n ≡ (net_of b).nodes

@@ -12,20 +12,20 @@ ghost use Rattle.choosing.specs.Answers.{chosen_length, answered};
 ghost use Rattle.choosing.specs.Counting.{Priced};
 ghost use Rattle.choosing.specs.Counting as counting;
 ghost use Rattle.image.specs.Outcome.{gives, sound, outcome, after};
-ghost use Rattle.image.specs.Layout.{net_of};
 ghost use Rattle.network_calls.specs.Answers.{decided};
 ghost use Rattle.outcomes.specs.Calls.{robust_of, chosen, robust_values, cleared};
-ghost use Rattle.loading.specs.Accepted.{Accepted, InColumn, Ends};
+ghost use Rattle.loading.specs.Accepted.{InColumn, Ends};
+ghost use Rattle.loading.specs.Networks.{net};
 ghost use Rattle.loading.specs.Loaded.{Shared};
 ghost use Rattle.measuring.specs.Bests.{Labelled};
 ghost use Rattle.network_calls.specs.Held.{Asked, no_open_path, ChoiceRoom, ChoiceSlices};
 
-use super::pricing::{Extent, Trip, price};
+use super::pricing::{Trip, price};
 use choosing::{Answer, Task, least_regret};
-use image::{Refusal, Sizes};
+use image::Refusal;
 use labels::FAR;
 use listing::clear;
-use loading::{label_nodes, load_common_left};
+use loading::{Network, label_nodes, load_common_left};
 
 // A path with the least figure among those counted.
 #[derive(Clone, Copy)]
@@ -96,9 +96,9 @@ fn choose_priced(
 
 // The same where there is a path: the column's labels are at hand, and the bests are searched for.
 fn choose_reached(
-    image: &[u8],
+    network: &Network<'_>,
     closed: &[u64],
-    extent: Extent,
+    m: usize,
     task: Task,
     star: &[u16],
     costs: &[u32],
@@ -107,21 +107,21 @@ fn choose_reached(
     work: &mut [u32],
     path: &mut [u16],
 ) -> Decided
-    requires asked { Asked image.now extent.sizes task × Shared (without closed.now (net_of image.now)) extent.m star.now costs.now }
-    requires labelled { Labelled task.n extent.m star.now costs.now task.goal task.column overall.now × (get_or overall.now task.start 0 ≡ far → ⊥) }
-    requires bests_len { (length bests.old ≡ extent.sizes.k) × ChoiceSlices (net_of image.now).nodes task.wanted path.old work.old }
-    ensures result_value { decided result ≡ gives (robust_values (robust (without closed.now (net_of image.now)) task.column task.start task.goal task.wanted)) }
-    ensures path_after { path.new ≡ after sound (chosen (robust (without closed.now (net_of image.now)) task.column task.start task.goal task.wanted)) path.old }
+    requires asked { Asked network.now.image.now task }
+    requires shared { Shared (without closed.now (net network.now)) m star.now costs.now }
+    requires labelled { Labelled task.n m star.now costs.now task.goal task.column overall.now × (get_or overall.now task.start 0 ≡ far → ⊥) }
+    requires bests_len { (length bests.old ≡ network.now.sizes.k) × ChoiceSlices (net network.now).nodes task.wanted path.old work.old }
+    ensures result_value { decided result ≡ gives (robust_values (robust (without closed.now (net network.now)) task.column task.start task.goal task.wanted)) }
+    ensures path_after { path.new ≡ after sound (chosen (robust (without closed.now (net network.now)) task.column task.start task.goal task.wanted)) path.old }
     ensures work_after { work.new ≡ replicate (length work.old) 0 }
 {
-    let m = extent.m;
     let r = task.column;
     let trip = Trip {
         start: task.start as usize,
         goal: task.goal,
         labelled: r,
     };
-    price(image, closed, extent, trip, star, costs, overall, bests);
+    price(network, closed, m, trip, star, costs, overall, bests);
     let from = (r - 1) * m;
     let to = from + m;
     choose_priced(
@@ -139,9 +139,9 @@ fn choose_reached(
 // The same with the arcs that are open in every column at hand, and all columns for them. Nothing is touched
 // if there is no path.
 fn choose_shared(
-    image: &[u8],
+    network: &Network<'_>,
     closed: &[u64],
-    extent: Extent,
+    m: usize,
     task: Task,
     star: &[u16],
     costs: &[u32],
@@ -150,13 +150,13 @@ fn choose_shared(
     work: &mut [u32],
     path: &mut [u16],
 ) -> Decided
-    requires asked { Asked image.now extent.sizes task × Shared (without closed.now (net_of image.now)) extent.m star.now costs.now }
-    requires overall_len { (length overall.old ≡ extent.sizes.n + 1) × (length bests.old ≡ extent.sizes.k) × ChoiceSlices (net_of image.now).nodes task.wanted path.old work.old }
-    ensures result_value { decided result ≡ outcome (no_open_path (without closed.now (net_of image.now)) task.column task.start task.goal) (robust_values (robust (without closed.now (net_of image.now)) task.column task.start task.goal task.wanted)) }
-    ensures path_after { path.new ≡ after (no_open_path (without closed.now (net_of image.now)) task.column task.start task.goal) (chosen (robust (without closed.now (net_of image.now)) task.column task.start task.goal task.wanted)) path.old }
-    ensures work_after { work.new ≡ cleared (no_open_path (without closed.now (net_of image.now)) task.column task.start task.goal) work.old }
+    requires asked { Asked network.now.image.now task }
+    requires shared { Shared (without closed.now (net network.now)) m star.now costs.now }
+    requires overall_len { (length overall.old ≡ network.now.sizes.n + 1) × (length bests.old ≡ network.now.sizes.k) × ChoiceSlices (net network.now).nodes task.wanted path.old work.old }
+    ensures result_value { decided result ≡ outcome (no_open_path (without closed.now (net network.now)) task.column task.start task.goal) (robust_values (robust (without closed.now (net network.now)) task.column task.start task.goal task.wanted)) }
+    ensures path_after { path.new ≡ after (no_open_path (without closed.now (net network.now)) task.column task.start task.goal) (chosen (robust (without closed.now (net network.now)) task.column task.start task.goal task.wanted)) path.old }
+    ensures work_after { work.new ≡ cleared (no_open_path (without closed.now (net network.now)) task.column task.start task.goal) work.old }
 {
-    let m = extent.m;
     let r = task.column;
     let start = task.start as usize;
     let from = (r - 1) * m;
@@ -166,15 +166,14 @@ fn choose_shared(
         return Decided::Refused(Refusal::NoPath);
     }
     choose_reached(
-        image, closed, extent, task, star, costs, overall, bests, work, path,
+        network, closed, m, task, star, costs, overall, bests, work, path,
     )
 }
 
 // The same from the image on, with room for all that the search needs.
 fn choose_in(
-    image: &[u8],
+    network: &Network<'_>,
     closed: &[u64],
-    sizes: Sizes,
     task: Task,
     star: &mut [u16],
     costs: &mut [u32],
@@ -183,21 +182,21 @@ fn choose_in(
     work: &mut [u32],
     path: &mut [u16],
 ) -> Decided
-    requires asked { Asked image.now sizes task × ChoiceRoom sizes.n sizes.m sizes.k star.old costs.old bests.old }
-    requires overall_len { (length overall.old ≡ sizes.n + 1) × ChoiceSlices (net_of image.now).nodes task.wanted path.old work.old }
-    ensures result_value { decided result ≡ outcome (no_open_path (without closed.now (net_of image.now)) task.column task.start task.goal) (robust_values (robust (without closed.now (net_of image.now)) task.column task.start task.goal task.wanted)) }
-    ensures path_after { path.new ≡ after (no_open_path (without closed.now (net_of image.now)) task.column task.start task.goal) (chosen (robust (without closed.now (net_of image.now)) task.column task.start task.goal task.wanted)) path.old }
-    ensures work_after { work.new ≡ cleared (no_open_path (without closed.now (net_of image.now)) task.column task.start task.goal) work.old }
+    requires asked { Asked network.now.image.now task }
+    requires choice_room { ChoiceRoom network.now.sizes.n network.now.sizes.m network.now.sizes.k star.old costs.old bests.old }
+    requires overall_len { (length overall.old ≡ network.now.sizes.n + 1) × ChoiceSlices (net network.now).nodes task.wanted path.old work.old }
+    ensures result_value { decided result ≡ outcome (no_open_path (without closed.now (net network.now)) task.column task.start task.goal) (robust_values (robust (without closed.now (net network.now)) task.column task.start task.goal task.wanted)) }
+    ensures path_after { path.new ≡ after (no_open_path (without closed.now (net network.now)) task.column task.start task.goal) (chosen (robust (without closed.now (net network.now)) task.column task.start task.goal task.wanted)) path.old }
+    ensures work_after { work.new ≡ cleared (no_open_path (without closed.now (net network.now)) task.column task.start task.goal) work.old }
 {
-    let m = load_common_left(image, sizes, closed, star, costs);
-    let extent = Extent { sizes, m };
+    let m = load_common_left(network, closed, star, costs);
     let places = overall.len();
     let size = 3 * m + places + 1 + places;
     let all = m * bests.len();
     choose_shared(
-        image,
+        network,
         closed,
-        extent,
+        m,
         task,
         &star[..size],
         &costs[..all],
@@ -210,8 +209,7 @@ fn choose_in(
 
 // The same, with room made for it.
 pub fn choose_left(
-    image: &[u8],
-    sizes: Sizes,
+    network: &Network<'_>,
     closed: &[u64],
     r: u32,
     start: u32,
@@ -220,19 +218,20 @@ pub fn choose_left(
     path: &mut [u16],
     work: &mut [u32],
 ) -> Decided
-    requires accepted { Accepted image.now sizes × InColumn image.now r × Ends (net_of image.now).nodes start goal }
-    requires choice_slices { ChoiceSlices (net_of image.now).nodes wanted path.old work.old }
-    ensures result_value { decided result ≡ outcome (no_open_path (without closed.now (net_of image.now)) r start goal) (robust_values (robust (without closed.now (net_of image.now)) r start goal wanted)) }
-    ensures path_after { path.new ≡ after (no_open_path (without closed.now (net_of image.now)) r start goal) (chosen (robust (without closed.now (net_of image.now)) r start goal wanted)) path.old }
-    ensures work_after { work.new ≡ cleared (no_open_path (without closed.now (net_of image.now)) r start goal) work.old }
+    requires column { InColumn network.now.image.now r }
+    requires ends { Ends (net network.now).nodes start goal }
+    requires choice_slices { ChoiceSlices (net network.now).nodes wanted path.old work.old }
+    ensures result_value { decided result ≡ outcome (no_open_path (without closed.now (net network.now)) r start goal) (robust_values (robust (without closed.now (net network.now)) r start goal wanted)) }
+    ensures path_after { path.new ≡ after (no_open_path (without closed.now (net network.now)) r start goal) (chosen (robust (without closed.now (net network.now)) r start goal wanted)) path.old }
+    ensures work_after { work.new ≡ cleared (no_open_path (without closed.now (net network.now)) r start goal) work.old }
 {
     let mut star = [0u16; 3403];
     let mut costs = [0u32; 8000];
     let mut overall = [0u64; 201];
     let mut bests = [0u64; 8];
-    let m = sizes.m as usize;
-    let k = sizes.k as usize;
-    let n = sizes.n as usize;
+    let m = network.sizes.m as usize;
+    let k = network.sizes.k as usize;
+    let n = network.sizes.n as usize;
     let places = n + 1;
     let size = 3 * m + places + 1 + places;
     let all = m * k;
@@ -244,9 +243,8 @@ pub fn choose_left(
         wanted: wanted as usize,
     };
     choose_in(
-        image,
+        network,
         closed,
-        sizes,
         task,
         &mut star[..size],
         &mut costs[..all],
@@ -259,8 +257,7 @@ pub fn choose_left(
 
 // The same of the whole image: no arc is closed beside it.
 pub fn choose(
-    image: &[u8],
-    sizes: Sizes,
+    network: &Network<'_>,
     r: u32,
     start: u32,
     goal: u32,
@@ -268,12 +265,13 @@ pub fn choose(
     path: &mut [u16],
     work: &mut [u32],
 ) -> Decided
-    requires accepted { Accepted image.now sizes × InColumn image.now r × Ends (net_of image.now).nodes start goal }
-    requires choice_slices { ChoiceSlices (net_of image.now).nodes wanted path.old work.old }
-    ensures result_value { decided result ≡ outcome (no_open_path (net_of image.now) r start goal) (robust_values (robust_of image.now r start goal wanted)) }
-    ensures path_after { path.new ≡ after (no_open_path (net_of image.now) r start goal) (chosen (robust_of image.now r start goal wanted)) path.old }
-    ensures work_after { work.new ≡ cleared (no_open_path (net_of image.now) r start goal) work.old }
+    requires column { InColumn network.now.image.now r }
+    requires ends { Ends (net network.now).nodes start goal }
+    requires choice_slices { ChoiceSlices (net network.now).nodes wanted path.old work.old }
+    ensures result_value { decided result ≡ outcome (no_open_path (net network.now) r start goal) (robust_values (robust_of network.now.image.now r start goal wanted)) }
+    ensures path_after { path.new ≡ after (no_open_path (net network.now) r start goal) (chosen (robust_of network.now.image.now r start goal wanted)) path.old }
+    ensures work_after { work.new ≡ cleared (no_open_path (net network.now) r start goal) work.old }
 {
     let none = [0u64; 0];
-    choose_left(image, sizes, &none, r, start, goal, wanted, path, work)
+    choose_left(network, &none, r, start, goal, wanted, path, work)
 }

@@ -3,18 +3,18 @@ ghost use Rattle.std.specs.Prelude.{◌≡◌, [], ◌∷◌, ◌+◌, length};
 ghost use Rattle.terms.specs.Paths.{OpenPath};
 ghost use Rattle.terms.specs.Regret as terms;
 ghost use Rattle.image.specs.Outcome.{outcome};
-ghost use Rattle.image.specs.Layout.{net_of};
-ghost use Rattle.loading.specs.Accepted.{Accepted, Ends};
+ghost use Rattle.loading.specs.Accepted.{Ends};
+ghost use Rattle.loading.specs.Networks.{net};
 ghost use Rattle.loading.specs.Loaded.{Shared};
 ghost use Rattle.outcomes.specs.Calls.{list_row};
 ghost use Rattle.network_calls.specs.Answers.{regretted};
 ghost use Rattle.network_calls.specs.Held.{ChoiceRoom};
 
 use super::node_list::{NodeList, check_list};
-use super::pricing::{Extent, Trip, price};
-use image::{Checked, Refusal, Sizes};
+use super::pricing::{Trip, price};
+use image::Refusal;
 use labels::FAR;
-use loading::load_common;
+use loading::{Network, load_common};
 use measuring::measure;
 
 // A path's greatest regret, and the lowest-numbered column that has it.
@@ -33,8 +33,7 @@ pub enum Regretted {
 
 // Measures a path that is open in every column, with the m arcs that are so at hand, and all columns for them.
 pub fn measure_path(
-    image: &[u8],
-    sizes: Sizes,
+    network: &Network<'_>,
     m: usize,
     start: usize,
     goal: usize,
@@ -43,20 +42,20 @@ pub fn measure_path(
     costs: &[u32],
     bests: &mut [u64],
 ) -> Measure
-    requires accepted { Accepted image.now sizes × Shared (net_of image.now) m star.now costs.now × (length bests.old ≡ sizes.k) }
-    requires ends { Ends (net_of image.now).nodes start goal × OpenPath (net_of image.now) start goal nodes.now }
-    ensures { (result.figure ≡ terms.figure (net_of image.now) start goal nodes.now) × (result.worst ≡ terms.worst (net_of image.now) start goal nodes.now) }
+    requires shared { Shared (net network.now) m star.now costs.now }
+    requires bests_len { length bests.old ≡ network.now.sizes.k }
+    requires ends { Ends (net network.now).nodes start goal × OpenPath (net network.now) start goal nodes.now }
+    ensures { (result.figure ≡ terms.figure (net network.now) start goal nodes.now) × (result.worst ≡ terms.worst (net network.now) start goal nodes.now) }
 {
     let none = [0u64; 0];
-    let extent = Extent { sizes, m };
     // no column is labelled
     let trip = Trip {
         start,
         goal,
         labelled: 0,
     };
-    price(image, &none, extent, trip, star, costs, &none, bests);
-    let n = sizes.n as usize;
+    price(network, &none, m, trip, star, costs, &none, bests);
+    let n = network.sizes.n as usize;
     // no figure comes near to it
     let found = measure(star, m, costs, bests, n, nodes, FAR);
     Measure {
@@ -67,8 +66,7 @@ pub fn measure_path(
 
 // Row 14, and the measure where it does not apply.
 fn measure_shared(
-    image: &[u8],
-    sizes: Sizes,
+    network: &Network<'_>,
     m: usize,
     start: u32,
     goal: u32,
@@ -77,17 +75,24 @@ fn measure_shared(
     costs: &[u32],
     bests: &mut [u64],
 ) -> Regretted
-    requires accepted { Accepted image.now sizes × Shared (net_of image.now) m star.now costs.now × (length bests.old ≡ sizes.k) }
-    requires ends { Ends (net_of image.now).nodes start goal }
-    ensures { regretted result ≡ outcome (list_row (terms.open_fault (net_of image.now) start goal nodes.now)) (terms.figure (net_of image.now) start goal nodes.now ∷ terms.worst (net_of image.now) start goal nodes.now ∷ []) }
+    requires shared { Shared (net network.now) m star.now costs.now }
+    requires bests_len { length bests.old ≡ network.now.sizes.k }
+    requires ends { Ends (net network.now).nodes start goal }
+    ensures { regretted result ≡ outcome (list_row (terms.open_fault (net network.now) start goal nodes.now)) (terms.figure (net network.now) start goal nodes.now ∷ terms.worst (net network.now) start goal nodes.now ∷ []) }
 {
-    let list = check_list(star, &costs[..m], sizes.n as usize, start, goal, nodes);
+    let list = check_list(
+        star,
+        &costs[..m],
+        network.sizes.n as usize,
+        start,
+        goal,
+        nodes,
+    );
     if let NodeList::Fault(place) = list {
         return Regretted::Refused(Refusal::NotAPath(place));
     }
     Regretted::Measured(measure_path(
-        image,
-        sizes,
+        network,
         m,
         start as usize,
         goal as usize,
@@ -100,8 +105,7 @@ fn measure_shared(
 
 // The same from the image on, with room for the arcs and all columns.
 fn measure_in(
-    image: &[u8],
-    sizes: Sizes,
+    network: &Network<'_>,
     start: u32,
     goal: u32,
     nodes: &[u16],
@@ -109,17 +113,16 @@ fn measure_in(
     costs: &mut [u32],
     bests: &mut [u64],
 ) -> Regretted
-    requires accepted { Accepted image.now sizes × ChoiceRoom sizes.n sizes.m sizes.k star.old costs.old bests.old }
-    requires ends { Ends (net_of image.now).nodes start goal }
-    ensures { regretted result ≡ outcome (list_row (terms.open_fault (net_of image.now) start goal nodes.now)) (terms.figure (net_of image.now) start goal nodes.now ∷ terms.worst (net_of image.now) start goal nodes.now ∷ []) }
+    requires choice_room { ChoiceRoom network.now.sizes.n network.now.sizes.m network.now.sizes.k star.old costs.old bests.old }
+    requires ends { Ends (net network.now).nodes start goal }
+    ensures { regretted result ≡ outcome (list_row (terms.open_fault (net network.now) start goal nodes.now)) (terms.figure (net network.now) start goal nodes.now ∷ terms.worst (net network.now) start goal nodes.now ∷ []) }
 {
-    let m = load_common(image, sizes, star, costs);
-    let places = sizes.n as usize + 1;
+    let m = load_common(network, star, costs);
+    let places = network.sizes.n as usize + 1;
     let size = 3 * m + places + 1 + places;
     let all = m * bests.len();
     measure_shared(
-        image,
-        sizes,
+        network,
         m,
         start,
         goal,
@@ -131,21 +134,20 @@ fn measure_in(
 }
 
 // The figure and the worst column of a node list, or the row that refuses it.
-pub fn measure_list(image: &[u8], sizes: Sizes, start: u32, goal: u32, nodes: &[u16]) -> Regretted
-    requires { Accepted image.now sizes × Ends (net_of image.now).nodes start goal }
-    ensures { regretted result ≡ outcome (list_row (terms.open_fault (net_of image.now) start goal nodes.now)) (terms.figure (net_of image.now) start goal nodes.now ∷ terms.worst (net_of image.now) start goal nodes.now ∷ []) }
+pub fn measure_list(network: &Network<'_>, start: u32, goal: u32, nodes: &[u16]) -> Regretted
+    requires { Ends (net network.now).nodes start goal }
+    ensures { regretted result ≡ outcome (list_row (terms.open_fault (net network.now) start goal nodes.now)) (terms.figure (net network.now) start goal nodes.now ∷ terms.worst (net network.now) start goal nodes.now ∷ []) }
 {
     let mut star = [0u16; 3403];
     let mut costs = [0u32; 8000];
     let mut bests = [0u64; 8];
-    let m = sizes.m as usize;
-    let k = sizes.k as usize;
-    let places = sizes.n as usize + 1;
+    let m = network.sizes.m as usize;
+    let k = network.sizes.k as usize;
+    let places = network.sizes.n as usize + 1;
     let size = 3 * m + places + 1 + places;
     let all = m * k;
     measure_in(
-        image,
-        sizes,
+        network,
         start,
         goal,
         nodes,

@@ -2,24 +2,16 @@
 ghost use Rattle.std.specs.Prelude.{◌≡◌, ◌≤◌, length};
 ghost use Rattle.terms.specs.Regret as terms;
 ghost use Rattle.closures.specs.Map.{without};
-ghost use Rattle.image.specs.Layout.{net_of};
-ghost use Rattle.loading.specs.Accepted.{Accepted, Ends};
+ghost use Rattle.loading.specs.Accepted.{Ends};
+ghost use Rattle.loading.specs.Networks.{net};
 ghost use Rattle.loading.specs.Loaded.{Room, Shared};
 ghost use Rattle.measuring.specs.Bests.{Labelled};
 ghost use Rattle.network_calls.specs.Held.{Reached, Held};
 
 use closures::closed_roads;
-use image::Sizes;
-use loading::load_left;
+use loading::{Network, load_left};
 use measuring::column_bests;
 use outcomes::narrow;
-
-// An image's sizes, and how many of the arcs that its map leaves are open in every column.
-#[derive(Clone, Copy)]
-pub struct Extent {
-    pub sizes: Sizes,
-    pub m: usize,
-}
 
 // From where to where, and the column whose labels are at hand; 0 if none is.
 #[derive(Clone, Copy)]
@@ -31,8 +23,7 @@ pub struct Trip {
 
 // The best of each column by itself: its open arcs are loaded and labelled, with room for them.
 fn own_bests_in(
-    image: &[u8],
-    sizes: Sizes,
+    network: &Network<'_>,
     closed: &[u64],
     start: usize,
     goal: usize,
@@ -41,41 +32,36 @@ fn own_bests_in(
     labels: &mut [u64],
     bests: &mut [u64],
 )
-    requires accepted { Accepted image.now sizes × Ends (net_of image.now).nodes start goal }
-    requires room { Room sizes.n sizes.m star.old weights.old labels.old × (length bests.old ≡ sizes.k) }
-    ensures { bests.new ≡ terms.bests (without closed.now (net_of image.now)) start goal }
+    requires ends { Ends (net network.now).nodes start goal }
+    requires room { Room network.now.sizes.n network.now.sizes.m star.old weights.old labels.old × (length bests.old ≡ network.now.sizes.k) }
+    ensures { bests.new ≡ terms.bests (without closed.now (net network.now)) start goal }
 {
-    let k = sizes.k;
-    let mut u = 0;
-    while u < k {
-        let at = u as usize;
-        u += 1;
-        load_left(image, sizes, closed, u, goal, star, weights, labels);
-        bests[at] = narrow(labels[start]) as u64;
+    for u in 0..network.sizes.k {
+        load_left(network, closed, u + 1, goal, star, weights, labels);
+        bests[u as usize] = narrow(labels[start]) as u64;
     }
 }
 
 // The same, with room made for them. Where no path is open in a column, the mark stands in the place of its best.
 pub fn own_bests(
-    image: &[u8],
-    sizes: Sizes,
+    network: &Network<'_>,
     closed: &[u64],
     start: usize,
     goal: usize,
     bests: &mut [u64],
 )
-    requires { Accepted image.now sizes × Ends (net_of image.now).nodes start goal × (length bests.old ≡ sizes.k) }
-    ensures { bests.new ≡ terms.bests (without closed.now (net_of image.now)) start goal }
+    requires ends { Ends (net network.now).nodes start goal }
+    requires bests_len { length bests.old ≡ network.now.sizes.k }
+    ensures { bests.new ≡ terms.bests (without closed.now (net network.now)) start goal }
 {
     let mut star = [0u16; 3403];
     let mut weights = [0u32; 1000];
     let mut labels = [0u64; 201];
-    let arcs = sizes.m as usize;
-    let places = sizes.n as usize + 1;
+    let arcs = network.sizes.m as usize;
+    let places = network.sizes.n as usize + 1;
     let size = 3 * arcs + places + 1 + places;
     own_bests_in(
-        image,
-        sizes,
+        network,
         closed,
         start,
         goal,
@@ -90,31 +76,29 @@ pub fn own_bests(
 // with all columns, and overall their labels in the labelled column, if there is one. A path that is open in
 // every column goes from start to goal. Where these are all arcs that the map leaves, one star serves all columns.
 pub fn price(
-    image: &[u8],
+    network: &Network<'_>,
     closed: &[u64],
-    extent: Extent,
+    m: usize,
     trip: Trip,
     star: &[u16],
     costs: &[u32],
     overall: &[u64],
     bests: &mut [u64],
 )
-    requires accepted { Accepted image.now extent.sizes × Shared (without closed.now (net_of image.now)) extent.m star.now costs.now }
-    requires reached { Reached (without closed.now (net_of image.now)) trip.start trip.goal × (length bests.old ≡ extent.sizes.k) }
-    requires labelled { 1 ≤ trip.labelled → Labelled extent.sizes.n extent.m star.now costs.now trip.goal trip.labelled overall.now }
-    ensures { Held (without closed.now (net_of image.now)) extent.m trip.start trip.goal star.now costs.now bests.new }
+    requires shared { Shared (without closed.now (net network.now)) m star.now costs.now }
+    requires reached { Reached (without closed.now (net network.now)) trip.start trip.goal × (length bests.old ≡ network.now.sizes.k) }
+    requires labelled { 1 ≤ trip.labelled → Labelled network.now.sizes.n m star.now costs.now trip.goal trip.labelled overall.now }
+    ensures { Held (without closed.now (net network.now)) m trip.start trip.goal star.now costs.now bests.new }
 {
-    let sizes = extent.sizes;
-    let m = extent.m;
     let start = trip.start;
     let goal = trip.goal;
-    let arcs = sizes.m as usize;
+    let arcs = network.sizes.m as usize;
     let gone = closed_roads(closed, arcs) as usize;
     if m == arcs - gone {
-        let n = sizes.n as usize;
+        let n = network.sizes.n as usize;
         let r = trip.labelled;
         column_bests(star, m, costs, overall, n, start, goal, r, bests);
     } else {
-        own_bests(image, sizes, closed, start, goal, bests);
+        own_bests(network, closed, start, goal, bests);
     }
 }

@@ -5,6 +5,7 @@ ghost use Rattle.outcomes.specs.Calls.{regret_outcome};
 
 use super::measured::{Regretted, measure_list};
 use image::Checked;
+use loading::Network;
 use outcomes::check_ends;
 
 // REFERENCE, section 4.4.
@@ -15,5 +16,6 @@ pub fn regret(image: &[u8], start: u32, goal: u32, nodes: &[u16]) -> Regretted
     let Checked::Network(sizes) = answer else {
         return Regretted::Refused(answer.refusal());
     };
-    measure_list(image, sizes, start, goal, nodes)
+    let network = Network { image, sizes };
+    measure_list(&network, start, goal, nodes)
 }

@@ -8,7 +8,8 @@ ghost use Rattle.outcomes.specs.Calls.{robust_rows, robust_fault, robust_of, cho
 ghost use Rattle.outcomes.specs.Demands.{Kept3};
 
 use super::chosen::{Decided, choose};
-use image::{Checked, Refusal, Sizes};
+use image::{Checked, Refusal};
+use loading::Network;
 use outcomes::check_ranking;
 
 // Robust's rows before 15, for slices of these lengths.
@@ -52,5 +53,6 @@ pub fn robust(
     let Checked::Network(sizes) = answer else {
         return Decided::Refused(answer.refusal());
     };
-    choose(image, sizes, column, start, goal, wanted, path, work)
+    let network = Network { image, sizes };
+    choose(&network, column, start, goal, wanted, path, work)
 }

@@ -1,8 +1,8 @@
 // Rows 15 and 19, and the answer where neither applies.
 ghost use Rattle.std.specs.Prelude.{◌≡◌, ◌+◌, ◌≤◌, length};
 ghost use Rattle.image.specs.Outcome.{outcome, after};
-ghost use Rattle.image.specs.Layout.{net_of};
-ghost use Rattle.loading.specs.Accepted.{Accepted, Ends};
+ghost use Rattle.loading.specs.Accepted.{Ends};
+ghost use Rattle.loading.specs.Networks.{net};
 ghost use Rattle.loading.specs.Loaded.{Shared};
 ghost use Rattle.network_calls.specs.Held.{Reached, ChoiceRoom};
 ghost use Rattle.search_calls.specs.Answers.{searched};
@@ -11,9 +11,9 @@ ghost use Rattle.search_calls.specs.Labelled.{Asks};
 
 use super::tables::search_image;
 use descent::{Run, Task};
-use image::{Refusal, Sizes};
+use image::Refusal;
 use labels::FAR;
-use loading::{label_nodes, load_common};
+use loading::{Network, label_nodes, load_common};
 use network_calls::measure_path;
 use outcomes::write_path;
 
@@ -36,8 +36,7 @@ pub enum Searched {
 // Row 19, and the answer where it does not apply. The slices hold the m arcs that are open in every column,
 // with all columns; a path that is open in every column goes from start to goal.
 fn answer(
-    image: &[u8],
-    sizes: Sizes,
+    network: &Network<'_>,
     task: Task,
     m: usize,
     star: &[u16],
@@ -46,32 +45,23 @@ fn answer(
     best: &mut [u16],
     path: &mut [u16],
 ) -> Searched
-    requires accepted { Accepted image.now sizes × Asks sizes task × Reached (net_of image.now) task.start task.goal }
-    requires shared { Shared (net_of image.now) m star.now costs.now × (length bests.old ≡ sizes.k) }
-    requires n_in_bounds { (sizes.n ≤ length best.old) × (sizes.n ≤ length path.old) }
-    ensures result_value { searched result ≡ outcome (limit_of image.now task.start task.goal task.limit) (search_values image.now task.start task.goal) }
-    ensures path_after { path.new ≡ after (limit_of image.now task.start task.goal task.limit) (search_path image.now task.start task.goal) path.old }
+    requires asks { Asks network.now.sizes task }
+    requires reached { Reached (net network.now) task.start task.goal }
+    requires shared { Shared (net network.now) m star.now costs.now × (length bests.old ≡ network.now.sizes.k) }
+    requires n_in_bounds { (network.now.sizes.n ≤ length best.old) × (network.now.sizes.n ≤ length path.old) }
+    ensures result_value { searched result ≡ outcome (limit_of network.now.image.now task.start task.goal task.limit) (search_values network.now.image.now task.start task.goal) }
+    ensures path_after { path.new ≡ after (limit_of network.now.image.now task.start task.goal task.limit) (search_path network.now.image.now task.start task.goal) path.old }
 {
     let limit = task.limit;
     let start = task.start as usize;
     let goal = task.goal;
-    let run = search_image(image, sizes, task, best);
+    let run = search_image(network, task, best);
     let Run::Going(held) = run else {
         return Searched::Refused(Refusal::TooManyArcs(limit));
     };
     let length = held.length;
     let tried = held.tried;
-    let found = measure_path(
-        image,
-        sizes,
-        m,
-        start,
-        goal,
-        &best[..length],
-        star,
-        costs,
-        bests,
-    );
+    let found = measure_path(network, m, start, goal, &best[..length], star, costs, bests);
     write_path(best, length, path);
     Searched::Found(Found {
         length: length as u32,
@@ -84,8 +74,7 @@ fn answer(
 // Row 15 before it: the start's label over the arcs that are open in every column. It is the same in each
 // column whether there is one.
 fn decide_shared(
-    image: &[u8],
-    sizes: Sizes,
+    network: &Network<'_>,
     task: Task,
     m: usize,
     star: &[u16],
@@ -95,24 +84,24 @@ fn decide_shared(
     best: &mut [u16],
     path: &mut [u16],
 ) -> Searched
-    requires accepted { Accepted image.now sizes × Asks sizes task × Ends (net_of image.now).nodes task.start task.goal }
-    requires shared { Shared (net_of image.now) m star.now costs.now × (length overall.old ≡ sizes.n + 1) × (length bests.old ≡ sizes.k) }
-    requires n_in_bounds { (sizes.n ≤ length best.old) × (sizes.n ≤ length path.old) }
-    ensures result_value { searched result ≡ outcome (decided_rows image.now task.start task.goal task.limit) (search_values image.now task.start task.goal) }
-    ensures path_after { path.new ≡ after (decided_rows image.now task.start task.goal task.limit) (search_path image.now task.start task.goal) path.old }
+    requires asks { Asks network.now.sizes task }
+    requires ends { Ends (net network.now).nodes task.start task.goal }
+    requires shared { Shared (net network.now) m star.now costs.now × (length overall.old ≡ network.now.sizes.n + 1) × (length bests.old ≡ network.now.sizes.k) }
+    requires n_in_bounds { (network.now.sizes.n ≤ length best.old) × (network.now.sizes.n ≤ length path.old) }
+    ensures result_value { searched result ≡ outcome (decided_rows network.now.image.now task.start task.goal task.limit) (search_values network.now.image.now task.start task.goal) }
+    ensures path_after { path.new ≡ after (decided_rows network.now.image.now task.start task.goal task.limit) (search_path network.now.image.now task.start task.goal) path.old }
 {
     label_nodes(star, &costs[..m], task.goal, overall);
     let start = task.start as usize;
     if overall[start] == FAR {
         return Searched::Refused(Refusal::NoPath);
     }
-    answer(image, sizes, task, m, star, costs, bests, best, path)
+    answer(network, task, m, star, costs, bests, best, path)
 }
 
 // The same from the image on, with room for the arcs that are open in every column, and all columns.
 fn decide_in(
-    image: &[u8],
-    sizes: Sizes,
+    network: &Network<'_>,
     task: Task,
     star: &mut [u16],
     costs: &mut [u32],
@@ -121,19 +110,19 @@ fn decide_in(
     best: &mut [u16],
     path: &mut [u16],
 ) -> Searched
-    requires accepted { Accepted image.now sizes × Asks sizes task × Ends (net_of image.now).nodes task.start task.goal }
-    requires choice_room { ChoiceRoom sizes.n sizes.m sizes.k star.old costs.old bests.old × (length overall.old ≡ sizes.n + 1) }
-    requires n_in_bounds { (sizes.n ≤ length best.old) × (sizes.n ≤ length path.old) }
-    ensures result_value { searched result ≡ outcome (decided_rows image.now task.start task.goal task.limit) (search_values image.now task.start task.goal) }
-    ensures path_after { path.new ≡ after (decided_rows image.now task.start task.goal task.limit) (search_path image.now task.start task.goal) path.old }
+    requires asks { Asks network.now.sizes task }
+    requires ends { Ends (net network.now).nodes task.start task.goal }
+    requires choice_room { ChoiceRoom network.now.sizes.n network.now.sizes.m network.now.sizes.k star.old costs.old bests.old × (length overall.old ≡ network.now.sizes.n + 1) }
+    requires n_in_bounds { (network.now.sizes.n ≤ length best.old) × (network.now.sizes.n ≤ length path.old) }
+    ensures result_value { searched result ≡ outcome (decided_rows network.now.image.now task.start task.goal task.limit) (search_values network.now.image.now task.start task.goal) }
+    ensures path_after { path.new ≡ after (decided_rows network.now.image.now task.start task.goal task.limit) (search_path network.now.image.now task.start task.goal) path.old }
 {
-    let m = load_common(image, sizes, star, costs);
+    let m = load_common(network, star, costs);
     let places = overall.len();
     let size = 3 * m + places + 1 + places;
     let all = m * bests.len();
     decide_shared(
-        image,
-        sizes,
+        network,
         task,
         m,
         &star[..size],
@@ -147,25 +136,25 @@ fn decide_in(
 
 // The same, with room made for it.
 pub fn decide(
-    image: &[u8],
-    sizes: Sizes,
+    network: &Network<'_>,
     start: u32,
     goal: u32,
     limit: u32,
     path: &mut [u16],
 ) -> Searched
-    requires { Accepted image.now sizes × Ends (net_of image.now).nodes start goal × ((net_of image.now).nodes ≤ length path.old) }
-    ensures result_value { searched result ≡ outcome (decided_rows image.now start goal limit) (search_values image.now start goal) }
-    ensures path_after { path.new ≡ after (decided_rows image.now start goal limit) (search_path image.now start goal) path.old }
+    requires ends { Ends (net network.now).nodes start goal }
+    requires path_len { (net network.now).nodes ≤ length path.old }
+    ensures result_value { searched result ≡ outcome (decided_rows network.now.image.now start goal limit) (search_values network.now.image.now start goal) }
+    ensures path_after { path.new ≡ after (decided_rows network.now.image.now start goal limit) (search_path network.now.image.now start goal) path.old }
 {
     let mut star = [0u16; 3403];
     let mut costs = [0u32; 8000];
     let mut overall = [0u64; 201];
     let mut bests = [0u64; 8];
     let mut best = [0u16; 200];
-    let m = sizes.m as usize;
-    let k = sizes.k as usize;
-    let n = sizes.n as usize;
+    let m = network.sizes.m as usize;
+    let k = network.sizes.k as usize;
+    let n = network.sizes.n as usize;
     let places = n + 1;
     let size = 3 * m + places + 1 + places;
     let all = m * k;
@@ -177,8 +166,7 @@ pub fn decide(
         limit,
     };
     decide_in(
-        image,
-        sizes,
+        network,
         task,
         &mut star[..size],
         &mut costs[..all],

@@ -9,6 +9,7 @@ ghost use Rattle.search_calls.specs.Demands.{KeptSearch};
 
 use super::deciding::{Searched, decide};
 use image::{Checked, Refusal};
+use loading::Network;
 use outcomes::check_ends;
 
 // Search's rows before 15, for a path slice of this length.
@@ -36,5 +37,6 @@ pub fn search(image: &[u8], start: u32, goal: u32, limit: u32, path: &mut [u16])
     let Checked::Network(sizes) = answer else {
         return Searched::Refused(answer.refusal());
     };
-    decide(image, sizes, start, goal, limit, path)
+    let network = Network { image, sizes };
+    decide(&network, start, goal, limit, path)
 }

@@ -1,8 +1,8 @@
 // What the search reads, from an accepted image: all arcs, all columns, and in each column the labels to the
 // goal.
 ghost use Rattle.std.specs.Prelude.{◌≡◌, ℕ, ◌+◌, ◌*◌, ◌≤◌, ◌<◌, length, get_or};
-ghost use Rattle.image.specs.Layout.{net_of};
-ghost use Rattle.loading.specs.Accepted.{Accepted, Node};
+ghost use Rattle.loading.specs.Accepted.{Node};
+ghost use Rattle.loading.specs.Networks.{net};
 ghost use Rattle.loading.specs.Loaded.{star_size};
 ghost use Rattle.network_calls.specs.Held.{Reached};
 ghost use Rattle.descent.specs.Rows.{at_row};
@@ -10,49 +10,46 @@ ghost use Rattle.descent.specs.Depth.{Outcome};
 ghost use Rattle.search_calls.specs.Labelled.{LabelRows, TableRoom, Asks};
 
 use descent::{Run, Task};
-use image::Sizes;
-use loading::{load, load_all};
+use loading::{Network, load, load_all};
 
 // Labels each node with its least cost to the goal, in each column by itself, one column after the other,
 // with room for the arcs that are open in one.
 fn label_columns_in(
-    image: &[u8],
-    sizes: Sizes,
+    network: &Network<'_>,
     goal: usize,
     star: &mut [u16],
     weights: &mut [u32],
     labels: &mut [u64],
 )
-    requires accepted { Accepted image.now sizes × Node (net_of image.now).nodes goal }
-    requires star_len { (length star.old ≡ star_size sizes.n sizes.m) × (length weights.old ≡ sizes.m) }
-    requires labels_len { length labels.old ≡ sizes.k * (sizes.n + 1) }
-    ensures { LabelRows (net_of image.now) goal sizes.k (sizes.n + 1) labels.new }
+    requires goal { Node (net network.now).nodes goal }
+    requires star_len { (length star.old ≡ star_size network.now.sizes.n network.now.sizes.m) × (length weights.old ≡ network.now.sizes.m) }
+    requires labels_len { length labels.old ≡ network.now.sizes.k * (network.now.sizes.n + 1) }
+    ensures { LabelRows (net network.now) goal network.now.sizes.k (network.now.sizes.n + 1) labels.new }
 {
-    let k = sizes.k;
-    let places = sizes.n as usize + 1;
+    let k = network.sizes.k;
+    let places = network.sizes.n as usize + 1;
     let mut u = 0;
     while u < k {
         let from = (u as usize) * places;
         let to = from + places;
         u += 1;
-        load(image, sizes, u, goal, star, weights, &mut labels[from..to]);
+        load(network, u, goal, star, weights, &mut labels[from..to]);
     }
 }
 
 // The same, with room made for them.
-fn label_columns(image: &[u8], sizes: Sizes, goal: usize, labels: &mut [u64])
-    requires accepted { Accepted image.now sizes × Node (net_of image.now).nodes goal }
-    requires labels_len { length labels.old ≡ sizes.k * (sizes.n + 1) }
-    ensures { LabelRows (net_of image.now) goal sizes.k (sizes.n + 1) labels.new }
+fn label_columns(network: &Network<'_>, goal: usize, labels: &mut [u64])
+    requires goal { Node (net network.now).nodes goal }
+    requires labels_len { length labels.old ≡ network.now.sizes.k * (network.now.sizes.n + 1) }
+    ensures { LabelRows (net network.now) goal network.now.sizes.k (network.now.sizes.n + 1) labels.new }
 {
     let mut star = [0u16; 3403];
     let mut weights = [0u32; 1000];
-    let arcs = sizes.m as usize;
-    let places = sizes.n as usize + 1;
+    let arcs = network.sizes.m as usize;
+    let places = network.sizes.n as usize + 1;
     let size = 3 * arcs + places + 1 + places;
     label_columns_in(
-        image,
-        sizes,
+        network,
         goal,
         &mut star[..size],
         &mut weights[..arcs],
@@ -74,8 +71,7 @@ fn take_bests(labels: &[u64], places: usize, start: usize, bests: &mut [u64])
 
 // Searches an image, with room for its arcs, columns, labels and bests.
 fn search_tables(
-    image: &[u8],
-    sizes: Sizes,
+    network: &Network<'_>,
     task: Task,
     star: &mut [u16],
     costs: &mut [u32],
@@ -83,35 +79,36 @@ fn search_tables(
     bests: &mut [u64],
     best: &mut [u16],
 ) -> Run
-    requires accepted { Accepted image.now sizes × Asks sizes task × Reached (net_of image.now) task.start task.goal }
-    requires table_room { TableRoom sizes.n sizes.m sizes.k star.old costs.old labels.old bests.old × (sizes.n ≤ length best.old) }
-    ensures { Outcome task.limit (net_of image.now) task.start task.goal best.new result }
+    requires asks { Asks network.now.sizes task }
+    requires reached { Reached (net network.now) task.start task.goal }
+    requires table_room { TableRoom network.now.sizes.n network.now.sizes.m network.now.sizes.k star.old costs.old labels.old bests.old × (network.now.sizes.n ≤ length best.old) }
+    ensures { Outcome task.limit (net network.now) task.start task.goal best.new result }
 {
-    load_all(image, sizes, star, costs);
-    label_columns(image, sizes, task.goal, labels);
+    load_all(network, star, costs);
+    label_columns(network, task.goal, labels);
     take_bests(labels, task.n + 1, task.start as usize, bests);
     descent::search(star, costs, labels, bests, task, best)
 }
 
 // Searches an image: the rule's own answer, and the path that goes with it in best.
-pub fn search_image(image: &[u8], sizes: Sizes, task: Task, best: &mut [u16]) -> Run
-    requires accepted { Accepted image.now sizes × Asks sizes task × Reached (net_of image.now) task.start task.goal }
-    requires n_in_bounds { sizes.n ≤ length best.old }
-    ensures { Outcome task.limit (net_of image.now) task.start task.goal best.new result }
+pub fn search_image(network: &Network<'_>, task: Task, best: &mut [u16]) -> Run
+    requires asks { Asks network.now.sizes task }
+    requires reached { Reached (net network.now) task.start task.goal }
+    requires n_in_bounds { network.now.sizes.n ≤ length best.old }
+    ensures { Outcome task.limit (net network.now) task.start task.goal best.new result }
 {
     let mut star = [0u16; 3403];
     let mut costs = [0u32; 8000];
     let mut labels = [0u64; 1608];
     let mut bests = [0u64; 8];
-    let m = sizes.m as usize;
-    let k = sizes.k as usize;
-    let places = sizes.n as usize + 1;
+    let m = network.sizes.m as usize;
+    let k = network.sizes.k as usize;
+    let places = network.sizes.n as usize + 1;
     let size = 3 * m + places + 1 + places;
     let all = m * k;
     let rows = k * places;
     search_tables(
-        image,
-        sizes,
+        network,
         task,
         &mut star[..size],
         &mut costs[..all],

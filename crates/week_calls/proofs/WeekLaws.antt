@@ -179,8 +179,8 @@ unfolding if_sound
 if_refused w v e = rw e
 
 -- ---- what a run is lent
-pub week_slices : {b : List ℕ} {sizes : Sizes} {q : Question} {work : List ℕ} → Asked b sizes q work → ChoiceSlices (net_of b).nodes q.wanted (replicate 200 0) work
-week_slices a = record { wanted_from = a.wanted_from; wanted_to = a.wanted_to; path_long = omega (arith, (admitted a.accepted).nodes_to, length-replicate {A = ℕ} 200 0); slots_long = a.slots_long }
+pub week_slices : {b : List ℕ} {sizes : Sizes} {q : Question} {work : List ℕ} → Accepted b sizes → Asked b q work → ChoiceSlices (net_of b).nodes q.wanted (replicate 200 0) work
+week_slices k a = record { wanted_from = a.wanted_from; wanted_to = a.wanted_to; path_long = omega (arith, (admitted k).nodes_to, length-replicate {A = ℕ} 200 0); slots_long = a.slots_long }
 
 -- an arc of an accepted image stands among its bytes
 pub arc_inside : {b : List ℕ} {sizes : Sizes} → Accepted b sizes → (i : ℕ) → i < sizes.m → (28 + 4 * i ≤ length b) × (length b ≤ 36024)
@@ -190,8 +190,8 @@ pub arc_read : {b : List ℕ} {sizes : Sizes} → Accepted b sizes → (i : ℕ)
 arc_read {b} a i h p e f = ap₂ (λ x y. touches (x, y) p) e f ∙ ap (λ c. touches c p) (sym (arc_at b a.passes i (omega (arith, arc_count_is a))))
 
 -- ---- the rows
-pub asked_of : {b : List ℕ} {sizes : Sizes} {work : List ℕ} (r s t K : ℕ) → Accepted b sizes → fresh_fault b r s t K (length work) ≡ sound → Asked b sizes (record { column = r; start = s; goal = t; wanted = K }) work
+pub asked_of : {b : List ℕ} {sizes : Sizes} {work : List ℕ} (r s t K : ℕ) → Accepted b sizes → fresh_fault b r s t K (length work) ≡ sound → Asked b (record { column = r; start = s; goal = t; wanted = K }) work
 unfolding fresh_fault
 asked_of {b} {work = work} r s t K a e =
     let k = ranking_sound b r s t K (length work) e in
-    record { accepted = a; in_column = record { from = k.search.from; upto = k.search.upto }; ends = k.search.ends; wanted_from = k.wanted_from; wanted_to = k.wanted_to; slots_long = slots_fit (net_of b).nodes K (length work) k.work_long }
+    record { in_column = record { from = k.search.from; upto = k.search.upto }; ends = k.search.ends; wanted_from = k.wanted_from; wanted_to = k.wanted_to; slots_long = slots_fit (net_of b).nodes K (length work) k.work_long }

@@ -1,7 +1,7 @@
 // Event: a road that closes or opens, and the state after it.
 ghost use Rattle.std.specs.Prelude.{◌≡◌, not, cond, ◌<◌, length, replicate};
 ghost use Rattle.outcomes.specs.Calls.{cleared};
-ghost use Rattle.image.specs.Layout.{net_of};
+ghost use Rattle.loading.specs.Networks.{net};
 ghost use Rattle.week_calls.specs.Asked.{Asked};
 ghost use Rattle.week_calls.specs.Weeks.{with_map, changed, next_week, event_fault, event_week, event_outcome};
 ghost use Rattle.week_calls.specs.Answers.{given};
@@ -10,8 +10,9 @@ use super::running::run;
 use super::standing::stands;
 use super::week::{Question, Tally, Week, Weekly};
 use closures::{closed_roads, is_closed, turn};
-use image::{Checked, Refusal, Sizes};
+use image::{Checked, Refusal};
 use listing::clear;
+use loading::Network;
 use outcomes::check_ranking;
 
 // The state with another map, and all else as it was.
@@ -33,16 +34,16 @@ fn moved(week: Week, closed: [u64; 16]) -> Week
 
 // The state after an event that turns over the bit of an arc: the answer stands, or it is found anew.
 fn change(
-    image: &[u8],
-    sizes: Sizes,
+    network: &Network<'_>,
     asked: Question,
     week: Week,
     arc: usize,
     close: bool,
     work: &mut [u32],
 ) -> Week
-    requires { Asked image.now sizes asked work.old × (arc < sizes.m) }
-    ensures value { result ≡ changed (net_of image.now) asked.column asked.start asked.goal asked.wanted week arc close }
+    requires asked { Asked network.now.image.now asked work.old }
+    requires arc { arc < network.now.sizes.m }
+    ensures value { result ≡ changed (net network.now) asked.column asked.start asked.goal asked.wanted week arc close }
     ensures work_after { work.new ≡ replicate (length work.old) 0 }
 {
     let words = week.closed;
@@ -50,12 +51,12 @@ fn change(
     if close {
         let start = asked.start as usize;
         let goal = asked.goal as usize;
-        if stands(image, sizes, start, goal, week, next, arc) {
+        if stands(network, start, goal, week, next, arc) {
             clear(work);
             return moved(week, next);
         }
     }
-    run(image, sizes, asked, next, work)
+    run(network, asked, next, work)
 }
 
 // Whether an event turns over the bit of an arc: it closes an open one, or opens a closed one.
@@ -70,22 +71,22 @@ fn turns(was_closed: bool, close: bool) -> bool
 
 // The state after an event. One that closes a closed arc or opens an open one changes nothing.
 fn follow(
-    image: &[u8],
-    sizes: Sizes,
+    network: &Network<'_>,
     asked: Question,
     week: Week,
     arc: usize,
     close: bool,
     work: &mut [u32],
 ) -> Week
-    requires { Asked image.now sizes asked work.old × (arc < sizes.m) }
-    ensures value { result ≡ next_week (net_of image.now) asked.column asked.start asked.goal asked.wanted week arc close }
+    requires asked { Asked network.now.image.now asked work.old }
+    requires arc { arc < network.now.sizes.m }
+    ensures value { result ≡ next_week (net network.now) asked.column asked.start asked.goal asked.wanted week arc close }
     ensures work_after { work.new ≡ replicate (length work.old) 0 }
 {
     let words = week.closed;
     let closed = is_closed(&words, arc);
     if turns(closed, close) {
-        return change(image, sizes, asked, week, arc, close, work);
+        return change(network, asked, week, arc, close, work);
     }
     clear(work);
     week
@@ -126,7 +127,8 @@ pub fn event(
         goal,
         wanted,
     };
-    let after = follow(image, sizes, asked, week, arc as usize, close, work);
+    let network = Network { image, sizes };
+    let after = follow(&network, asked, week, arc as usize, close, work);
     let words = after.closed;
     let roads = closed_roads(&words, sizes.m as usize);
     Weekly {

@@ -8,6 +8,7 @@ ghost use Rattle.week_calls.specs.Promise.{KeptWeek};
 use super::running::run;
 use super::week::{Question, Tally, Week, Weekly};
 use image::Checked;
+use loading::Network;
 use outcomes::check_ranking;
 
 // A state that holds nothing.
@@ -54,7 +55,8 @@ pub fn fresh(
         goal,
         wanted,
     };
-    let week = run(image, sizes, asked, [0u64; 16], work);
+    let network = Network { image, sizes };
+    let week = run(&network, asked, [0u64; 16], work);
     Weekly {
         week,
         tally: Tally::ClosedRoads(0),

@@ -1,13 +1,13 @@
 // A full run: Robust on the image without the closed arcs.
 ghost use Rattle.std.specs.Prelude.{◌≡◌, length, replicate};
-ghost use Rattle.image.specs.Layout.{net_of};
+ghost use Rattle.loading.specs.Networks.{net};
 ghost use Rattle.week_calls.specs.Weeks.{run_week};
 ghost use Rattle.week_calls.specs.Asked.{Asked};
 ghost use Rattle.week_calls.specs.Answers.{made};
 
 use super::week::{Question, Week};
-use image::Sizes;
 use listing::clear;
+use loading::Network;
 use network_calls::{Decided, choose_left};
 
 // Robust's answer as a state, with the route that it has written.
@@ -49,15 +49,14 @@ fn hold(closed: [u64; 16], route: [u16; 200], answer: Decided) -> Week
 }
 
 // The state with these closed arcs, made anew. The workspace is cleared.
-pub fn run(image: &[u8], sizes: Sizes, asked: Question, closed: [u64; 16], work: &mut [u32]) -> Week
-    requires { Asked image.now sizes asked work.old }
-    ensures value { result ≡ run_week (net_of image.now) asked.column asked.start asked.goal asked.wanted closed }
+pub fn run(network: &Network<'_>, asked: Question, closed: [u64; 16], work: &mut [u32]) -> Week
+    requires { Asked network.now.image.now asked work.old }
+    ensures value { result ≡ run_week (net network.now) asked.column asked.start asked.goal asked.wanted closed }
     ensures work_after { work.new ≡ replicate (length work.old) 0 }
 {
     let mut route = [0u16; 200];
     let answer = choose_left(
-        image,
-        sizes,
+        network,
         &closed,
         asked.column,
         asked.start,

@@ -1,21 +1,21 @@
 // Whether the current answer stands when an arc is closed.
 ghost use Rattle.std.specs.Prelude.{◌≡◌, ◌<◌, min, length, get_or};
 ghost use Rattle.terms.specs.Regret as terms;
-ghost use Rattle.image.specs.Layout.{net_of};
 ghost use Rattle.closures.specs.Map.{without};
 ghost use Rattle.closures.specs.Standing as standing;
-ghost use Rattle.loading.specs.Accepted.{Accepted, Ends};
+ghost use Rattle.loading.specs.Accepted.{Ends};
+ghost use Rattle.loading.specs.Networks.{net};
 ghost use Rattle.week_calls.specs.Weeks.{stands};
 
 use super::week::Week;
 use closures::{alike, touches};
-use image::{Sizes, read16};
+use image::read16;
+use loading::Network;
 use network_calls::own_bests;
 
 // Whether each column has the same best with two maps of closed arcs, with room for the bests.
 fn same_bests_in(
-    image: &[u8],
-    sizes: Sizes,
+    network: &Network<'_>,
     old: &[u64],
     new: &[u64],
     start: usize,
@@ -23,33 +23,25 @@ fn same_bests_in(
     before: &mut [u64],
     after: &mut [u64],
 ) -> bool
-    requires accepted { Accepted image.now sizes × Ends (net_of image.now).nodes start goal }
-    requires before_len { (length before.old ≡ sizes.k) × (length after.old ≡ sizes.k) }
-    ensures { result ≡ standing.alike (terms.bests (without old.now (net_of image.now)) start goal) (terms.bests (without new.now (net_of image.now)) start goal) }
+    requires ends { Ends (net network.now).nodes start goal }
+    requires before_len { (length before.old ≡ network.now.sizes.k) × (length after.old ≡ network.now.sizes.k) }
+    ensures { result ≡ standing.alike (terms.bests (without old.now (net network.now)) start goal) (terms.bests (without new.now (net network.now)) start goal) }
 {
-    own_bests(image, sizes, old, start, goal, before);
-    own_bests(image, sizes, new, start, goal, after);
+    own_bests(network, old, start, goal, before);
+    own_bests(network, new, start, goal, after);
     alike(before, after)
 }
 
 // The same, with room made for them.
-fn same_bests(
-    image: &[u8],
-    sizes: Sizes,
-    old: &[u64],
-    new: &[u64],
-    start: usize,
-    goal: usize,
-) -> bool
-    requires { Accepted image.now sizes × Ends (net_of image.now).nodes start goal }
-    ensures { result ≡ standing.alike (terms.bests (without old.now (net_of image.now)) start goal) (terms.bests (without new.now (net_of image.now)) start goal) }
+fn same_bests(network: &Network<'_>, old: &[u64], new: &[u64], start: usize, goal: usize) -> bool
+    requires { Ends (net network.now).nodes start goal }
+    ensures { result ≡ standing.alike (terms.bests (without old.now (net network.now)) start goal) (terms.bests (without new.now (net network.now)) start goal) }
 {
     let mut before = [0u64; 8];
     let mut after = [0u64; 8];
-    let k = sizes.k as usize;
+    let k = network.sizes.k as usize;
     same_bests_in(
-        image,
-        sizes,
+        network,
         old,
         new,
         start,
@@ -70,36 +62,36 @@ fn capped(length: u32) -> usize
 }
 
 // Whether a route goes by the arc at an index.
-fn touched(image: &[u8], sizes: Sizes, arc: usize, route: &[u16]) -> bool
-    requires { Accepted image.now sizes × (arc < sizes.m) }
-    ensures { result ≡ standing.touches (get_or (net_of image.now).arcs arc (0, 0)) route.now }
+fn touched(network: &Network<'_>, arc: usize, route: &[u16]) -> bool
+    requires { arc < network.now.sizes.m }
+    ensures { result ≡ standing.touches (get_or (net network.now).arcs arc (0, 0)) route.now }
 {
-    let tail = read16(image, 24 + 4 * arc) as u16;
-    let head = read16(image, 26 + 4 * arc) as u16;
+    let tail = read16(network.image, 24 + 4 * arc) as u16;
+    let head = read16(network.image, 26 + 4 * arc) as u16;
     touches(tail, head, route)
 }
 
 // Whether the answer stands where the map becomes `next` by the closure of an arc.
 pub fn stands(
-    image: &[u8],
-    sizes: Sizes,
+    network: &Network<'_>,
     start: usize,
     goal: usize,
     week: Week,
     next: [u64; 16],
     arc: usize,
 ) -> bool
-    requires { Accepted image.now sizes × Ends (net_of image.now).nodes start goal × (arc < sizes.m) }
-    ensures { result ≡ stands (net_of image.now) start goal week next arc }
+    requires ends { Ends (net network.now).nodes start goal }
+    requires arc { arc < network.now.sizes.m }
+    ensures { result ≡ stands (net network.now) start goal week next arc }
 {
     if week.state != 1 {
         return false;
     }
     let count = capped(week.length);
     let route = week.route;
-    if touched(image, sizes, arc, &route[..count]) {
+    if touched(network, arc, &route[..count]) {
         return false;
     }
     let words = week.closed;
-    same_bests(image, sizes, &words, &next, start, goal)
+    same_bests(network, &words, &next, start, goal)
 }

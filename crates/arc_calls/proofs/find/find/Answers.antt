@@ -14,10 +14,10 @@ unfolding find_outcome
 returns-in_default c =
     record { result_value = ap refused (c.refusal.ensures _ c.in_default.is) ∙ sym (outcome_fault _ (rejected _ (sym (ap checked c.in_default.is) ∙ c.check-answer.ensures))); finds_arc = finds_arc _ _ _ }
 
-pub seek_arc-arc-requires : goal.seek_arc-arc-requires
-seek_arc-arc-requires c =
+pub invariant_of-network : goal.invariant_of-network
+invariant_of-network c =
     let known : Accepted c.args.image.now c.in-Network.sizes = let g = accepted _ (sym (ap checked c.in-Network.is) ∙ c.check-answer.ensures) in accepted_of g.0 g.1 in
-    known
+    record { accepted = known }
 
 pub returns-in-At : goal.returns-in-At
 returns-in-At c =

@@ -7,25 +7,25 @@ use Rattle.column_calls.proofs.first_path.find.Goals as goal
 
 pub find_in-requires : goal.find_in-requires
 find_in-requires c =
-    record { accepted = c.requires.accepted; room = local_room c.requires.accepted.0; route_len = c.requires.route_len }
+    record { column = c.requires.column; ends = c.requires.ends; room = local_room c.args.network.now.accepted; route_len = c.requires.route_len }
 
 pub overflow_cast-start : goal.overflow_cast-start
-overflow_cast-start c = omega (arith, c.requires.accepted.2.start_in, c.requires.accepted.0.nodes_are, few_nodes c.requires.accepted.0)
+overflow_cast-start c = omega (arith, c.requires.ends.start_in, c.args.network.now.accepted.nodes_are, few_nodes c.args.network.now.accepted)
 
 pub slice_bounds-star-end : goal.slice_bounds-star-end
-slice_bounds-star-end c = star_fits c.requires.accepted.0
+slice_bounds-star-end c = star_fits c.args.network.now.accepted
 
 pub slice_bounds-find_in-end : goal.slice_bounds-find_in-end
-slice_bounds-find_in-end c = sym (local_room c.requires.accepted.0).star_long
+slice_bounds-find_in-end c = sym (local_room c.args.network.now.accepted).star_long
 
 pub slice_bounds-weights-end : goal.slice_bounds-weights-end
-slice_bounds-weights-end c = few_arcs c.requires.accepted.0
+slice_bounds-weights-end c = few_arcs c.args.network.now.accepted
 
 pub slice_bounds-find_in-end-2 : goal.slice_bounds-find_in-end-2
-slice_bounds-find_in-end-2 c = sym (local_room c.requires.accepted.0).weights_long
+slice_bounds-find_in-end-2 c = sym (local_room c.args.network.now.accepted).weights_long
 
 pub slice_bounds-overall-end : goal.slice_bounds-overall-end
-slice_bounds-overall-end c = places_fit c.requires.accepted.0
+slice_bounds-overall-end c = places_fit c.args.network.now.accepted
 
 pub slice_bounds-find_in-end-3 : goal.slice_bounds-find_in-end-3
-slice_bounds-find_in-end-3 c = sym (local_room c.requires.accepted.0).labels_long
+slice_bounds-find_in-end-3 c = sym (local_room c.args.network.now.accepted).labels_long

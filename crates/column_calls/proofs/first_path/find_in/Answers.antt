@@ -10,12 +10,12 @@ use Rattle.column_calls.proofs.first_path.find_in.Goals as goal
 
 pub shortest-requires : goal.shortest-requires
 shortest-requires c =
-    let column_loaded : Loaded (net_of c.args.image.now) c.args.u c.args.goal (take (3 * c.load-m.result + length c.load-m.new.overall + 1 + length c.load-m.new.overall) c.load-m.new.star) (take c.load-m.result c.load-m.new.weights) c.load-m.new.overall = column_part c.requires.accepted.0 c.load-m.new.star c.load-m.new.weights c.load-m.result c.load-m.ensures.1 in
+    let column_loaded : Loaded (net_of c.args.network.now.image.now) c.args.u c.args.goal (take (3 * c.load-m.result + length c.load-m.new.overall + 1 + length c.load-m.new.overall) c.load-m.new.star) (take c.load-m.result c.load-m.new.weights) c.load-m.new.overall = column_part c.args.network.now.accepted c.load-m.new.star c.load-m.new.weights c.load-m.result c.load-m.ensures.1 in
     let L = column_loaded in
     let long = L.labels_long in
-    record { network = L.network _ long; ends = (record { start_from = c.requires.accepted.2.start_in.from; start_place = omega (arith, c.requires.accepted.2.start_in, long); goal_place = omega (arith, c.requires.accepted.2.goal_in, long); apart = c.requires.accepted.2.apart }, omega (arith, long, c.requires.route_len)); least = L.least }
+    record { network = L.network _ long; ends = (record { start_from = c.requires.ends.start_in.from; start_place = omega (arith, c.requires.ends.start_in, long); goal_place = omega (arith, c.requires.ends.goal_in, long); apart = c.requires.ends.apart }, omega (arith, long, c.requires.route_len)); least = L.least }
 
 pub returns : goal.returns
 returns c =
-    let column_loaded : Loaded (net_of c.args.image.now) c.args.u c.args.goal (take (3 * c.load-m.result + length c.load-m.new.overall + 1 + length c.load-m.new.overall) c.load-m.new.star) (take c.load-m.result c.load-m.new.weights) c.load-m.new.overall = column_part c.requires.accepted.0 c.load-m.new.star c.load-m.new.weights c.load-m.result c.load-m.ensures.1 in
+    let column_loaded : Loaded (net_of c.args.network.now.image.now) c.args.u c.args.goal (take (3 * c.load-m.result + length c.load-m.new.overall + 1 + length c.load-m.new.overall) c.load-m.new.star) (take c.load-m.result c.load-m.new.weights) c.load-m.new.overall = column_part c.args.network.now.accepted c.load-m.new.star c.load-m.new.weights c.load-m.result c.load-m.ensures.1 in
     record { extent = c.shortest.ensures.extent; first_found = found_in_column column_loaded c.shortest.ensures.first_found }

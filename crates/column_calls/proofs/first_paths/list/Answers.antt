@@ -8,25 +8,25 @@ use Rattle.column_calls.proofs.first_paths.list.Goals as goal
 
 pub list_in-requires : goal.list_in-requires
 list_in-requires c =
-    record { accepted = c.requires.accepted; n_value = (refl, refl, local_room c.requires.accepted.0); list_slices = slices_for c.requires.accepted.0.nodes_are c.requires.list_slices }
+    record { column = c.requires.column; ends = c.requires.ends; n_value = (refl, refl, local_room c.args.network.now.accepted); list_slices = slices_for c.args.network.now.accepted.nodes_are c.requires.list_slices }
 
 pub overflow_cast-query : goal.overflow_cast-query
-overflow_cast-query c = omega (arith, c.requires.accepted.2.start_in, c.requires.accepted.0.nodes_are, few_nodes c.requires.accepted.0)
+overflow_cast-query c = omega (arith, c.requires.ends.start_in, c.args.network.now.accepted.nodes_are, few_nodes c.args.network.now.accepted)
 
 pub slice_bounds-star-end : goal.slice_bounds-star-end
-slice_bounds-star-end c = star_fits c.requires.accepted.0
+slice_bounds-star-end c = star_fits c.args.network.now.accepted
 
 pub slice_bounds-list_in-end : goal.slice_bounds-list_in-end
-slice_bounds-list_in-end c = sym (local_room c.requires.accepted.0).star_long
+slice_bounds-list_in-end c = sym (local_room c.args.network.now.accepted).star_long
 
 pub slice_bounds-weights-end : goal.slice_bounds-weights-end
-slice_bounds-weights-end c = few_arcs c.requires.accepted.0
+slice_bounds-weights-end c = few_arcs c.args.network.now.accepted
 
 pub slice_bounds-list_in-end-2 : goal.slice_bounds-list_in-end-2
-slice_bounds-list_in-end-2 c = sym (local_room c.requires.accepted.0).weights_long
+slice_bounds-list_in-end-2 c = sym (local_room c.args.network.now.accepted).weights_long
 
 pub slice_bounds-overall-end : goal.slice_bounds-overall-end
-slice_bounds-overall-end c = places_fit c.requires.accepted.0
+slice_bounds-overall-end c = places_fit c.args.network.now.accepted
 
 pub slice_bounds-list_in-end-3 : goal.slice_bounds-list_in-end-3
-slice_bounds-list_in-end-3 c = sym (local_room c.requires.accepted.0).labels_long
+slice_bounds-list_in-end-3 c = sym (local_room c.args.network.now.accepted).labels_long

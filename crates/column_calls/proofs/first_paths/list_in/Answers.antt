@@ -13,20 +13,20 @@ use Rattle.column_calls.proofs.first_paths.list_in.Goals as goal
 
 pub returns-then-overall-start : goal.returns-then-overall-start
 returns-then-overall-start c =
-    let column_loaded : Loaded (net_of c.args.image.now) c.args.u c.args.query.goal (take (3 * c.load-m.result + length c.load-m.new.overall + 1 + length c.load-m.new.overall) c.load-m.new.star) (take c.load-m.result c.load-m.new.weights) c.load-m.new.overall = column_part c.requires.accepted.0 c.load-m.new.star c.load-m.new.weights c.load-m.result c.load-m.ensures.1 in
-    let e = none_reached c.requires.accepted.0.passes c.requires.accepted.1 c.requires.accepted.2 column_loaded c.args.query.slots c.if-overall-start.true in
-    record { value = sym (ap length e); rows_after = sym (no_rows c.args.image.now c.args.u c.args.query.start c.args.query.goal c.args.query.slots e c.args.rows.now); costs_after = sym (no_costs c.args.image.now c.args.u c.args.query.start c.args.query.goal c.args.query.slots e c.args.costs.now); listed_work = ListedWork.unused refl refl }
+    let column_loaded : Loaded (net_of c.args.network.now.image.now) c.args.u c.args.query.goal (take (3 * c.load-m.result + length c.load-m.new.overall + 1 + length c.load-m.new.overall) c.load-m.new.star) (take c.load-m.result c.load-m.new.weights) c.load-m.new.overall = column_part c.args.network.now.accepted c.load-m.new.star c.load-m.new.weights c.load-m.result c.load-m.ensures.1 in
+    let e = none_reached c.args.network.now.accepted.passes c.requires.column c.requires.ends column_loaded c.args.query.slots c.if-overall-start.true in
+    record { value = sym (ap length e); rows_after = sym (no_rows c.args.network.now.image.now c.args.u c.args.query.start c.args.query.goal c.args.query.slots e c.args.rows.now); costs_after = sym (no_costs c.args.network.now.image.now c.args.u c.args.query.start c.args.query.goal c.args.query.slots e c.args.costs.now); listed_work = ListedWork.unused refl refl }
 
 pub list_loaded-requires : goal.list_loaded-requires
 list_loaded-requires c =
-    let column_loaded : Loaded (net_of c.args.image.now) c.args.u c.args.query.goal (take (3 * c.load-m.result + length c.load-m.new.overall + 1 + length c.load-m.new.overall) c.load-m.new.star) (take c.load-m.result c.load-m.new.weights) c.load-m.new.overall = column_part c.requires.accepted.0 c.load-m.new.star c.load-m.new.weights c.load-m.result c.load-m.ensures.1 in
-    record { problem = (rank_problem c.requires.accepted.2 column_loaded (c.requires.n_value.0 ∙ c.requires.accepted.0.nodes_are), c.requires.n_value.1); list_slices = c.requires.list_slices; p_bound = light_paths c.requires.accepted.0.passes c.requires.accepted.1 c.requires.accepted.2 column_loaded }
+    let column_loaded : Loaded (net_of c.args.network.now.image.now) c.args.u c.args.query.goal (take (3 * c.load-m.result + length c.load-m.new.overall + 1 + length c.load-m.new.overall) c.load-m.new.star) (take c.load-m.result c.load-m.new.weights) c.load-m.new.overall = column_part c.args.network.now.accepted c.load-m.new.star c.load-m.new.weights c.load-m.result c.load-m.ensures.1 in
+    record { problem = (rank_problem c.requires.ends column_loaded (c.requires.n_value.0 ∙ c.args.network.now.accepted.nodes_are), c.requires.n_value.1); list_slices = c.requires.list_slices; p_bound = light_paths c.args.network.now.accepted.passes c.requires.column c.requires.ends column_loaded }
 
 pub returns : goal.returns
 returns c =
-    let column_loaded : Loaded (net_of c.args.image.now) c.args.u c.args.query.goal (take (3 * c.load-m.result + length c.load-m.new.overall + 1 + length c.load-m.new.overall) c.load-m.new.star) (take c.load-m.result c.load-m.new.weights) c.load-m.new.overall = column_part c.requires.accepted.0 c.load-m.new.star c.load-m.new.weights c.load-m.result c.load-m.ensures.1 in
+    let column_loaded : Loaded (net_of c.args.network.now.image.now) c.args.u c.args.query.goal (take (3 * c.load-m.result + length c.load-m.new.overall + 1 + length c.load-m.new.overall) c.load-m.new.star) (take c.load-m.result c.load-m.new.weights) c.load-m.new.overall = column_part c.args.network.now.accepted c.load-m.new.star c.load-m.new.weights c.load-m.result c.load-m.ensures.1 in
     let L = column_loaded in
-    let n = c.requires.n_value.0 ∙ c.requires.accepted.0.nodes_are in
-    let count = column_count c.requires.accepted.0.passes c.requires.accepted.1 c.requires.accepted.2 L n c.args.query.slots _ c.list_loaded.ensures.value in
-    let some = some_reached c.requires.accepted.0.passes c.requires.accepted.1 c.requires.accepted.2 L c.requires.list_slices.wanted_from c.if-overall-start.false in
-    record { value = count; rows_after = column_rows c.requires.accepted.0.passes c.requires.accepted.1 c.requires.accepted.2 L n c.args.query.slots c.args.rows.now c.list_loaded.ensures.rows_after; costs_after = column_costs c.requires.accepted.0.passes c.requires.accepted.1 c.requires.accepted.2 L n c.args.query.slots c.args.costs.now c.list_loaded.ensures.costs_after; listed_work = ListedWork.emptied (omega (arith, count, some)) c.list_loaded.ensures.work_after }
+    let n = c.requires.n_value.0 ∙ c.args.network.now.accepted.nodes_are in
+    let count = column_count c.args.network.now.accepted.passes c.requires.column c.requires.ends L n c.args.query.slots _ c.list_loaded.ensures.value in
+    let some = some_reached c.args.network.now.accepted.passes c.requires.column c.requires.ends L c.requires.list_slices.wanted_from c.if-overall-start.false in
+    record { value = count; rows_after = column_rows c.args.network.now.accepted.passes c.requires.column c.requires.ends L n c.args.query.slots c.args.rows.now c.list_loaded.ensures.rows_after; costs_after = column_costs c.args.network.now.accepted.passes c.requires.column c.requires.ends L n c.args.query.slots c.args.costs.now c.list_loaded.ensures.costs_after; listed_work = ListedWork.emptied (omega (arith, count, some)) c.list_loaded.ensures.work_after }

@@ -26,7 +26,7 @@ write_labels-requires c =
     let known : Accepted c.args.image.now c.in-Network.sizes = passes.1 in
     let g = given in
     let k = known in
-    record { accepted = (k, record { from = g.from; upto = g.upto }, g.goal); image_in_bounds = g.room_for }
+    record { column = record { from = g.from; upto = g.upto }; goal = g.goal; image_in_bounds = g.room_for }
 
 pub returns : goal.returns
 unfolding label_outcome labels_of
@@ -34,3 +34,8 @@ returns c =
     let passes : (label_fault c.args.image.now c.args.column c.args.goal (length c.args.labels.now) ≡ sound) × Accepted c.args.image.now c.in-Network.sizes = given_sizes _ (λ e. (label_sound _ _ _ _ e).accepted) (sym (ap checked c.in-Network.is) ∙ c.check_label-answer.ensures) in
     let e = passes.0 in
     record { result_value = sym (outcome_sound _ e); labels_after = c.write_labels.ensures ∙ ap (λ (n : ℕ). labels_of c.args.image.now c.args.column c.args.goal ++ drop n c.args.labels.now) (sym (length_labels _ _ _)) ∙ sym (after_sound _ _ e) }
+
+pub invariant_of-network : goal.invariant_of-network
+invariant_of-network c =
+    let passes : (label_fault c.args.image.now c.args.column c.args.goal (length c.args.labels.now) ≡ sound) × Accepted c.args.image.now c.in-Network.sizes = given_sizes _ (λ e. (label_sound _ _ _ _ e).accepted) (sym (ap checked c.in-Network.is) ∙ c.check_label-answer.ensures) in
+    record { accepted = passes.1 }

@@ -6,22 +6,22 @@ use Rattle.column_calls.proofs.label.write_labels.Goals as goal
 
 pub write_labels_in-requires : goal.write_labels_in-requires
 write_labels_in-requires c =
-    record { accepted = c.requires.accepted; room = (local_room c.requires.accepted.0, c.requires.image_in_bounds) }
+    record { column = c.requires.column; goal = c.requires.goal; room = (local_room c.args.network.now.accepted, c.requires.image_in_bounds) }
 
 pub slice_bounds-star-end : goal.slice_bounds-star-end
-slice_bounds-star-end c = star_fits c.requires.accepted.0
+slice_bounds-star-end c = star_fits c.args.network.now.accepted
 
 pub slice_bounds-write_labels_in-end : goal.slice_bounds-write_labels_in-end
-slice_bounds-write_labels_in-end c = sym (local_room c.requires.accepted.0).star_long
+slice_bounds-write_labels_in-end c = sym (local_room c.args.network.now.accepted).star_long
 
 pub slice_bounds-weights-end : goal.slice_bounds-weights-end
-slice_bounds-weights-end c = few_arcs c.requires.accepted.0
+slice_bounds-weights-end c = few_arcs c.args.network.now.accepted
 
 pub slice_bounds-write_labels_in-end-2 : goal.slice_bounds-write_labels_in-end-2
-slice_bounds-write_labels_in-end-2 c = sym (local_room c.requires.accepted.0).weights_long
+slice_bounds-write_labels_in-end-2 c = sym (local_room c.args.network.now.accepted).weights_long
 
 pub slice_bounds-exact-end : goal.slice_bounds-exact-end
-slice_bounds-exact-end c = places_fit c.requires.accepted.0
+slice_bounds-exact-end c = places_fit c.args.network.now.accepted
 
 pub slice_bounds-write_labels_in-end-3 : goal.slice_bounds-write_labels_in-end-3
-slice_bounds-write_labels_in-end-3 c = sym (local_room c.requires.accepted.0).labels_long
+slice_bounds-write_labels_in-end-3 c = sym (local_room c.args.network.now.accepted).labels_long

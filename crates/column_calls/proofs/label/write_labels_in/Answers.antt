@@ -13,10 +13,10 @@ use Rattle.column_calls.proofs.label.write_labels_in.Goals as goal
 
 pub write_narrow-requires : goal.write_narrow-requires
 write_narrow-requires c =
-    record { exact_in_bounds = omega (arith, c.load.ensures.1.labels_long, c.requires.room.1); by_index = narrow_at (admitted c.requires.accepted.0) c.requires.accepted.1.from c.requires.accepted.1.upto c.load.ensures.1.labels_long (loaded_least c.load.ensures.1) }
+    record { exact_in_bounds = omega (arith, c.load.ensures.1.labels_long, c.requires.room.1); by_index = narrow_at (admitted c.args.network.now.accepted) c.requires.column.from c.requires.column.upto c.load.ensures.1.labels_long (loaded_least c.load.ensures.1) }
 
 pub returns : goal.returns
 unfolding labels_of
 returns c =
-    let count : length c.load.new.overall - 1 ≡ (net_of c.args.image.now).nodes = omega (arith, c.load.ensures.1.labels_long) in
-    c.write_narrow.ensures ∙ ap₂ (λ (new : List ℕ) (n : ℕ). new ++ drop n c.args.labels.now) (labels_are (admitted c.requires.accepted.0) c.requires.accepted.1.from c.requires.accepted.1.upto c.load.ensures.1.labels_long (loaded_least c.load.ensures.1)) count
+    let count : length c.load.new.overall - 1 ≡ (net_of c.args.network.now.image.now).nodes = omega (arith, c.load.ensures.1.labels_long) in
+    c.write_narrow.ensures ∙ ap₂ (λ (new : List ℕ) (n : ℕ). new ++ drop n c.args.labels.now) (labels_are (admitted c.args.network.now.accepted) c.requires.column.from c.requires.column.upto c.load.ensures.1.labels_long (loaded_least c.load.ensures.1)) count

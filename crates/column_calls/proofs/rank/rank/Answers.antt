@@ -26,7 +26,7 @@ write_ranked-requires c =
     let passes : (rank_rows c.args.image.now c.args.column c.args.start c.args.goal c.args.wanted (length c.args.rows.now) (length c.args.costs.now) (length c.args.work.now) ≡ sound) × Accepted c.args.image.now c.in-Network.sizes = given_sizes _ (λ e. (rank_sound c.args.image.now c.args.column c.args.start c.args.goal c.args.wanted c.args.rows.now c.args.costs.now c.args.work.now e).accepted) (sym (ap checked c.in-Network.is) ∙ c.check_rank-answer.ensures) in
     let p = passes in
     let g = rank_sound c.args.image.now c.args.column c.args.start c.args.goal c.args.wanted c.args.rows.now c.args.costs.now c.args.work.now p.0 in
-    record { accepted = (p.1, record { from = g.from; upto = g.upto }, g.ends); list_slices = rank_slices c.args.image.now c.args.column c.args.start c.args.goal c.args.wanted c.args.rows.now c.args.costs.now c.args.work.now p.0 }
+    record { column = record { from = g.from; upto = g.upto }; ends = g.ends; list_slices = rank_slices c.args.image.now c.args.column c.args.start c.args.goal c.args.wanted c.args.rows.now c.args.costs.now c.args.work.now p.0 }
 
 pub returns : goal.returns
 unfolding rank_outcome rank_fault
@@ -34,3 +34,8 @@ returns c =
     let passes : (rank_rows c.args.image.now c.args.column c.args.start c.args.goal c.args.wanted (length c.args.rows.now) (length c.args.costs.now) (length c.args.work.now) ≡ sound) × Accepted c.args.image.now c.in-Network.sizes = given_sizes _ (λ e. (rank_sound c.args.image.now c.args.column c.args.start c.args.goal c.args.wanted c.args.rows.now c.args.costs.now c.args.work.now e).accepted) (sym (ap checked c.in-Network.is) ∙ c.check_rank-answer.ensures) in
     let e = sym (then_next (path_row c.args.image.now c.args.column c.args.start c.args.goal) passes.0) in
     record { result_value = c.write_ranked.ensures.result_value ∙ ap (λ f. outcome f (length (rank_of c.args.image.now c.args.column c.args.start c.args.goal c.args.wanted) ∷ [])) e; rows_after = c.write_ranked.ensures.rows_after ∙ ap (λ f. after f (rank_rows_of c.args.image.now c.args.column c.args.start c.args.goal c.args.wanted) c.args.rows.now) e; costs_after = c.write_ranked.ensures.costs_after ∙ ap (λ f. after f (rank_costs_of c.args.image.now c.args.column c.args.start c.args.goal c.args.wanted) c.args.costs.now) e; work_after = c.write_ranked.ensures.work_after ∙ ap (λ f. cleared f c.args.work.now) e; kept2 = kept_2 c.args.image.now c.args.column c.args.start c.args.goal c.args.wanted (length c.args.rows.now) (length c.args.costs.now) (length c.args.work.now) }
+
+pub invariant_of-network : goal.invariant_of-network
+invariant_of-network c =
+    let passes : (rank_rows c.args.image.now c.args.column c.args.start c.args.goal c.args.wanted (length c.args.rows.now) (length c.args.costs.now) (length c.args.work.now) ≡ sound) × Accepted c.args.image.now c.in-Network.sizes = given_sizes _ (λ e. (rank_sound c.args.image.now c.args.column c.args.start c.args.goal c.args.wanted c.args.rows.now c.args.costs.now c.args.work.now e).accepted) (sym (ap checked c.in-Network.is) ∙ c.check_rank-answer.ensures) in
+    record { accepted = passes.1 }

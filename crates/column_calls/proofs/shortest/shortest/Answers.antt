@@ -23,7 +23,7 @@ write_shortest-requires c =
     let given : ShortestSound c.args.image.now c.args.column c.args.start c.args.goal (length c.args.path.now) = shortest_sound _ _ _ _ _ passes.0 in
     let g = given in
     let k = passes.1 in
-    record { accepted = (k, record { from = g.search.from; upto = g.search.upto }, g.search.ends); image_in_bounds = g.room_for }
+    record { column = record { from = g.search.from; upto = g.search.upto }; ends = g.search.ends; image_in_bounds = g.room_for }
 
 pub returns : goal.returns
 unfolding shortest_outcome shortest_fault
@@ -31,3 +31,8 @@ returns c =
     let passes : (shortest_rows c.args.image.now c.args.column c.args.start c.args.goal (length c.args.path.now) ≡ sound) × Accepted c.args.image.now c.in-Network.sizes = given_sizes _ (λ e. (shortest_sound _ _ _ _ _ e).search.accepted) (sym (ap checked c.in-Network.is) ∙ c.check_shortest-answer.ensures) in
     let e = sym (then_next (path_row c.args.image.now c.args.column c.args.start c.args.goal) passes.0) in
     record { result_value = c.write_shortest.ensures.result_value ∙ ap (λ f. outcome f (shortest_values c.args.image.now c.args.column c.args.start c.args.goal)) e; path_after = c.write_shortest.ensures.path_after ∙ ap (λ f. after f (shortest_of c.args.image.now c.args.column c.args.start c.args.goal) c.args.path.now) e }
+
+pub invariant_of-network : goal.invariant_of-network
+invariant_of-network c =
+    let passes : (shortest_rows c.args.image.now c.args.column c.args.start c.args.goal (length c.args.path.now) ≡ sound) × Accepted c.args.image.now c.in-Network.sizes = given_sizes _ (λ e. (shortest_sound _ _ _ _ _ e).search.accepted) (sym (ap checked c.in-Network.is) ∙ c.check_shortest-answer.ensures) in
+    record { accepted = passes.1 }

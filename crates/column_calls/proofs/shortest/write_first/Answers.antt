@@ -11,12 +11,13 @@ use Rattle.branching.proofs.FirstLaws.{found_tail, found_empty, extent_tail}
 use Rattle.image.specs.Layout.{net_of}
 use Rattle.image.specs.Outcome.{gives}
 use Rattle.image.proofs.OutcomeLaws.{outcome_fault, outcome_sound, after_fault}
+use Rattle.loading.proofs.DecodeLaws.{few_nodes}
 use Rattle.outcomes.proofs.ShortestLaws.{path_none, path_some, path_cost, rest_is, values_are, written_is}
 use Rattle.column_calls.proofs.shortest.write_first.Goals as goal
 
 pub returns-in_default : goal.returns-in_default
 returns-in_default c =
-    let e = path_none c.requires.accepted.0.passes c.requires.accepted.1 c.requires.accepted.2 (found_empty c.find-found.ensures.first_found c.in_default.is) in
+    let e = path_none c.args.network.now.accepted.passes c.requires.column c.requires.ends (found_empty c.find-found.ensures.first_found c.in_default.is) in
     record { result_value = sym (outcome_fault _ e); path_after = sym (after_fault _ _ e) }
 
 pub write_path-requires : goal.write_path-requires
@@ -26,13 +27,18 @@ write_path-requires c =
 
 pub returns : goal.returns
 returns c =
-    let first : let g = column (net_of c.args.image.now) c.args.column in First g c.args.start c.args.goal (everything c.args.start) (take c.in-Tail.len c.find-found.new.route) × (cost g (take c.in-Tail.len c.find-found.new.route) ≡ cost g (c.args.start ∷ []) + c.in-Tail.cost) = found_tail c.find-found.ensures.first_found c.in-Tail.is in
+    let first : let g = column (net_of c.args.network.now.image.now) c.args.column in First g c.args.start c.args.goal (everything c.args.start) (take c.in-Tail.len c.find-found.new.route) × (cost g (take c.in-Tail.len c.find-found.new.route) ≡ cost g (c.args.start ∷ []) + c.in-Tail.cost) = found_tail c.find-found.ensures.first_found c.in-Tail.is in
     let reach : (1 < c.in-Tail.len) × (c.in-Tail.len ≤ length c.find-found.new.route) = extent_tail c.find-found.ensures.extent c.in-Tail.is in
     let f = first in
-    record { result_value = ap gives (values_are c.requires.accepted.0.passes c.requires.accepted.1 c.requires.accepted.2 f.0 _ _ refl reach.1 f.1) ∙ sym (outcome_sound _ (path_some c.requires.accepted.0.passes c.requires.accepted.1 c.requires.accepted.2 f.0)); path_after = c.write_path.ensures ∙ written_is c.requires.accepted.0.passes c.requires.accepted.1 c.requires.accepted.2 f.0 _ _ refl reach.1 f.1 _ }
+    record { result_value = ap gives (values_are c.args.network.now.accepted.passes c.requires.column c.requires.ends f.0 _ _ refl reach.1 f.1) ∙ sym (outcome_sound _ (path_some c.args.network.now.accepted.passes c.requires.column c.requires.ends f.0)); path_after = c.write_path.ensures ∙ written_is c.args.network.now.accepted.passes c.requires.column c.requires.ends f.0 _ _ refl reach.1 f.1 _ }
 
 pub overflow_cast-result-2 : goal.overflow_cast-result-2
 overflow_cast-result-2 c =
-    let first : let g = column (net_of c.args.image.now) c.args.column in First g c.args.start c.args.goal (everything c.args.start) (take c.in-Tail.len c.find-found.new.route) × (cost g (take c.in-Tail.len c.find-found.new.route) ≡ cost g (c.args.start ∷ []) + c.in-Tail.cost) = found_tail c.find-found.ensures.first_found c.in-Tail.is in
+    let first : let g = column (net_of c.args.network.now.image.now) c.args.column in First g c.args.start c.args.goal (everything c.args.start) (take c.in-Tail.len c.find-found.new.route) × (cost g (take c.in-Tail.len c.find-found.new.route) ≡ cost g (c.args.start ∷ []) + c.in-Tail.cost) = found_tail c.find-found.ensures.first_found c.in-Tail.is in
     let reach : (1 < c.in-Tail.len) × (c.in-Tail.len ≤ length c.find-found.new.route) = extent_tail c.find-found.ensures.extent c.in-Tail.is in
-    omega (arith, rest_is c.requires.accepted.0.passes c.requires.accepted.1 c.requires.accepted.2 first.0 _ _ refl reach.1 first.1, path_cost c.requires.accepted.0.passes c.requires.accepted.1 c.requires.accepted.2 first.0)
+    omega (arith, rest_is c.args.network.now.accepted.passes c.requires.column c.requires.ends first.0 _ _ refl reach.1 first.1, path_cost c.args.network.now.accepted.passes c.requires.column c.requires.ends first.0)
+
+pub overflow_cast-result : goal.overflow_cast-result
+overflow_cast-result c =
+    let reach : (1 < c.in-Tail.len) × (c.in-Tail.len ≤ length c.find-found.new.route) = extent_tail c.find-found.ensures.extent c.in-Tail.is in
+    omega (arith, c.find-found.auto.route, c.requires.route_len.0, c.args.network.now.accepted.nodes_are, few_nodes c.args.network.now.accepted)

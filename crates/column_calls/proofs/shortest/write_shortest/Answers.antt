@@ -7,15 +7,15 @@ use Rattle.column_calls.proofs.shortest.write_shortest.Goals as goal
 
 pub write_first-requires : goal.write_first-requires
 write_first-requires c =
-    let fits : c.args.sizes.n ≤ 200 = few_nodes c.requires.accepted.0 in
-    record { accepted = c.requires.accepted; route_len = (part_long 200 _ fits ∙ c.requires.accepted.0.nodes_are, c.requires.image_in_bounds) }
+    let fits : c.args.network.now.sizes.n ≤ 200 = few_nodes c.args.network.now.accepted in
+    record { column = c.requires.column; ends = c.requires.ends; route_len = (part_long 200 _ fits ∙ c.args.network.now.accepted.nodes_are, c.requires.image_in_bounds) }
 
 pub slice_bounds-route-end : goal.slice_bounds-route-end
 slice_bounds-route-end c =
-    let fits : c.args.sizes.n ≤ 200 = few_nodes c.requires.accepted.0 in
+    let fits : c.args.network.now.sizes.n ≤ 200 = few_nodes c.args.network.now.accepted in
     fits
 
 pub slice_bounds-write_first-end : goal.slice_bounds-write_first-end
 slice_bounds-write_first-end c =
-    let fits : c.args.sizes.n ≤ 200 = few_nodes c.requires.accepted.0 in
+    let fits : c.args.network.now.sizes.n ≤ 200 = few_nodes c.args.network.now.accepted in
     sym (part_long 200 _ fits)

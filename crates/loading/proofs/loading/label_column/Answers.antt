@@ -14,16 +14,16 @@ use Rattle.loading.proofs.loading.label_column.Goals as goal
 
 pub label_nodes-requires : goal.label_nodes-requires
 label_nodes-requires c =
-    let some : selected c.args.kept.now (net_of c.args.image.now) ≡ restrict c.requires.open_indices.0.test (net_of c.args.image.now) = selected_restrict (admitted c.requires.accepted.0) c.requires.open_indices.0.test c.requires.accepted.0.arcs_are c.requires.open_indices.0.are in
-    let shape : Shape (restrict c.requires.open_indices.0.test (net_of c.args.image.now)) c.fill_star.new.star = subst (λ net. Shape net c.fill_star.new.star) some c.fill_star.ensures in
-    let weights : c.read_column.new.weights ≡ cost_column (restrict c.requires.open_indices.0.test (net_of c.args.image.now)) c.args.u = c.read_column.ensures ∙ sym (selected_costs c.args.kept.now (net_of c.args.image.now) c.args.u c.requires.accepted.1.from c.requires.accepted.1.upto) ∙ ap (λ net. cost_column net c.args.u) some in
-    let network : (k : ℕ) → k ≡ c.args.sizes.n + 1 → Network k c.fill_star.new.star c.read_column.new.weights = λ k e. network_of (admitted c.requires.accepted.0) c.requires.accepted.1.from c.requires.accepted.1.upto c.requires.open_indices.0.test c.requires.open_indices.0.opened shape weights k (e ∙ ap (λ (x : ℕ). x + 1) c.requires.accepted.0.nodes_are) in
-    (network _ c.requires.open_indices.1.labels_long, omega (arith, c.requires.accepted.2.upto, c.requires.accepted.0.nodes_are, c.requires.open_indices.1.labels_long))
+    let some : selected c.args.kept.now (net_of c.args.network.now.image.now) ≡ restrict c.requires.open_indices.test (net_of c.args.network.now.image.now) = selected_restrict (admitted c.args.network.now.accepted) c.requires.open_indices.test c.args.network.now.accepted.arcs_are c.requires.open_indices.are in
+    let shape : Shape (restrict c.requires.open_indices.test (net_of c.args.network.now.image.now)) c.fill_star.new.star = subst (λ net. Shape net c.fill_star.new.star) some c.fill_star.ensures in
+    let weights : c.read_column.new.weights ≡ cost_column (restrict c.requires.open_indices.test (net_of c.args.network.now.image.now)) c.args.u = c.read_column.ensures ∙ sym (selected_costs c.args.kept.now (net_of c.args.network.now.image.now) c.args.u c.requires.column.from c.requires.column.upto) ∙ ap (λ net. cost_column net c.args.u) some in
+    let network : (k : ℕ) → k ≡ c.args.network.now.sizes.n + 1 → Network k c.fill_star.new.star c.read_column.new.weights = λ k e. network_of (admitted c.args.network.now.accepted) c.requires.column.from c.requires.column.upto c.requires.open_indices.test c.requires.open_indices.opened shape weights k (e ∙ ap (λ (x : ℕ). x + 1) c.args.network.now.accepted.nodes_are) in
+    (network _ c.requires.room.labels_long, omega (arith, c.requires.goal.upto, c.args.network.now.accepted.nodes_are, c.requires.room.labels_long))
 
 pub returns : goal.returns
 returns c =
-    let some : selected c.args.kept.now (net_of c.args.image.now) ≡ restrict c.requires.open_indices.0.test (net_of c.args.image.now) = selected_restrict (admitted c.requires.accepted.0) c.requires.open_indices.0.test c.requires.accepted.0.arcs_are c.requires.open_indices.0.are in
-    let shape : Shape (restrict c.requires.open_indices.0.test (net_of c.args.image.now)) c.fill_star.new.star = subst (λ net. Shape net c.fill_star.new.star) some c.fill_star.ensures in
-    let weights : c.read_column.new.weights ≡ cost_column (restrict c.requires.open_indices.0.test (net_of c.args.image.now)) c.args.u = c.read_column.ensures ∙ sym (selected_costs c.args.kept.now (net_of c.args.image.now) c.args.u c.requires.accepted.1.from c.requires.accepted.1.upto) ∙ ap (λ net. cost_column net c.args.u) some in
+    let some : selected c.args.kept.now (net_of c.args.network.now.image.now) ≡ restrict c.requires.open_indices.test (net_of c.args.network.now.image.now) = selected_restrict (admitted c.args.network.now.accepted) c.requires.open_indices.test c.args.network.now.accepted.arcs_are c.requires.open_indices.are in
+    let shape : Shape (restrict c.requires.open_indices.test (net_of c.args.network.now.image.now)) c.fill_star.new.star = subst (λ net. Shape net c.fill_star.new.star) some c.fill_star.ensures in
+    let weights : c.read_column.new.weights ≡ cost_column (restrict c.requires.open_indices.test (net_of c.args.network.now.image.now)) c.args.u = c.read_column.ensures ∙ sym (selected_costs c.args.kept.now (net_of c.args.network.now.image.now) c.args.u c.requires.column.from c.requires.column.upto) ∙ ap (λ net. cost_column net c.args.u) some in
     subst (λ net. Loaded net c.args.u c.args.goal c.fill_star.new.star c.read_column.new.weights c.label_nodes.new.overall) (sym some)
-    (loaded (admitted c.requires.accepted.0) c.requires.accepted.1.from c.requires.accepted.1.upto c.requires.open_indices.0.test c.requires.open_indices.0.opened shape weights c.label_nodes.ensures (c.label_nodes.auto.overall ∙ c.requires.open_indices.1.labels_long ∙ ap (λ (x : ℕ). x + 1) c.requires.accepted.0.nodes_are))
+    (loaded (admitted c.args.network.now.accepted) c.requires.column.from c.requires.column.upto c.requires.open_indices.test c.requires.open_indices.opened shape weights c.label_nodes.ensures (c.label_nodes.auto.overall ∙ c.requires.room.labels_long ∙ ap (λ (x : ℕ). x + 1) c.args.network.now.accepted.nodes_are))

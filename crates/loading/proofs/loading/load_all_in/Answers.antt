@@ -12,25 +12,25 @@ use Rattle.loading.proofs.DecodeLaws.{admitted, few_arcs}
 use Rattle.loading.proofs.loading.load_all_in.Goals as goal
 
 pub number_arcs-requires : goal.number_arcs-requires
-number_arcs-requires c = omega (arith, c.requires.accepted.1, few_arcs c.requires.accepted.0)
+number_arcs-requires c = omega (arith, c.requires.kept_len, few_arcs c.args.network.now.accepted)
 
 pub fill_star-requires : goal.fill_star-requires
 fill_star-requires c =
-    let long : length c.number_arcs.new.kept ≡ c.args.sizes.m = c.number_arcs.auto.kept ∙ c.requires.accepted.1 in
-    let all : c.number_arcs.new.kept ≡ numbers 0 c.args.sizes.m = c.number_arcs.ensures ∙ ap (numbers 0) c.requires.accepted.1 in
-    let indices : Indices c.args.sizes.m c.number_arcs.new.kept = subst (Indices c.args.sizes.m) (sym all) (all_indices c.args.sizes.m) in
-    record { accepted = (c.requires.accepted.0, indices); star_len = c.requires.star_len.0 ∙ ap (star_size c.args.sizes.n) (sym long) }
+    let long : length c.number_arcs.new.kept ≡ c.args.network.now.sizes.m = c.number_arcs.auto.kept ∙ c.requires.kept_len in
+    let all : c.number_arcs.new.kept ≡ numbers 0 c.args.network.now.sizes.m = c.number_arcs.ensures ∙ ap (numbers 0) c.requires.kept_len in
+    let indices : Indices c.args.network.now.sizes.m c.number_arcs.new.kept = subst (Indices c.args.network.now.sizes.m) (sym all) (all_indices c.args.network.now.sizes.m) in
+    record { indices = indices; star_len = c.requires.star_len ∙ ap (star_size c.args.network.now.sizes.n) (sym long) }
 
 pub read_columns-requires : goal.read_columns-requires
 read_columns-requires c =
-    let long : length c.number_arcs.new.kept ≡ c.args.sizes.m = c.number_arcs.auto.kept ∙ c.requires.accepted.1 in
-    let all : c.number_arcs.new.kept ≡ numbers 0 c.args.sizes.m = c.number_arcs.ensures ∙ ap (numbers 0) c.requires.accepted.1 in
-    let indices : Indices c.args.sizes.m c.number_arcs.new.kept = subst (Indices c.args.sizes.m) (sym all) (all_indices c.args.sizes.m) in
-    (c.requires.accepted.0, indices, c.requires.star_len.1 ∙ ap (λ (x : ℕ). x * c.args.sizes.k) (sym long))
+    let long : length c.number_arcs.new.kept ≡ c.args.network.now.sizes.m = c.number_arcs.auto.kept ∙ c.requires.kept_len in
+    let all : c.number_arcs.new.kept ≡ numbers 0 c.args.network.now.sizes.m = c.number_arcs.ensures ∙ ap (numbers 0) c.requires.kept_len in
+    let indices : Indices c.args.network.now.sizes.m c.number_arcs.new.kept = subst (Indices c.args.network.now.sizes.m) (sym all) (all_indices c.args.network.now.sizes.m) in
+    record { indices = indices; costs_len = c.requires.costs_len ∙ ap (λ (x : ℕ). x * c.args.network.now.sizes.k) (sym long) }
 
 pub returns : goal.returns
 returns c =
-    let all : c.number_arcs.new.kept ≡ numbers 0 c.args.sizes.m = c.number_arcs.ensures ∙ ap (numbers 0) c.requires.accepted.1 in
-    let net = net_of c.args.image.now in
-    let same : selected c.number_arcs.new.kept net ≡ net = ap (λ k. selected k net) all ∙ selected_all (admitted c.requires.accepted.0) c.requires.accepted.0.arcs_are in
+    let all : c.number_arcs.new.kept ≡ numbers 0 c.args.network.now.sizes.m = c.number_arcs.ensures ∙ ap (numbers 0) c.requires.kept_len in
+    let net = net_of c.args.network.now.image.now in
+    let same : selected c.number_arcs.new.kept net ≡ net = ap (λ k. selected k net) all ∙ selected_all (admitted c.args.network.now.accepted) c.args.network.now.accepted.arcs_are in
     (subst (λ x. Shape x c.fill_star.new.star) same c.fill_star.ensures, c.read_columns.ensures ∙ ap (λ x. in_a_row x.columns) same)

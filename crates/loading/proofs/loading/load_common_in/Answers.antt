@@ -17,19 +17,19 @@ use Rattle.loading.proofs.loading.load_common_in.Goals as goal
 
 pub fill_common-requires : goal.fill_common-requires
 fill_common-requires c =
-    let few : c.select_common-m.result ≤ length c.select_common-m.new.kept = omega (arith, c.select_common-m.ensures.0, c.select_common-m.auto.kept, c.requires.accepted.1) in
-    let star_fits : star_size c.args.sizes.n c.select_common-m.result ≤ length c.args.star.now = omega (arith, c.select_common-m.ensures.0, c.requires.star_len.0) in
-    let costs_fit : c.select_common-m.result * c.args.sizes.k ≤ length c.args.costs.now = omega (arith, mul-le-mul_right {m = c.select_common-m.result} {n = c.args.sizes.m} c.args.sizes.k c.select_common-m.ensures.0, c.requires.star_len.1) in
+    let few : c.select_common-m.result ≤ length c.select_common-m.new.kept = omega (arith, c.select_common-m.ensures.0, c.select_common-m.auto.kept, c.requires.kept_len) in
+    let star_fits : star_size c.args.network.now.sizes.n c.select_common-m.result ≤ length c.args.star.now = omega (arith, c.select_common-m.ensures.0, c.requires.star_len) in
+    let costs_fit : c.select_common-m.result * c.args.network.now.sizes.k ≤ length c.args.costs.now = omega (arith, mul-le-mul_right {m = c.select_common-m.result} {n = c.args.network.now.sizes.m} c.args.network.now.sizes.k c.select_common-m.ensures.0, c.requires.costs_len) in
     let m = length-take-le _ _ few in
-    record { accepted = (c.requires.accepted.0, record { test = λ i. left c.args.closed.now i && open_everywhere (net_of c.args.image.now) i; are = c.select_common-m.ensures.1 }); star_len = (length-take-le _ _ star_fits ∙ ap (star_size c.args.sizes.n) (sym m), length-take-le _ _ costs_fit ∙ ap (λ (x : ℕ). x * c.args.sizes.k) (sym m)) }
+    record { indices = record { test = λ i. left c.args.closed.now i && open_everywhere (net_of c.args.network.now.image.now) i; are = c.select_common-m.ensures.1 }; star_len = length-take-le _ _ star_fits ∙ ap (star_size c.args.network.now.sizes.n) (sym m); costs_len = length-take-le _ _ costs_fit ∙ ap (λ (x : ℕ). x * c.args.network.now.sizes.k) (sym m) }
 
 pub returns : goal.returns
 returns c =
-    let few : c.select_common-m.result ≤ length c.select_common-m.new.kept = omega (arith, c.select_common-m.ensures.0, c.select_common-m.auto.kept, c.requires.accepted.1) in
-    let star_fits : star_size c.args.sizes.n c.select_common-m.result ≤ length c.args.star.now = omega (arith, c.select_common-m.ensures.0, c.requires.star_len.0) in
-    let costs_fit : c.select_common-m.result * c.args.sizes.k ≤ length c.args.costs.now = omega (arith, mul-le-mul_right {m = c.select_common-m.result} {n = c.args.sizes.m} c.args.sizes.k c.select_common-m.ensures.0, c.requires.star_len.1) in
-    let z = star_size c.args.sizes.n c.select_common-m.result in
-    let all = c.select_common-m.result * c.args.sizes.k in
+    let few : c.select_common-m.result ≤ length c.select_common-m.new.kept = omega (arith, c.select_common-m.ensures.0, c.select_common-m.auto.kept, c.requires.kept_len) in
+    let star_fits : star_size c.args.network.now.sizes.n c.select_common-m.result ≤ length c.args.star.now = omega (arith, c.select_common-m.ensures.0, c.requires.star_len) in
+    let costs_fit : c.select_common-m.result * c.args.network.now.sizes.k ≤ length c.args.costs.now = omega (arith, mul-le-mul_right {m = c.select_common-m.result} {n = c.args.network.now.sizes.m} c.args.network.now.sizes.k c.select_common-m.ensures.0, c.requires.costs_len) in
+    let z = star_size c.args.network.now.sizes.n c.select_common-m.result in
+    let all = c.select_common-m.result * c.args.network.now.sizes.k in
     let e = take_at c.fill_common.new.star (drop z c.args.star.now) z (c.fill_common.auto.star ∙ length-take-le _ _ star_fits) in
     let f = take_at c.fill_common.new.costs (drop all c.args.costs.now) all (c.fill_common.auto.costs ∙ length-take-le _ _ costs_fit) in
-    (c.select_common-m.ensures.0, subst₂ (λ (x y : List ℕ). Shared (without c.args.closed.now (net_of c.args.image.now)) c.select_common-m.result x y) (sym e) (sym f) (subst (λ (x : ℕ). Shared (without c.args.closed.now (net_of c.args.image.now)) x c.fill_common.new.star c.fill_common.new.costs) (length-take-le _ _ few) (shared_left (admitted c.requires.accepted.0) c.args.closed.now c.requires.accepted.0.arcs_are c.select_common-m.ensures.1 c.fill_common.ensures.0 c.fill_common.ensures.1)))
+    (c.select_common-m.ensures.0, subst₂ (λ (x y : List ℕ). Shared (without c.args.closed.now (net_of c.args.network.now.image.now)) c.select_common-m.result x y) (sym e) (sym f) (subst (λ (x : ℕ). Shared (without c.args.closed.now (net_of c.args.network.now.image.now)) x c.fill_common.new.star c.fill_common.new.costs) (length-take-le _ _ few) (shared_left (admitted c.args.network.now.accepted) c.args.closed.now c.args.network.now.accepted.arcs_are c.select_common-m.ensures.1 c.fill_common.ensures.0 c.fill_common.ensures.1)))

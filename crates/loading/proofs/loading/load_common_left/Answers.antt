@@ -6,10 +6,10 @@ use Rattle.loading.proofs.loading.load_common_left.Goals as goal
 
 pub load_common_in-requires : goal.load_common_in-requires
 load_common_in-requires c =
-    record { accepted = (c.requires.accepted, part_long 1000 _ (few_arcs c.requires.accepted)); star_len = c.requires.star_len }
+    record { kept_len = part_long 1000 _ (few_arcs c.args.network.now.accepted); star_len = c.requires.star_len; costs_len = c.requires.costs_len }
 
 pub slice_bounds-kept-end : goal.slice_bounds-kept-end
-slice_bounds-kept-end c = few_arcs c.requires.accepted
+slice_bounds-kept-end c = few_arcs c.args.network.now.accepted
 
 pub slice_bounds-load_common_in-end : goal.slice_bounds-load_common_in-end
-slice_bounds-load_common_in-end c = sym (part_long 1000 _ (few_arcs c.requires.accepted))
+slice_bounds-load_common_in-end c = sym (part_long 1000 _ (few_arcs c.args.network.now.accepted))

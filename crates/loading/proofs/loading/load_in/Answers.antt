@@ -17,17 +17,17 @@ use Rattle.loading.proofs.loading.load_in.Goals as goal
 
 pub label_column-requires : goal.label_column-requires
 label_column-requires c =
-    let few : c.select_open-m.result ≤ length c.select_open-m.new.kept = omega (arith, c.select_open-m.ensures.0, c.select_open-m.auto.kept, c.requires.kept_len.0) in
-    let star_fits : star_size c.args.sizes.n c.select_open-m.result ≤ length c.args.star.now = omega (arith, c.select_open-m.ensures.0, c.requires.kept_len.1.star_long) in
-    let weights_fit : c.select_open-m.result ≤ length c.args.weights.now = omega (arith, c.select_open-m.ensures.0, c.requires.kept_len.1.weights_long) in
+    let few : c.select_open-m.result ≤ length c.select_open-m.new.kept = omega (arith, c.select_open-m.ensures.0, c.select_open-m.auto.kept, c.requires.kept_len) in
+    let star_fits : star_size c.args.network.now.sizes.n c.select_open-m.result ≤ length c.args.star.now = omega (arith, c.select_open-m.ensures.0, c.requires.room.star_long) in
+    let weights_fit : c.select_open-m.result ≤ length c.args.weights.now = omega (arith, c.select_open-m.ensures.0, c.requires.room.weights_long) in
     let m = length-take-le _ _ few in
-    record { accepted = c.requires.accepted; open_indices = (record { test = λ i. left c.args.closed.now i && open_in (net_of c.args.image.now) c.args.u i; are = c.select_open-m.ensures.1; opened = λ i h. (and_both (left c.args.closed.now i) (open_in (net_of c.args.image.now) c.args.u i) h).1 }, record { star_long = length-take-le _ _ star_fits ∙ ap (star_size c.args.sizes.n) (sym m); weights_long = length-take-le _ _ weights_fit ∙ sym m; labels_long = c.requires.kept_len.1.labels_long }) }
+    record { column = c.requires.column; goal = c.requires.goal; open_indices = record { test = λ i. left c.args.closed.now i && open_in (net_of c.args.network.now.image.now) c.args.u i; are = c.select_open-m.ensures.1; opened = λ i h. (and_both (left c.args.closed.now i) (open_in (net_of c.args.network.now.image.now) c.args.u i) h).1 }; room = record { star_long = length-take-le _ _ star_fits ∙ ap (star_size c.args.network.now.sizes.n) (sym m); weights_long = length-take-le _ _ weights_fit ∙ sym m; labels_long = c.requires.room.labels_long } }
 
 pub returns : goal.returns
 returns c =
-    let star_fits : star_size c.args.sizes.n c.select_open-m.result ≤ length c.args.star.now = omega (arith, c.select_open-m.ensures.0, c.requires.kept_len.1.star_long) in
-    let weights_fit : c.select_open-m.result ≤ length c.args.weights.now = omega (arith, c.select_open-m.ensures.0, c.requires.kept_len.1.weights_long) in
-    let z = star_size c.args.sizes.n c.select_open-m.result in
+    let star_fits : star_size c.args.network.now.sizes.n c.select_open-m.result ≤ length c.args.star.now = omega (arith, c.select_open-m.ensures.0, c.requires.room.star_long) in
+    let weights_fit : c.select_open-m.result ≤ length c.args.weights.now = omega (arith, c.select_open-m.ensures.0, c.requires.room.weights_long) in
+    let z = star_size c.args.network.now.sizes.n c.select_open-m.result in
     let e = take_at c.label_column.new.star (drop z c.args.star.now) z (c.label_column.auto.star ∙ length-take-le _ _ star_fits) in
     let f = take_at c.label_column.new.weights (drop c.select_open-m.result c.args.weights.now) c.select_open-m.result (c.label_column.auto.weights ∙ length-take-le _ _ weights_fit) in
-    (c.select_open-m.ensures.0, subst₂ (λ (x y : List ℕ). Loaded (without c.args.closed.now (net_of c.args.image.now)) c.args.u c.args.goal x y c.label_column.new.overall) (sym e) (sym f) (loaded_left (admitted c.requires.accepted.0) c.requires.accepted.1.from c.requires.accepted.1.upto c.args.closed.now c.requires.accepted.0.arcs_are c.select_open-m.ensures.1 c.label_column.ensures))
+    (c.select_open-m.ensures.0, subst₂ (λ (x y : List ℕ). Loaded (without c.args.closed.now (net_of c.args.network.now.image.now)) c.args.u c.args.goal x y c.label_column.new.overall) (sym e) (sym f) (loaded_left (admitted c.args.network.now.accepted) c.requires.column.from c.requires.column.upto c.args.closed.now c.args.network.now.accepted.arcs_are c.select_open-m.ensures.1 c.label_column.ensures))

@@ -6,10 +6,10 @@ use Rattle.loading.proofs.loading.load_left.Goals as goal
 
 pub load_in-requires : goal.load_in-requires
 load_in-requires c =
-    record { accepted = c.requires.accepted; kept_len = (part_long 1000 _ (few_arcs c.requires.accepted.0), c.requires.room) }
+    record { column = c.requires.column; goal = c.requires.goal; kept_len = part_long 1000 _ (few_arcs c.args.network.now.accepted); room = c.requires.room }
 
 pub slice_bounds-kept-end : goal.slice_bounds-kept-end
-slice_bounds-kept-end c = few_arcs c.requires.accepted.0
+slice_bounds-kept-end c = few_arcs c.args.network.now.accepted
 
 pub slice_bounds-load_in-end : goal.slice_bounds-load_in-end
-slice_bounds-load_in-end c = sym (part_long 1000 _ (few_arcs c.requires.accepted.0))
+slice_bounds-load_in-end c = sym (part_long 1000 _ (few_arcs c.args.network.now.accepted))

@@ -9,6 +9,3 @@ use Rattle.loading.proofs.reading.pick_costs.Given as goal
 
 abbrev pub invariant-loop-i : goal.invariant-loop-i
 invariant-loop-i l = (l.i ≤ length l.kept) × (length l.weights ≡ length l.initial.weights) × (l.weights ≡ take l.i (at_places l.kept (decode 4 l.m l.column)) ++ drop l.i l.initial.weights)
-
-abbrev pub decreases-loop-i : goal.decreases-loop-i
-decreases-loop-i l = length l.kept - l.i

@@ -18,26 +18,26 @@ loop-i-init c = (omega arith, refl, refl, refl, refl)
 
 pub read16-requires : goal.read16-requires
 read16-requires c =
-    let below : get_or c.args.kept.now c.loop-i.i 0 < c.args.sizes.m = index_below c.requires.accepted.1 c.loop-i.i c.loop-i-test.true in
-    let inside : (24 + 4 * c.args.sizes.m ≤ length c.args.image.now) × (c.args.sizes.m ≤ 1000) = (omega (arith, arc_count_is c.requires.accepted.0, length_is c.args.image.now c.requires.accepted.0.passes), few_arcs c.requires.accepted.0) in
+    let below : get_or c.args.kept.now c.loop-i.i 0 < c.args.network.now.sizes.m = index_below c.requires.indices c.loop-i.i c.loop-i-test.true in
+    let inside : (24 + 4 * c.args.network.now.sizes.m ≤ length c.args.network.now.image.now) × (c.args.network.now.sizes.m ≤ 1000) = (omega (arith, arc_count_is c.args.network.now.accepted, length_is c.args.network.now.image.now c.args.network.now.accepted.passes), few_arcs c.args.network.now.accepted) in
     omega (arith, below, inside)
 
 pub read16-requires-in-loop-i : goal.read16-requires-in-loop-i
 read16-requires-in-loop-i c =
-    let below : get_or c.args.kept.now c.loop-i.i 0 < c.args.sizes.m = index_below c.requires.accepted.1 c.loop-i.i c.loop-i-test.true in
-    let inside : (24 + 4 * c.args.sizes.m ≤ length c.args.image.now) × (c.args.sizes.m ≤ 1000) = (omega (arith, arc_count_is c.requires.accepted.0, length_is c.args.image.now c.requires.accepted.0.passes), few_arcs c.requires.accepted.0) in
+    let below : get_or c.args.kept.now c.loop-i.i 0 < c.args.network.now.sizes.m = index_below c.requires.indices c.loop-i.i c.loop-i-test.true in
+    let inside : (24 + 4 * c.args.network.now.sizes.m ≤ length c.args.network.now.image.now) × (c.args.network.now.sizes.m ≤ 1000) = (omega (arith, arc_count_is c.args.network.now.accepted, length_is c.args.network.now.image.now c.args.network.now.accepted.passes), few_arcs c.args.network.now.accepted) in
     omega (arith, below, inside)
 
 pub loop-i-preserved : goal.loop-i-preserved
 loop-i-preserved c =
-    let arc = selected_arc c.requires.accepted.0 c.requires.accepted.1 c.loop-i.i c.loop-i-test.true in
-    let tail : c.read16.result ≡ get_or (map (λ (a : ℕ × ℕ). a.0) (selected c.args.kept.now (net_of c.args.image.now)).arcs) c.loop-i.i 0 = c.read16.ensures.0 ∙ sym (get_or-map (λ (a : ℕ × ℕ). a.0) (selected c.args.kept.now (net_of c.args.image.now)).arcs c.loop-i.i (0, 0) ∙ ap (λ (a : ℕ × ℕ). a.0) arc) in
-    let head : c.read16-in-loop-i.result ≡ get_or (map (λ (a : ℕ × ℕ). a.1) (selected c.args.kept.now (net_of c.args.image.now)).arcs) c.loop-i.i 0 = c.read16-in-loop-i.ensures.0 ∙ sym (get_or-map (λ (a : ℕ × ℕ). a.1) (selected c.args.kept.now (net_of c.args.image.now)).arcs c.loop-i.i (0, 0) ∙ ap (λ (a : ℕ × ℕ). a.1) arc) in
-    let long = selected_length c.args.kept.now (net_of c.args.image.now) in
+    let arc = selected_arc c.args.network.now.accepted c.requires.indices c.loop-i.i c.loop-i-test.true in
+    let tail : c.read16.result ≡ get_or (map (λ (a : ℕ × ℕ). a.0) (selected c.args.kept.now (net_of c.args.network.now.image.now)).arcs) c.loop-i.i 0 = c.read16.ensures.0 ∙ sym (get_or-map (λ (a : ℕ × ℕ). a.0) (selected c.args.kept.now (net_of c.args.network.now.image.now)).arcs c.loop-i.i (0, 0) ∙ ap (λ (a : ℕ × ℕ). a.0) arc) in
+    let head : c.read16-in-loop-i.result ≡ get_or (map (λ (a : ℕ × ℕ). a.1) (selected c.args.kept.now (net_of c.args.network.now.image.now)).arcs) c.loop-i.i 0 = c.read16-in-loop-i.ensures.0 ∙ sym (get_or-map (λ (a : ℕ × ℕ). a.1) (selected c.args.kept.now (net_of c.args.network.now.image.now)).arcs c.loop-i.i (0, 0) ∙ ap (λ (a : ℕ × ℕ). a.1) arc) in
+    let long = selected_length c.args.kept.now (net_of c.args.network.now.image.now) in
     (omega arith, simp length-set (omega arith), simp length-set (omega arith), rw (c.loop-i.invariant.3, tail) (copy_more _ c.args.tails.now c.loop-i.i (simp length-map (omega arith)) (omega arith)), rw (c.loop-i.invariant.4, head) (copy_more _ c.args.heads.now c.loop-i.i (simp length-map (omega arith)) (omega arith)))
 
 pub returns : goal.returns
 returns c =
     let done : c.loop-i.i ≡ length c.args.kept.now = omega arith in
-    let long = selected_length c.args.kept.now (net_of c.args.image.now) in
-    record { tails_after = c.loop-i.invariant.3 ∙ rw (done, take_all (length c.args.kept.now) (map (λ (a : ℕ × ℕ). a.0) (selected c.args.kept.now (net_of c.args.image.now)).arcs) (simp length-map (omega arith))) (whole _ c.args.tails.now c.requires.tails_len.0); heads_after = c.loop-i.invariant.4 ∙ rw (done, take_all (length c.args.kept.now) (map (λ (a : ℕ × ℕ). a.1) (selected c.args.kept.now (net_of c.args.image.now)).arcs) (simp length-map (omega arith))) (whole _ c.args.heads.now c.requires.tails_len.1) }
+    let long = selected_length c.args.kept.now (net_of c.args.network.now.image.now) in
+    record { tails_after = c.loop-i.invariant.3 ∙ rw (done, take_all (length c.args.kept.now) (map (λ (a : ℕ × ℕ). a.0) (selected c.args.kept.now (net_of c.args.network.now.image.now)).arcs) (simp length-map (omega arith))) (whole _ c.args.tails.now c.requires.tails_len.0); heads_after = c.loop-i.invariant.4 ∙ rw (done, take_all (length c.args.kept.now) (map (λ (a : ℕ × ℕ). a.1) (selected c.args.kept.now (net_of c.args.network.now.image.now)).arcs) (simp length-map (omega arith))) (whole _ c.args.heads.now c.requires.tails_len.1) }

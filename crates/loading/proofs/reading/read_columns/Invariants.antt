@@ -8,7 +8,4 @@ use Rattle.loading.specs.Selected.{selected, in_a_row}
 use Rattle.loading.proofs.reading.read_columns.Given as goal
 
 abbrev pub invariant-loop-u : goal.invariant-loop-u
-invariant-loop-u l = (l.u ≤ l.k) × (length l.costs ≡ length l.initial.costs) × (l.costs ≡ take (l.u * length l.kept) (in_a_row (selected l.kept (net_of l.image)).columns) ++ drop (l.u * length l.kept) l.initial.costs)
-
-abbrev pub decreases-loop-u : goal.decreases-loop-u
-decreases-loop-u l = l.k - l.u
+invariant-loop-u l = (l.u ≤ l.k) × (length l.costs ≡ length l.initial.costs) × (l.costs ≡ take (l.u * length l.kept) (in_a_row (selected l.kept (net_of l.network.image.now)).columns) ++ drop (l.u * length l.kept) l.initial.costs)

@@ -9,6 +9,3 @@ use Rattle.loading.proofs.selecting.drop_marked.Given as goal
 
 abbrev pub invariant-loop-i : goal.invariant-loop-i
 invariant-loop-i l = (l.i ≤ l.count) × (l.front ≤ l.i) × (length l.kept ≡ length l.initial.kept) × (take l.front l.kept ≡ keep (unmarked_at (decode 4 l.m l.costs)) (take l.i l.initial.kept)) × ((j : ℕ) → l.i ≤ j → get_or l.kept j 0 ≡ get_or l.initial.kept j 0)
-
-abbrev pub decreases-loop-i : goal.decreases-loop-i
-decreases-loop-i l = l.count - l.i

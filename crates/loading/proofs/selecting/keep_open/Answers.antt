@@ -10,22 +10,22 @@ use Rattle.loading.proofs.DecodeLaws.{few_arcs, column_few, column_lies, column_
 use Rattle.loading.proofs.selecting.keep_open.Goals as goal
 
 pub column_start-start-requires : goal.column_start-start-requires
-column_start-start-requires c = column_few c.requires.accepted.0 c.requires.accepted.1
+column_start-start-requires c = column_few c.args.network.now.accepted c.requires.column
 
 pub drop_marked-requires : goal.drop_marked-requires
 drop_marked-requires c =
-    record { m_in_bounds = (omega (arith, column_bytes c.requires.accepted.0 c.requires.accepted.1 c.column_start-start.ensures), few_arcs c.requires.accepted.0, c.requires.accepted.2); indices = c.requires.indices }
+    record { m_in_bounds = (omega (arith, column_bytes c.args.network.now.accepted c.requires.column c.column_start-start.ensures), few_arcs c.args.network.now.accepted, c.requires.count_in_bounds); indices = c.requires.indices }
 
 pub returns : goal.returns
 unfolding open_in
-returns c = (c.drop_marked.ensures.0, c.drop_marked.ensures.1 ∙ ap (λ l. keep (unmarked_at l) (take c.args.count c.args.kept.now)) (column_read c.requires.accepted.0 c.requires.accepted.1 c.column_start-start.ensures))
+returns c = (c.drop_marked.ensures.0, c.drop_marked.ensures.1 ∙ ap (λ l. keep (unmarked_at l) (take c.args.count c.args.kept.now)) (column_read c.args.network.now.accepted c.requires.column c.column_start-start.ensures))
 
 pub overflow_add-start : goal.overflow_add-start
 overflow_add-start c =
-    let inside : (c.column_start-start.result + 4 * c.args.sizes.m ≤ length c.args.image.now) × (length c.args.image.now ≤ 36024) = column_lies c.requires.accepted.0 c.requires.accepted.1 c.column_start-start.ensures in
+    let inside : (c.column_start-start.result + 4 * c.args.network.now.sizes.m ≤ length c.args.network.now.image.now) × (length c.args.network.now.image.now ≤ 36024) = column_lies c.args.network.now.accepted c.requires.column c.column_start-start.ensures in
     omega (arith, inside)
 
 pub slice_bounds-drop_marked-end : goal.slice_bounds-drop_marked-end
 slice_bounds-drop_marked-end c =
-    let inside : (c.column_start-start.result + 4 * c.args.sizes.m ≤ length c.args.image.now) × (length c.args.image.now ≤ 36024) = column_lies c.requires.accepted.0 c.requires.accepted.1 c.column_start-start.ensures in
+    let inside : (c.column_start-start.result + 4 * c.args.network.now.sizes.m ≤ length c.args.network.now.image.now) × (length c.args.network.now.image.now ≤ 36024) = column_lies c.args.network.now.accepted c.requires.column c.column_start-start.ensures in
     omega (arith, inside)

@@ -8,6 +8,3 @@ use Rattle.loading.proofs.selecting.number_arcs.Given as goal
 
 abbrev pub invariant-loop-i : goal.invariant-loop-i
 invariant-loop-i l = (l.i ≤ length l.initial.kept) × (length l.kept ≡ length l.initial.kept) × (l.kept ≡ take l.i (numbers 0 (length l.initial.kept)) ++ drop l.i l.initial.kept)
-
-abbrev pub decreases-loop-i : goal.decreases-loop-i
-decreases-loop-i l = length l.initial.kept - l.i

@@ -8,6 +8,3 @@ use Rattle.loading.proofs.selecting.number_left.Given as goal
 
 abbrev pub invariant-loop-i : goal.invariant-loop-i
 invariant-loop-i l = (l.i ≤ length l.initial.kept) × (l.front ≤ l.i) × (length l.kept ≡ length l.initial.kept) × (take l.front l.kept ≡ keep (left l.closed) (take l.i (numbers 0 (length l.initial.kept))))
-
-abbrev pub decreases-loop-i : goal.decreases-loop-i
-decreases-loop-i l = length l.initial.kept - l.i

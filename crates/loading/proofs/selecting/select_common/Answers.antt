@@ -14,28 +14,28 @@ use Rattle.loading.proofs.DecodeLaws.{admitted, few_arcs}
 use Rattle.loading.proofs.selecting.select_common.Goals as goal
 
 pub select_left-count-requires : goal.select_left-count-requires
-select_left-count-requires c = omega (arith, c.requires.1, few_arcs c.requires.0)
+select_left-count-requires c = omega (arith, c.requires, few_arcs c.args.network.now.accepted)
 
-pub returns-then-sizes-eq1 : goal.returns-then-sizes-eq1
-returns-then-sizes-eq1 c =
-    let all : take c.select_left-count.result c.select_left-count.new.kept ≡ passing (left c.args.closed.now) c.args.sizes.m = c.select_left-count.ensures.1 ∙ ap (passing (left c.args.closed.now)) c.requires.1 in
-    let net = net_of c.args.image.now in
-    let edition-1 = subst (λ e. Admitted e net) (sym c.requires.0.edition_is ∙ c.if-sizes-eq1.true) (admitted c.requires.0) in
-    (omega (arith, c.select_left-count.ensures.0, c.requires.1), all ∙ first_edition_common edition-1 _ ∙ keep_keep (left c.args.closed.now) (open_everywhere net) (numbers 0 c.args.sizes.m))
+pub returns-then-network-eq1 : goal.returns-then-network-eq1
+returns-then-network-eq1 c =
+    let all : take c.select_left-count.result c.select_left-count.new.kept ≡ passing (left c.args.closed.now) c.args.network.now.sizes.m = c.select_left-count.ensures.1 ∙ ap (passing (left c.args.closed.now)) c.requires in
+    let net = net_of c.args.network.now.image.now in
+    let edition-1 = subst (λ e. Admitted e net) (sym c.args.network.now.accepted.edition_is ∙ c.if-network-eq1.true) (admitted c.args.network.now.accepted) in
+    (omega (arith, c.select_left-count.ensures.0, c.requires), all ∙ first_edition_common edition-1 _ ∙ keep_keep (left c.args.closed.now) (open_everywhere net) (numbers 0 c.args.network.now.sizes.m))
 
 pub returns : goal.returns
 returns c =
-    let done : c.loop-u.u ≡ c.args.sizes.k = omega arith in
-    (c.loop-u.invariant.1, c.loop-u.invariant.3 ∙ open_in_all (admitted c.requires.0) _ (done ∙ c.requires.0.columns_are) ∙ keep_keep (left c.args.closed.now) (open_everywhere (net_of c.args.image.now)) (numbers 0 c.args.sizes.m))
+    let done : c.loop-u.u ≡ c.args.network.now.sizes.k = omega arith in
+    (c.loop-u.invariant.1, c.loop-u.invariant.3 ∙ open_in_all (admitted c.args.network.now.accepted) _ (done ∙ c.args.network.now.accepted.columns_are) ∙ keep_keep (left c.args.closed.now) (open_everywhere (net_of c.args.network.now.image.now)) (numbers 0 c.args.network.now.sizes.m))
 
 pub loop-u-init : goal.loop-u-init
 loop-u-init c =
-    let all : take c.select_left-count.result c.select_left-count.new.kept ≡ passing (left c.args.closed.now) c.args.sizes.m = c.select_left-count.ensures.1 ∙ ap (passing (left c.args.closed.now)) c.requires.1 in
-    (omega arith, omega (arith, c.select_left-count.ensures.0, c.requires.1), refl, all ∙ none_closed (net_of c.args.image.now) _)
+    let all : take c.select_left-count.result c.select_left-count.new.kept ≡ passing (left c.args.closed.now) c.args.network.now.sizes.m = c.select_left-count.ensures.1 ∙ ap (passing (left c.args.closed.now)) c.requires in
+    (omega arith, omega (arith, c.select_left-count.ensures.0, c.requires), refl, all ∙ none_closed (net_of c.args.network.now.image.now) _)
 
 pub loop-u-preserved : goal.loop-u-preserved
-loop-u-preserved c = (omega (arith, c.loop-u-test.true), omega (arith, c.keep_open-count.ensures.0, c.loop-u.invariant.1), c.keep_open-count.auto.kept ∙ c.loop-u.invariant.2, c.keep_open-count.ensures.1 ∙ ap (keep (open_in (net_of c.args.image.now) (c.loop-u.u + 1))) c.loop-u.invariant.3 ∙ one_column_more (net_of c.args.image.now) c.loop-u.u _)
+loop-u-preserved c = (omega (arith, c.loop-u-test.true), omega (arith, c.keep_open-count.ensures.0, c.loop-u.invariant.1), c.keep_open-count.auto.kept ∙ c.loop-u.invariant.2, c.keep_open-count.ensures.1 ∙ ap (keep (open_in (net_of c.args.network.now.image.now) (c.loop-u.u + 1))) c.loop-u.invariant.3 ∙ one_column_more (net_of c.args.network.now.image.now) c.loop-u.u _)
 
 pub keep_open-count-requires : goal.keep_open-count-requires
 keep_open-count-requires c =
-    record { accepted = (c.requires.0, record { from = omega arith; upto = omega (arith, c.loop-u-test.true, c.requires.0.columns_are) }, omega (arith, c.loop-u.invariant.1, c.loop-u.invariant.2, c.requires.1, c.select_left-count.auto.kept)); indices = indices_of (left c.args.closed.now) (open_upto (net_of c.args.image.now) c.loop-u.u) c.args.sizes.m c.loop-u.invariant.3 }
+    record { column = record { from = omega arith; upto = omega (arith, c.loop-u-test.true, c.args.network.now.accepted.columns_are) }; count_in_bounds = omega (arith, c.loop-u.invariant.1, c.loop-u.invariant.2, c.requires, c.select_left-count.auto.kept); indices = indices_of (left c.args.closed.now) (open_upto (net_of c.args.network.now.image.now) c.loop-u.u) c.args.network.now.sizes.m c.loop-u.invariant.3 }

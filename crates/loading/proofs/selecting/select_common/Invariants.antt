@@ -10,7 +10,4 @@ use Rattle.loading.proofs.SelectLaws.{open_upto}
 use Rattle.loading.proofs.selecting.select_common.Given as goal
 
 abbrev pub invariant-loop-u : goal.invariant-loop-u
-invariant-loop-u l = (l.u ≤ l.k) × (l.count ≤ l.sizes.m) × (length l.kept ≡ length l.initial.kept) × (take l.count l.kept ≡ keep (open_upto (net_of l.image) l.u) (passing (left l.closed) l.sizes.m))
-
-abbrev pub decreases-loop-u : goal.decreases-loop-u
-decreases-loop-u l = l.k - l.u
+invariant-loop-u l = (l.u ≤ l.u-end) × (l.count ≤ l.network.sizes.m) × (length l.kept ≡ length l.initial.kept) × (take l.count l.kept ≡ keep (open_upto (net_of l.network.image.now) l.u) (passing (left l.closed) l.network.sizes.m))

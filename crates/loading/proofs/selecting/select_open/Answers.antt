@@ -13,22 +13,22 @@ use Rattle.loading.proofs.DecodeLaws.{admitted, few_arcs}
 use Rattle.loading.proofs.selecting.select_open.Goals as goal
 
 pub select_left-count-requires : goal.select_left-count-requires
-select_left-count-requires c = omega (arith, c.requires.2, few_arcs c.requires.0)
+select_left-count-requires c = omega (arith, c.requires.kept_len, few_arcs c.args.network.now.accepted)
 
-pub returns-then-sizes-eq1 : goal.returns-then-sizes-eq1
-returns-then-sizes-eq1 c =
-    let all : take c.select_left-count.result c.select_left-count.new.kept ≡ passing (left c.args.closed.now) c.args.sizes.m = c.select_left-count.ensures.1 ∙ ap (passing (left c.args.closed.now)) c.requires.2 in
-    let net = net_of c.args.image.now in
-    let edition-1 = subst (λ e. Admitted e net) (sym c.requires.0.edition_is ∙ c.if-sizes-eq1.true) (admitted c.requires.0) in
-    (omega (arith, c.select_left-count.ensures.0, c.requires.2), all ∙ first_edition_open edition-1 c.args.u c.requires.1.from c.requires.1.upto (left c.args.closed.now) c.requires.0.arcs_are ∙ keep_keep (left c.args.closed.now) (open_in net c.args.u) (numbers 0 c.args.sizes.m))
+pub returns-then-network-eq1 : goal.returns-then-network-eq1
+returns-then-network-eq1 c =
+    let all : take c.select_left-count.result c.select_left-count.new.kept ≡ passing (left c.args.closed.now) c.args.network.now.sizes.m = c.select_left-count.ensures.1 ∙ ap (passing (left c.args.closed.now)) c.requires.kept_len in
+    let net = net_of c.args.network.now.image.now in
+    let edition-1 = subst (λ e. Admitted e net) (sym c.args.network.now.accepted.edition_is ∙ c.if-network-eq1.true) (admitted c.args.network.now.accepted) in
+    (omega (arith, c.select_left-count.ensures.0, c.requires.kept_len), all ∙ first_edition_open edition-1 c.args.u c.requires.column.from c.requires.column.upto (left c.args.closed.now) c.args.network.now.accepted.arcs_are ∙ keep_keep (left c.args.closed.now) (open_in net c.args.u) (numbers 0 c.args.network.now.sizes.m))
 
 pub keep_open-requires : goal.keep_open-requires
 keep_open-requires c =
-    let all : take c.select_left-count.result c.select_left-count.new.kept ≡ passing (left c.args.closed.now) c.args.sizes.m = c.select_left-count.ensures.1 ∙ ap (passing (left c.args.closed.now)) c.requires.2 in
-    record { accepted = (c.requires.0, c.requires.1, omega (arith, c.select_left-count.ensures.0, c.select_left-count.auto.kept)); indices = record { test = left c.args.closed.now; are = all } }
+    let all : take c.select_left-count.result c.select_left-count.new.kept ≡ passing (left c.args.closed.now) c.args.network.now.sizes.m = c.select_left-count.ensures.1 ∙ ap (passing (left c.args.closed.now)) c.requires.kept_len in
+    record { column = c.requires.column; count_in_bounds = omega (arith, c.select_left-count.ensures.0, c.select_left-count.auto.kept); indices = record { test = left c.args.closed.now; are = all } }
 
 pub returns : goal.returns
 returns c =
-    let all : take c.select_left-count.result c.select_left-count.new.kept ≡ passing (left c.args.closed.now) c.args.sizes.m = c.select_left-count.ensures.1 ∙ ap (passing (left c.args.closed.now)) c.requires.2 in
-    let open_there = open_in (net_of c.args.image.now) c.args.u in
-    (omega (arith, c.keep_open.ensures.0, c.select_left-count.ensures.0, c.requires.2), c.keep_open.ensures.1 ∙ ap (keep open_there) all ∙ keep_keep (left c.args.closed.now) open_there (numbers 0 c.args.sizes.m))
+    let all : take c.select_left-count.result c.select_left-count.new.kept ≡ passing (left c.args.closed.now) c.args.network.now.sizes.m = c.select_left-count.ensures.1 ∙ ap (passing (left c.args.closed.now)) c.requires.kept_len in
+    let open_there = open_in (net_of c.args.network.now.image.now) c.args.u in
+    (omega (arith, c.keep_open.ensures.0, c.select_left-count.ensures.0, c.requires.kept_len), c.keep_open.ensures.1 ∙ ap (keep open_there) all ∙ keep_keep (left c.args.closed.now) open_there (numbers 0 c.args.network.now.sizes.m))

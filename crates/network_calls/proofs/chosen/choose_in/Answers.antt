@@ -9,6 +9,6 @@ use Rattle.network_calls.proofs.chosen.choose_in.Goals as goal
 
 pub choose_shared-requires : goal.choose_shared-requires
 choose_shared-requires c =
-    let stars : star_size c.args.sizes.n c.load_common_left-m.result ≡ 3 * c.load_common_left-m.result + length c.args.overall.now + 1 + length c.args.overall.now = ap (λ (x : ℕ). 3 * c.load_common_left-m.result + x + 1 + x) (sym c.requires.overall_len.0) in
-    let all = ap (λ (x : ℕ). c.load_common_left-m.result * x) (sym c.requires.asked.1.bests_long) in
-    record { asked = (c.requires.asked.0, subst₂ (λ (x y : ℕ). Shared (without c.args.closed.now (net_of c.args.image.now)) c.load_common_left-m.result (take x c.load_common_left-m.new.star) (take y c.load_common_left-m.new.costs)) stars all c.load_common_left-m.ensures.1); overall_len = (c.requires.overall_len.0, c.requires.asked.1.bests_long, c.requires.overall_len.1) }
+    let stars : star_size c.args.network.now.sizes.n c.load_common_left-m.result ≡ 3 * c.load_common_left-m.result + length c.args.overall.now + 1 + length c.args.overall.now = ap (λ (x : ℕ). 3 * c.load_common_left-m.result + x + 1 + x) (sym c.requires.overall_len.0) in
+    let all = ap (λ (x : ℕ). c.load_common_left-m.result * x) (sym c.requires.choice_room.bests_long) in
+    record { asked = c.requires.asked; shared = subst₂ (λ (x y : ℕ). Shared (without c.args.closed.now (net_of c.args.network.now.image.now)) c.load_common_left-m.result (take x c.load_common_left-m.new.star) (take y c.load_common_left-m.new.costs)) stars all c.load_common_left-m.ensures.1; overall_len = (c.requires.overall_len.0, c.requires.choice_room.bests_long, c.requires.overall_len.1) }

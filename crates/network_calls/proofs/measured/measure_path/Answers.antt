@@ -12,22 +12,22 @@ use Rattle.network_calls.proofs.measured.measure_path.Goals as goal
 
 pub price-requires : goal.price-requires
 price-requires c =
-    let H = subst (λ net. Shared net c.args.m c.args.star.now c.args.costs.now × Reached net c.args.start c.args.goal) (sym (without_none (net_of c.args.image.now))) (c.requires.accepted.1, record { ends = c.requires.ends.0; route = c.args.nodes.now; path = c.requires.ends.1 }) in
-    record { accepted = (c.requires.accepted.0, H.0); reached = (H.1, c.requires.accepted.2); labelled = λ h. absurd (omega arith) }
+    let H = subst (λ net. Shared net c.args.m c.args.star.now c.args.costs.now × Reached net c.args.start c.args.goal) (sym (without_none (net_of c.args.network.now.image.now))) (c.requires.shared, record { ends = c.requires.ends.0; route = c.args.nodes.now; path = c.requires.ends.1 }) in
+    record { shared = H.0; reached = (H.1, c.requires.bests_len); labelled = λ h. absurd (omega arith) }
 
 pub measure-found-requires : goal.measure-found-requires
 measure-found-requires c =
-    let held : Held (net_of c.args.image.now) c.args.m c.args.start c.args.goal c.args.star.now c.args.costs.now c.price.new.bests = subst (λ net. Held net c.args.m c.args.start c.args.goal c.args.star.now c.args.costs.now c.price.new.bests) (without_none (net_of c.args.image.now)) c.price.ensures in
+    let held : Held (net_of c.args.network.now.image.now) c.args.m c.args.start c.args.goal c.args.star.now c.args.costs.now c.price.new.bests = subst (λ net. Held net c.args.m c.args.start c.args.goal c.args.star.now c.args.costs.now c.price.new.bests) (without_none (net_of c.args.network.now.image.now)) c.price.ensures in
     let H = held in
-    let both = measurable (priced_for (admitted c.requires.accepted.0) c.requires.accepted.0.columns_are c.requires.accepted.1 c.requires.accepted.0.nodes_are c.requires.ends.0 H) c.requires.ends.0.start_in.from (omega (arith, c.requires.accepted.0.nodes_are, c.requires.ends.0.start_in.upto)) c.requires.ends.0.apart (path_for (admitted c.requires.accepted.0) c.requires.accepted.0.columns_are c.requires.accepted.1 c.requires.accepted.0.nodes_are c.requires.ends.0 H c.requires.ends.1) in
+    let both = measurable (priced_for (admitted c.args.network.now.accepted) c.args.network.now.accepted.columns_are c.requires.shared c.args.network.now.accepted.nodes_are c.requires.ends.0 H) c.requires.ends.0.start_in.from (omega (arith, c.args.network.now.accepted.nodes_are, c.requires.ends.0.start_in.upto)) c.requires.ends.0.apart (path_for (admitted c.args.network.now.accepted) c.args.network.now.accepted.columns_are c.requires.shared c.args.network.now.accepted.nodes_are c.requires.ends.0 H c.requires.ends.1) in
     record { columns = both.0; by_arcs = both.1.0; in_bounds = both.1.1.0; by_index = both.1.1.1 }
 
 pub returns : goal.returns
 returns c =
-    let held : Held (net_of c.args.image.now) c.args.m c.args.start c.args.goal c.args.star.now c.args.costs.now c.price.new.bests = subst (λ net. Held net c.args.m c.args.start c.args.goal c.args.star.now c.args.costs.now c.price.new.bests) (without_none (net_of c.args.image.now)) c.price.ensures in
-    (measured_below (admitted c.requires.accepted.0) c.requires.accepted.0.columns_are c.requires.accepted.1 c.requires.accepted.0.nodes_are c.requires.ends.0 held c.requires.ends.1 (omega arith) c.measure-found.ensures).0
+    let held : Held (net_of c.args.network.now.image.now) c.args.m c.args.start c.args.goal c.args.star.now c.args.costs.now c.price.new.bests = subst (λ net. Held net c.args.m c.args.start c.args.goal c.args.star.now c.args.costs.now c.price.new.bests) (without_none (net_of c.args.network.now.image.now)) c.price.ensures in
+    (measured_below (admitted c.args.network.now.accepted) c.args.network.now.accepted.columns_are c.requires.shared c.args.network.now.accepted.nodes_are c.requires.ends.0 held c.requires.ends.1 (omega arith) c.measure-found.ensures).0
 
 pub overflow_cast-result : goal.overflow_cast-result
 overflow_cast-result c =
-    let held : Held (net_of c.args.image.now) c.args.m c.args.start c.args.goal c.args.star.now c.args.costs.now c.price.new.bests = subst (λ net. Held net c.args.m c.args.start c.args.goal c.args.star.now c.args.costs.now c.price.new.bests) (without_none (net_of c.args.image.now)) c.price.ensures in
-    omega (arith, (measured_below (admitted c.requires.accepted.0) c.requires.accepted.0.columns_are c.requires.accepted.1 c.requires.accepted.0.nodes_are c.requires.ends.0 held c.requires.ends.1 (omega arith) c.measure-found.ensures).1)
+    let held : Held (net_of c.args.network.now.image.now) c.args.m c.args.start c.args.goal c.args.star.now c.args.costs.now c.price.new.bests = subst (λ net. Held net c.args.m c.args.start c.args.goal c.args.star.now c.args.costs.now c.price.new.bests) (without_none (net_of c.args.network.now.image.now)) c.price.ensures in
+    omega (arith, (measured_below (admitted c.args.network.now.accepted) c.args.network.now.accepted.columns_are c.requires.shared c.args.network.now.accepted.nodes_are c.requires.ends.0 held c.requires.ends.1 (omega arith) c.measure-found.ensures).1)

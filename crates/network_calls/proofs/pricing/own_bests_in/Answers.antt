@@ -18,9 +18,9 @@ rest closed image = without closed (net_of image)
 
 pub loop-u-preserved : goal.loop-u-preserved
 loop-u-preserved c =
-    let inside : c.loop-u.u + 1 ≤ length (rest c.args.closed.now c.args.image.now).columns = omega (arith, c.loop-u-test.true, rest_columns c.requires.accepted.0 c.args.closed.now) in
-    let own : c.narrow.result ≡ label (rest c.args.closed.now c.args.image.now).nodes (column (rest c.args.closed.now c.args.image.now) (c.loop-u.u + 1)) c.args.goal c.args.start = let E = rest_ends c.requires.accepted.0 c.args.closed.now c.requires.accepted.1 in c.narrow.ensures ∙ own_label (rest_admitted c.requires.accepted.0 c.args.closed.now) c.load_left.ensures.1 (omega arith) inside E.start_in.from E.start_in.upto in
-    let net = rest c.args.closed.now c.args.image.now in
+    let inside : c.loop-u.u + 1 ≤ length (rest c.args.closed.now c.args.network.now.image.now).columns = omega (arith, c.loop-u-test.true, rest_columns c.args.network.now.accepted c.args.closed.now) in
+    let own : c.narrow.result ≡ label (rest c.args.closed.now c.args.network.now.image.now).nodes (column (rest c.args.closed.now c.args.network.now.image.now) (c.loop-u.u + 1)) c.args.goal c.args.start = let E = rest_ends c.args.network.now.accepted c.args.closed.now c.requires.ends in c.narrow.ensures ∙ own_label (rest_admitted c.args.network.now.accepted c.args.closed.now) c.load_left.ensures.1 (omega arith) inside E.start_in.from E.start_in.upto in
+    let net = rest c.args.closed.now c.args.network.now.image.now in
     let room : c.loop-u.u + 1 ≤ length c.loop-u.bests = omega (arith, c.loop-u.invariant.4, c.requires.room.1, c.loop-u-test.true) in
     let at : c.loop-u.u ≡ c.loop-u.u + 1 - 1 = omega arith in
     let new : set c.loop-u.bests c.loop-u.u c.narrow.result ≡ set c.loop-u.bests (c.loop-u.u + 1 - 1) (label net.nodes (column net (c.loop-u.u + 1)) c.args.goal c.args.start) = ap₂ (λ (j y : ℕ). set c.loop-u.bests j y) at own in (
@@ -34,22 +34,19 @@ loop-u-preserved c =
 
 pub returns : goal.returns
 returns c =
-    let are = rest_columns c.requires.accepted.0 c.args.closed.now in
-    let done : c.loop-u.u ≡ length (rest c.args.closed.now c.args.image.now).columns = omega (arith, are, c.loop-u.invariant.0, c.loop-u-test.false) in
-    own_bests (rest c.args.closed.now c.args.image.now) c.args.start c.args.goal (c.loop-u.invariant.4 ∙ c.requires.room.1 ∙ are) (λ j h. c.loop-u.invariant.5 j (omega (arith, done)))
+    let are = rest_columns c.args.network.now.accepted c.args.closed.now in
+    let done : c.loop-u.u ≡ length (rest c.args.closed.now c.args.network.now.image.now).columns = omega (arith, are, c.loop-u.invariant.0, c.loop-u-test.false) in
+    own_bests (rest c.args.closed.now c.args.network.now.image.now) c.args.start c.args.goal (c.loop-u.invariant.4 ∙ c.requires.room.1 ∙ are) (λ j h. c.loop-u.invariant.5 j (omega (arith, done)))
 
 pub loop-u-init : goal.loop-u-init
 loop-u-init c = (omega arith, refl, refl, refl, refl, λ j h. absurd (omega arith))
 
 pub load_left-requires : goal.load_left-requires
 load_left-requires c =
-    record { accepted = (c.requires.accepted.0, record { from = omega arith; upto = omega (arith, c.loop-u-test.true, c.requires.accepted.0.columns_are) }, c.requires.accepted.1.goal_in); room = record { star_long = c.loop-u.invariant.1 ∙ c.requires.room.0.star_long; weights_long = c.loop-u.invariant.2 ∙ c.requires.room.0.weights_long; labels_long = c.loop-u.invariant.3 ∙ c.requires.room.0.labels_long } }
+    record { column = record { from = omega arith; upto = omega (arith, c.loop-u-test.true, c.args.network.now.accepted.columns_are) }; goal = c.requires.ends.goal_in; room = record { star_long = c.loop-u.invariant.1 ∙ c.requires.room.0.star_long; weights_long = c.loop-u.invariant.2 ∙ c.requires.room.0.weights_long; labels_long = c.loop-u.invariant.3 ∙ c.requires.room.0.labels_long } }
 
 pub narrow-requires : goal.narrow-requires
 narrow-requires c =
-    let start_in : (c.args.start < length c.load_left.new.overall) × (length c.load_left.new.overall ≤ 201) = let long = c.load_left.auto.overall ∙ c.loop-u.invariant.3 ∙ c.requires.room.0.labels_long in (omega (arith, long, c.requires.accepted.1.start_in.upto, c.requires.accepted.0.nodes_are), omega (arith, long, few_nodes c.requires.accepted.0)) in
-    let inside : c.loop-u.u + 1 ≤ length (rest c.args.closed.now c.args.image.now).columns = omega (arith, c.loop-u-test.true, rest_columns c.requires.accepted.0 c.args.closed.now) in
-    own_narrow (rest_admitted c.requires.accepted.0 c.args.closed.now) c.load_left.ensures.1 (omega arith) inside start_in.0
-
-pub loop-u-smaller : goal.loop-u-smaller
-loop-u-smaller c = omega (arith, c.loop-u-test.true)
+    let start_in : (c.args.start < length c.load_left.new.overall) × (length c.load_left.new.overall ≤ 201) = let long = c.load_left.auto.overall ∙ c.loop-u.invariant.3 ∙ c.requires.room.0.labels_long in (omega (arith, long, c.requires.ends.start_in.upto, c.args.network.now.accepted.nodes_are), omega (arith, long, few_nodes c.args.network.now.accepted)) in
+    let inside : c.loop-u.u + 1 ≤ length (rest c.args.closed.now c.args.network.now.image.now).columns = omega (arith, c.loop-u-test.true, rest_columns c.args.network.now.accepted c.args.closed.now) in
+    own_narrow (rest_admitted c.args.network.now.accepted c.args.closed.now) c.load_left.ensures.1 (omega arith) inside start_in.0

@@ -13,7 +13,4 @@ abbrev rest : List ℕ → List ℕ → Net
 rest closed image = without closed (net_of image)
 
 abbrev pub invariant-loop-u : goal.invariant-loop-u
-invariant-loop-u l = (l.u ≤ l.k) × (length l.star ≡ length l.initial.star) × (length l.weights ≡ length l.initial.weights) × (length l.labels ≡ length l.initial.labels) × (length l.bests ≡ length l.initial.bests) × ((j : ℕ) → 1 + j < l.u + 1 → get_or l.bests j 0 ≡ label (rest l.closed l.image).nodes (column (rest l.closed l.image) (1 + j)) l.goal l.start)
-
-abbrev pub decreases-loop-u : goal.decreases-loop-u
-decreases-loop-u l = l.k - l.u
+invariant-loop-u l = (l.u ≤ l.u-end) × (length l.star ≡ length l.initial.star) × (length l.weights ≡ length l.initial.weights) × (length l.labels ≡ length l.initial.labels) × (length l.bests ≡ length l.initial.bests) × ((j : ℕ) → 1 + j < l.u + 1 → get_or l.bests j 0 ≡ label (rest l.closed l.network.image.now).nodes (column (rest l.closed l.network.image.now) (1 + j)) l.goal l.start)

@@ -21,10 +21,15 @@ returns-in_default c =
 pub measure_list-requires : goal.measure_list-requires
 measure_list-requires c =
     let passes : ((image_fault c.args.image.now then ends_row (net_of c.args.image.now) c.args.start c.args.goal) ≡ sound) × Accepted c.args.image.now c.in-Network.sizes = given_sizes _ (λ e. (then_sound _ _ e).0) (sym (ap checked c.in-Network.is) ∙ c.check_ends-answer.ensures) in
-    let p = passes in (p.1, ends_sound _ _ _ (then_sound _ _ p.0).1)
+    ends_sound _ _ _ (then_sound _ _ passes.0).1
 
 pub returns : goal.returns
 unfolding regret_outcome regret_fault
 returns c =
     let passes : ((image_fault c.args.image.now then ends_row (net_of c.args.image.now) c.args.start c.args.goal) ≡ sound) × Accepted c.args.image.now c.in-Network.sizes = given_sizes _ (λ e. (then_sound _ _ e).0) (sym (ap checked c.in-Network.is) ∙ c.check_ends-answer.ensures) in
     c.measure_list.ensures ∙ ap (λ f. outcome f (figure (net_of c.args.image.now) c.args.start c.args.goal c.args.nodes.now ∷ worst (net_of c.args.image.now) c.args.start c.args.goal c.args.nodes.now ∷ [])) (sym (then_next _ passes.0))
+
+pub invariant_of-network : goal.invariant_of-network
+invariant_of-network c =
+    let passes : ((image_fault c.args.image.now then ends_row (net_of c.args.image.now) c.args.start c.args.goal) ≡ sound) × Accepted c.args.image.now c.in-Network.sizes = given_sizes _ (λ e. (then_sound _ _ e).0) (sym (ap checked c.in-Network.is) ∙ c.check_ends-answer.ensures) in
+    record { accepted = passes.1 }

@@ -24,7 +24,7 @@ choose-requires c =
     let passes : (robust_rows c.args.image.now c.args.column c.args.start c.args.goal c.args.wanted (length c.args.path.now) (length c.args.work.now) ≡ sound) × Accepted c.args.image.now c.in-Network.sizes = given_sizes _ (λ e. (robust_sound c.args.image.now c.args.column c.args.start c.args.goal c.args.wanted c.args.path.now c.args.work.now e).accepted) (sym (ap checked c.in-Network.is) ∙ c.check_robust-answer.ensures) in
     let p = passes in
     let g = robust_sound c.args.image.now c.args.column c.args.start c.args.goal c.args.wanted c.args.path.now c.args.work.now p.0 in
-    record { accepted = (p.1, record { from = g.from; upto = g.upto }, g.ends); choice_slices = choice_slices c.args.image.now c.args.column c.args.start c.args.goal c.args.wanted c.args.path.now c.args.work.now p.0 }
+    record { column = record { from = g.from; upto = g.upto }; ends = g.ends; choice_slices = choice_slices c.args.image.now c.args.column c.args.start c.args.goal c.args.wanted c.args.path.now c.args.work.now p.0 }
 
 pub returns : goal.returns
 unfolding robust_outcome robust_fault choice_row
@@ -32,3 +32,8 @@ returns c =
     let passes : (robust_rows c.args.image.now c.args.column c.args.start c.args.goal c.args.wanted (length c.args.path.now) (length c.args.work.now) ≡ sound) × Accepted c.args.image.now c.in-Network.sizes = given_sizes _ (λ e. (robust_sound c.args.image.now c.args.column c.args.start c.args.goal c.args.wanted c.args.path.now c.args.work.now e).accepted) (sym (ap checked c.in-Network.is) ∙ c.check_robust-answer.ensures) in
     let e = sym (then_next (choice_row c.args.image.now c.args.column c.args.start c.args.goal) passes.0) in
     record { result_value = c.choose.ensures.result_value ∙ ap (λ f. outcome f (robust_values (robust_of c.args.image.now c.args.column c.args.start c.args.goal c.args.wanted))) e; path_after = c.choose.ensures.path_after ∙ ap (λ f. after f (chosen (robust_of c.args.image.now c.args.column c.args.start c.args.goal c.args.wanted)) c.args.path.now) e; work_after = c.choose.ensures.work_after ∙ ap (λ f. cleared f c.args.work.now) e; kept3 = kept_3 c.args.image.now c.args.column c.args.start c.args.goal c.args.wanted (length c.args.path.now) (length c.args.work.now) }
+
+pub invariant_of-network : goal.invariant_of-network
+invariant_of-network c =
+    let passes : (robust_rows c.args.image.now c.args.column c.args.start c.args.goal c.args.wanted (length c.args.path.now) (length c.args.work.now) ≡ sound) × Accepted c.args.image.now c.in-Network.sizes = given_sizes _ (λ e. (robust_sound c.args.image.now c.args.column c.args.start c.args.goal c.args.wanted c.args.path.now c.args.work.now e).accepted) (sym (ap checked c.in-Network.is) ∙ c.check_robust-answer.ensures) in
+    record { accepted = passes.1 }

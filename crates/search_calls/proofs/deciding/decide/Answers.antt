@@ -10,51 +10,51 @@ use Rattle.search_calls.proofs.deciding.decide.Goals as goal
 
 pub decide_in-requires : goal.decide_in-requires
 decide_in-requires c =
-    let ready : Accepted c.args.image.now c.args.sizes = c.requires.0 in
+    let ready : Accepted c.args.network.now.image.now c.args.network.now.sizes = c.args.network.now.accepted in
     let a = ready in
-    record { accepted = (a, record { nodes_are = refl; arcs_are = refl; limit_to = omega arith }, c.requires.1); choice_room = (choice_room a, part_long 201 _ (places_fit a)); n_in_bounds = (omega (arith, few_nodes a), omega (arith, a.nodes_are, c.requires.2)) }
+    record { asks = record { nodes_are = refl; arcs_are = refl; limit_to = omega arith }; ends = c.requires.ends; choice_room = (choice_room a, part_long 201 _ (places_fit a)); n_in_bounds = (omega (arith, few_nodes a), omega (arith, a.nodes_are, c.requires.path_len)) }
 
 pub overflow_cast-task : goal.overflow_cast-task
 overflow_cast-task c =
-    let ready : Accepted c.args.image.now c.args.sizes = c.requires.0 in
-    omega (arith, c.requires.1.start_in.upto, ready.nodes_are, few_nodes ready)
+    let ready : Accepted c.args.network.now.image.now c.args.network.now.sizes = c.args.network.now.accepted in
+    omega (arith, c.requires.ends.start_in.upto, ready.nodes_are, few_nodes ready)
 
 pub slice_bounds-star-end : goal.slice_bounds-star-end
 slice_bounds-star-end c =
-    let ready : Accepted c.args.image.now c.args.sizes = c.requires.0 in
+    let ready : Accepted c.args.network.now.image.now c.args.network.now.sizes = c.args.network.now.accepted in
     star_fits ready
 
 pub slice_bounds-decide_in-end : goal.slice_bounds-decide_in-end
 slice_bounds-decide_in-end c =
-    let ready : Accepted c.args.image.now c.args.sizes = c.requires.0 in
+    let ready : Accepted c.args.network.now.image.now c.args.network.now.sizes = c.args.network.now.accepted in
     sym (part_long 3403 _ (star_fits ready))
 
 pub slice_bounds-costs-end : goal.slice_bounds-costs-end
 slice_bounds-costs-end c =
-    let ready : Accepted c.args.image.now c.args.sizes = c.requires.0 in
+    let ready : Accepted c.args.network.now.image.now c.args.network.now.sizes = c.args.network.now.accepted in
     all_fit ready
 
 pub slice_bounds-decide_in-end-2 : goal.slice_bounds-decide_in-end-2
 slice_bounds-decide_in-end-2 c =
-    let ready : Accepted c.args.image.now c.args.sizes = c.requires.0 in
+    let ready : Accepted c.args.network.now.image.now c.args.network.now.sizes = c.args.network.now.accepted in
     sym (part_long 8000 _ (all_fit ready))
 
 pub slice_bounds-overall-end : goal.slice_bounds-overall-end
 slice_bounds-overall-end c =
-    let ready : Accepted c.args.image.now c.args.sizes = c.requires.0 in
+    let ready : Accepted c.args.network.now.image.now c.args.network.now.sizes = c.args.network.now.accepted in
     places_fit ready
 
 pub slice_bounds-decide_in-end-3 : goal.slice_bounds-decide_in-end-3
 slice_bounds-decide_in-end-3 c =
-    let ready : Accepted c.args.image.now c.args.sizes = c.requires.0 in
+    let ready : Accepted c.args.network.now.image.now c.args.network.now.sizes = c.args.network.now.accepted in
     sym (part_long 201 _ (places_fit ready))
 
 pub slice_bounds-bests-end : goal.slice_bounds-bests-end
 slice_bounds-bests-end c =
-    let ready : Accepted c.args.image.now c.args.sizes = c.requires.0 in
+    let ready : Accepted c.args.network.now.image.now c.args.network.now.sizes = c.args.network.now.accepted in
     few_columns ready
 
 pub slice_bounds-decide_in-end-4 : goal.slice_bounds-decide_in-end-4
 slice_bounds-decide_in-end-4 c =
-    let ready : Accepted c.args.image.now c.args.sizes = c.requires.0 in
+    let ready : Accepted c.args.network.now.image.now c.args.network.now.sizes = c.args.network.now.accepted in
     sym (part_long 8 _ (few_columns ready))

@@ -24,7 +24,7 @@ decide-requires c =
     let passes : (entry_rows c.args.image.now c.args.start c.args.goal (length c.args.path.now) ≡ sound) × Accepted c.args.image.now c.in-Network.sizes = given_sizes _ (entry_accepted c.args.image.now c.args.start c.args.goal (length c.args.path.now)) (sym (ap checked c.in-Network.is) ∙ c.check_room-answer.ensures) in
     let p = passes in
     let E = entry_sound c.args.image.now c.args.start c.args.goal (length c.args.path.now) p.0 in
-    (p.1, E.ends, E.room_for)
+    record { ends = E.ends; path_len = E.room_for }
 
 pub returns : goal.returns
 unfolding search_outcome search_fault
@@ -32,3 +32,8 @@ returns c =
     let passes : (entry_rows c.args.image.now c.args.start c.args.goal (length c.args.path.now) ≡ sound) × Accepted c.args.image.now c.in-Network.sizes = given_sizes _ (entry_accepted c.args.image.now c.args.start c.args.goal (length c.args.path.now)) (sym (ap checked c.in-Network.is) ∙ c.check_room-answer.ensures) in
     let e = sym (then_next (decided_rows c.args.image.now c.args.start c.args.goal c.args.limit) passes.0) in
     record { result_value = c.decide.ensures.result_value ∙ ap (λ f. outcome f (search_values c.args.image.now c.args.start c.args.goal)) e; path_after = c.decide.ensures.path_after ∙ ap (λ f. after f (search_path c.args.image.now c.args.start c.args.goal) c.args.path.now) e; kept_search = kept_search c.args.image.now c.args.start c.args.goal c.args.limit (length c.args.path.now) }
+
+pub invariant_of-network : goal.invariant_of-network
+invariant_of-network c =
+    let passes : (entry_rows c.args.image.now c.args.start c.args.goal (length c.args.path.now) ≡ sound) × Accepted c.args.image.now c.in-Network.sizes = given_sizes _ (entry_accepted c.args.image.now c.args.start c.args.goal (length c.args.path.now)) (sym (ap checked c.in-Network.is) ∙ c.check_room-answer.ensures) in
+    record { accepted = passes.1 }

@@ -40,7 +40,7 @@ follow-after-requires c =
     let passes : (fresh_fault c.args.image.now c.args.column c.args.start c.args.goal c.args.wanted (length c.args.work.now) ≡ sound) × Accepted c.args.image.now c.in-Network.sizes = given_sizes _ (λ e. (ranking_sound _ _ _ _ _ _ e).search.accepted) (sym (ap checked c.in-Network.is) ∙ c.check_ranking-answer.ensures) in
     let inside : c.args.arc < c.in-Network.sizes.m = omega (arith, c.if-sizes-arc.false) in
     let p = passes in
-    (asked_of c.args.column c.args.start c.args.goal c.args.wanted p.1 p.0, inside)
+    record { asked = asked_of c.args.column c.args.start c.args.goal c.args.wanted p.1 p.0; arc = inside }
 
 pub closed_roads-roads-requires : goal.closed_roads-roads-requires
 unfolding fresh_fault
@@ -57,3 +57,9 @@ returns c =
     let s = then_next _ p.0 ∙ right_arc (net_of c.args.image.now) c.args.arc (omega (arith, p.1.arcs_are, inside)) in
     let week_is = c.follow-after.ensures.value ∙ sym (if_passes _ c.args.week s) in
     record { week_value = week_is; tally_value = ap (λ (x : ℕ). gives (x ∷ [])) (c.closed_roads-roads.ensures.0 ∙ ap (λ (m : ℕ). closed_roads c.follow-after.result.closed m) p.1.arcs_are ∙ ap (λ w. closed_roads w.closed (length (net_of c.args.image.now).arcs)) week_is) ∙ sym (outcome_sound _ s); work_after = c.follow-after.ensures.work_after ∙ cleared_is c.args.work.now ∙ ap (λ f. cleared f c.args.work.now) (sym s) }
+
+pub invariant_of-network : goal.invariant_of-network
+unfolding fresh_fault
+invariant_of-network c =
+    let passes : (fresh_fault c.args.image.now c.args.column c.args.start c.args.goal c.args.wanted (length c.args.work.now) ≡ sound) × Accepted c.args.image.now c.in-Network.sizes = given_sizes _ (λ e. (ranking_sound _ _ _ _ _ _ e).search.accepted) (sym (ap checked c.in-Network.is) ∙ c.check_ranking-answer.ensures) in
+    record { accepted = passes.1 }

@@ -36,3 +36,9 @@ returns c =
     let passes : (fresh_fault c.args.image.now c.args.column c.args.start c.args.goal c.args.wanted (length c.args.work.now) ≡ sound) × Accepted c.args.image.now c.in-Network.sizes = given_sizes _ (λ e. (ranking_sound _ _ _ _ _ _ e).search.accepted) (sym (ap checked c.in-Network.is) ∙ c.check_ranking-answer.ensures) in
     let p = passes in
     record { week_value = c.run-week.ensures.value ∙ ap (λ net. week_of (replicate 16 0) (robust net c.args.column c.args.start c.args.goal c.args.wanted)) (without_fresh (net_of c.args.image.now)) ∙ sym (if_passes _ _ p.0); tally_value = sym (outcome_sound _ p.0); work_after = c.run-week.ensures.work_after ∙ cleared_is c.args.work.now ∙ ap (λ f. cleared f c.args.work.now) (sym p.0); kept_week = kept_week c.args.image.now c.args.column c.args.start c.args.goal c.args.wanted (length c.args.work.now) }
+
+pub invariant_of-network : goal.invariant_of-network
+unfolding fresh_fault
+invariant_of-network c =
+    let passes : (fresh_fault c.args.image.now c.args.column c.args.start c.args.goal c.args.wanted (length c.args.work.now) ≡ sound) × Accepted c.args.image.now c.in-Network.sizes = given_sizes _ (λ e. (ranking_sound _ _ _ _ _ _ e).search.accepted) (sym (ap checked c.in-Network.is) ∙ c.check_ranking-answer.ensures) in
+    record { accepted = passes.1 }

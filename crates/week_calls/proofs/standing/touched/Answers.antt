@@ -5,10 +5,22 @@ use Rattle.week_calls.proofs.WeekLaws.{arc_inside, arc_read}
 use Rattle.week_calls.proofs.standing.touched.Goals as goal
 
 pub read16-tail-requires : goal.read16-tail-requires
-read16-tail-requires c = omega (arith, arc_inside c.requires.0 c.args.arc c.requires.1)
+read16-tail-requires c = omega (arith, arc_inside c.args.network.now.accepted c.args.arc c.requires)
 
 pub read16-head-requires : goal.read16-head-requires
-read16-head-requires c = omega (arith, arc_inside c.requires.0 c.args.arc c.requires.1)
+read16-head-requires c = omega (arith, arc_inside c.args.network.now.accepted c.args.arc c.requires)
 
 pub returns : goal.returns
-returns c = c.touches.ensures ∙ arc_read c.requires.0 c.args.arc c.requires.1 c.args.route.now c.read16-tail.ensures.0 c.read16-head.ensures.0
+returns c = c.touches.ensures ∙ arc_read c.args.network.now.accepted c.args.arc c.requires c.args.route.now c.read16-tail.ensures.0 c.read16-head.ensures.0
+
+pub overflow_mul-arc : goal.overflow_mul-arc
+overflow_mul-arc c = omega (arith, arc_inside c.args.network.now.accepted c.args.arc c.requires)
+
+pub overflow_add-arc : goal.overflow_add-arc
+overflow_add-arc c = omega (arith, arc_inside c.args.network.now.accepted c.args.arc c.requires)
+
+pub overflow_mul-arc-2 : goal.overflow_mul-arc-2
+overflow_mul-arc-2 c = omega (arith, arc_inside c.args.network.now.accepted c.args.arc c.requires)
+
+pub overflow_add-arc-2 : goal.overflow_add-arc-2
+overflow_add-arc-2 c = omega (arith, arc_inside c.args.network.now.accepted c.args.arc c.requires)
