@@ -1,1 +1,2 @@
+mod ClearLaws
 mod RowLaws

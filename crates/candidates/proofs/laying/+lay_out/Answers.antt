@@ -19,12 +19,12 @@ lay_out-requires t c =
       omega (arith, c.decreases, parent_lower c.args.n c.args.work.now c.args.place root r z),
       (
         parent_rooted c.args.n c.args.work.now c.args.place root r z,
-        (omega (arith, c.requires.le_count, c.smaller.ensures, c.shared_at-shared.ensures, (rooted_fits c.args.n c.args.work.now c.args.place root).some), omega (arith, c.smaller.ensures, c.shared_at-shared.ensures, leaves_early c.args.n c.args.work.now c.args.place root r z), omega (arith, c.requires.le_count, c.smaller.ensures)),
+        (omega (arith, c.requires.le_count, c.shared_at-shared.ensures, (rooted_fits c.args.n c.args.work.now c.args.place root).some), omega (arith, c.shared_at-shared.ensures, leaves_early c.args.n c.args.work.now c.args.place root r z), omega (arith, c.requires.le_count, c.min.ensures)),
       ),
     )
 
-pub lay_tail-requires-clause-by_index : goal.lay_tail-requires-clause-by_index
-lay_tail-requires-clause-by_index t c = (rooted_fits c.args.n c.args.work.now c.args.place c.requires.rooted).nodes
+pub lay_tail-requires-clause-nodes_bound : goal.lay_tail-requires-clause-nodes_bound
+lay_tail-requires-clause-nodes_bound t c = (rooted_fits c.args.n c.args.work.now c.args.place c.requires.rooted).nodes
 
 pub returns : goal.returns
 returns t c =
@@ -38,7 +38,7 @@ returns t c =
           w.path-is ∙ start_laid c.args.start c.shared_at-shared.result c.args.count first c.args.path.now (taken_start c.args.n c.args.work.now c.args.place root c.args.start z) (same ∙ (rooted_fits c.args.n c.args.work.now c.args.place root).from_start z) c.requires.le_count.0 (omega arith)
       | else-parent-eq0 w ↦
           let z : (entry_at c.args.n c.args.work.now c.args.place).parent ≡ c.parent_at-parent.result - 1 + 1 = sym c.parent_at-parent.ensures ∙ (omega (arith, w.if-parent-eq0.false)) in
-          w.path-is ∙ parent_laid c.shared_at-shared.result c.args.count w.smaller.result first (route_at c.args.start c.args.n c.args.work.now (c.parent_at-parent.result - 1)) c.args.path.now _ (taken_parent c.args.n c.args.work.now c.args.place root c.args.start (c.parent_at-parent.result - 1) z ∙ ap (λ (x : ℕ). take x (route_at c.args.start c.args.n c.args.work.now (c.parent_at-parent.result - 1))) (sym same)) w.smaller.ensures w.lay_out.ensures
+          w.path-is ∙ parent_laid c.shared_at-shared.result c.args.count w.min.result first (route_at c.args.start c.args.n c.args.work.now (c.parent_at-parent.result - 1)) c.args.path.now _ (taken_parent c.args.n c.args.work.now c.args.place root c.args.start (c.parent_at-parent.result - 1) z ∙ ap (λ (x : ℕ). take x (route_at c.args.start c.args.n c.args.work.now (c.parent_at-parent.result - 1))) (sym same)) w.min.ensures w.lay_out.ensures
     ] in
     c.lay_tail.ensures
     ∙ both_laid c.shared_at-shared.result c.args.count first (entry_at c.args.n c.args.work.now c.args.place).tail c.args.path.now c.if-parent-eq0.path (taken_length c.args.n c.args.work.now c.args.place root c.args.start ∙ sym same) began

@@ -17,11 +17,11 @@ returns-then-count-shared c = no_tail c.args.shared c.args.count c.args.path.now
 pub load-requires : goal.load-requires
 load-requires c =
     let words : let from = c.entry_start-from.result + 15 in let k = c.args.count - c.args.shared in take (from + k - from) (drop from c.args.work.now) ≡ take k (entry_at c.args.n c.args.work.now c.args.place).tail = tail_words c.args.n c.args.work.now c.args.place (c.args.count - c.args.shared) c.requires.count_in_bounds.1 c.requires.readable c.entry_start-from.result c.entry_start-from.ensures.0 in
-    let small : (i : ℕ) → let from = c.entry_start-from.result + 15 in let k = c.args.count - c.args.shared in i < k → get_or (take (from + k - from) (drop from c.args.work.now)) i 0 ≤ c.args.n = λ i h. rw words (omega (arith, get_or-take (c.args.count - c.args.shared) (entry_at c.args.n c.args.work.now c.args.place).tail i 0 h, c.requires.by_index i (omega (arith, c.requires.count_in_bounds.1)))) in
+    let small : (i : ℕ) → let from = c.entry_start-from.result + 15 in let k = c.args.count - c.args.shared in i < k → get_or (take (from + k - from) (drop from c.args.work.now)) i 0 ≤ c.args.n = λ i h. rw words (omega (arith, get_or-take (c.args.count - c.args.shared) (entry_at c.args.n c.args.work.now c.args.place).tail i 0 h, c.requires.nodes_bound i (omega (arith, c.requires.count_in_bounds.1)))) in
     let k = c.args.count - c.args.shared in
     let room = tail_room c.args.n c.args.work.now c.args.place k c.requires.count_in_bounds.1 in
     let l = mid_len (c.entry_start-from.result + 15) (c.entry_start-from.result + 15 + k) c.args.work.now (omega (arith, c.entry_start-from.ensures.1)) in
-    record { words_len = omega (arith, mid_len c.args.shared c.args.count c.args.path.now (omega arith)); by_index = λ i h. let z = small i (omega arith) in omega (arith, c.requires.readable.few) }
+    record { same_len = omega (arith, mid_len c.args.shared c.args.count c.args.path.now (omega arith)); nodes_fit = λ i h. let z = small i (omega arith) in omega (arith, c.requires.readable.few) }
 
 pub returns : goal.returns
 returns c =

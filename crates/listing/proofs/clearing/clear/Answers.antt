@@ -1,21 +1,17 @@
--- `clearing::clear` fills the workspace with 0. The loop: the words below i are 0. Assumes nothing.
+-- `clearing::clear` fills the workspace with 0. The loop: the words below `from` are 0. Assumes nothing.
+use Prim.Native.Nat.{ℕ}
 use native.Mathlib.Omega.{arith}
-use mathlib.Core.Path.{refl, ◌∙◌}
-use lib.ListN.{length, replicate, length-replicate}
-use Rattle.candidates.proofs.PartLaws.{copy_all}
+use mathlib.Core.Path.{◌∙◌, ap}
+use lib.ListN.{replicate}
+use borrow.Rule.Slice.PartMut.{mid_len}
+use Rattle.listing.proofs.ClearLaws.{none_cleared, piece_cleared, all_cleared}
 use Rattle.listing.proofs.clearing.clear.Goals as goal
 
-pub loop-i-init : goal.loop-i-init
-loop-i-init c = (omega arith, refl, refl)
+pub loop-from-init : goal.loop-from-init
+loop-from-init c = none_cleared c.args.work.now
 
-pub clear_piece-requires : goal.clear_piece-requires
-clear_piece-requires c = (omega (arith, c.piece_end-to.ensures), omega (arith, c.piece_end-to.ensures, c.loop-i.invariant.1), rw c.loop-i.invariant.1 c.loop-i.invariant.2)
-
-pub loop-i-smaller : goal.loop-i-smaller
-loop-i-smaller c = omega (arith, c.piece_end-to.ensures)
-
-pub loop-i-preserved : goal.loop-i-preserved
-loop-i-preserved c = (omega (arith, c.piece_end-to.ensures), c.clear_piece.auto.work ∙ c.loop-i.invariant.1, rw c.loop-i.invariant.1 at c.clear_piece.ensures)
+pub loop-from-preserved : goal.loop-from-preserved
+loop-from-preserved c = piece_cleared c.args.work.now c.loop-from.work c.fill.new.self _ _ (omega arith) (omega arith) c.loop-from.invariant (c.fill.ensures.after (λ y h. h) ∙ ap (λ (x : ℕ). replicate x 0) (mid_len _ _ c.loop-from.work (omega arith)))
 
 pub returns : goal.returns
-returns c = copy_all (replicate (length c.args.work.now) 0) c.loop-i.work c.loop-i.i (simp length-replicate (omega arith)) (simp length-replicate c.loop-i.invariant.1) c.loop-i.invariant.2
+returns c = c.loop-from.invariant ∙ all_cleared c.args.work.now _ (omega arith)

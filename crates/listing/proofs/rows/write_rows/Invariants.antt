@@ -1,15 +1,9 @@
 -- `rows::write_rows` writes the entries out. The loop: the first i are written. Assumes nothing.
-use Prim.Native.Nat.{◌-◌, ◌*◌, ◌≤◌}
-use mathlib.Core.Path.{◌≡◌}
-use mathlib.Core.List.{◌++◌, map}
-use lib.ListN.{length, take, drop}
+use Rattle.std.proofs.Common.{◌≡◌, ◌*◌, ◌++◌, map, take, drop}
 use Rattle.candidates.specs.Slots.{entries}
 use Rattle.candidates.specs.Routes.{routes}
 use Rattle.listing.specs.Rows.{rows_of}
 use Rattle.listing.proofs.rows.write_rows.Given as goal
 
 abbrev pub invariant-loop-i : goal.invariant-loop-i
-invariant-loop-i l = (l.i ≤ l.count) × (length l.rows ≡ length l.initial.rows) × (length l.costs ≡ length l.initial.costs) × (l.rows ≡ rows_of l.n (take l.i (routes l.start (entries l.n l.work l.count))) ++ drop (l.i * l.n) l.initial.rows) × (take l.i l.costs ≡ take l.i (map (λ e. e.cost) (entries l.n l.work l.count))) × (drop l.i l.costs ≡ drop l.i l.initial.costs)
-
-abbrev pub decreases-loop-i : goal.decreases-loop-i
-decreases-loop-i l = l.count - l.i
+invariant-loop-i l = (l.rows ≡ rows_of l.n (take l.i (routes l.start (entries l.n l.work l.count))) ++ drop (l.i * l.n) l.initial.rows) × (take l.i l.costs ≡ take l.i (map (λ e. e.cost) (entries l.n l.work l.count))) × (drop l.i l.costs ≡ drop l.i l.initial.costs)
