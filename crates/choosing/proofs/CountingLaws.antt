@@ -4,6 +4,8 @@ use native.Mathlib.Omega.{arith}
 use native.Mathlib.Nat.{eq-or-lt_of_le}
 use mathlib.Core.Path.{◌≡◌, refl, sym, ◌∙◌, ap, subst}
 use mathlib.Core.Bool.{Bool, true, false}
+use Rattle.std.specs.Prelude.{Option, Some, None}
+use Rattle.std.proofs.lemmas.Option.{none-some, same_Some}
 use mathlib.Core.Logic.{◌⊎◌, inl, inr, ⊎_elim}
 use mathlib.Core.List.{List, []}
 use lib.Dec.{ltb}
@@ -172,20 +174,20 @@ module _ {n s t : ℕ} {star ws overall : List ℕ} (P : Problem n s t star ws o
           settled_rest low (ranked_rising n g s t) leads C.going all_inside K upto (λ p m. ⊎_elim (λ k. inl (subst (λ (l : List Route). p ∈ l) same_so_far k)) inr (rest p m))
           ∙ ap (λ (p : Route). settled p figure worst j) leader_is
 
-      pub settled_end : {K floor : ℕ} {b : Bool} → M ≡ K + 1 → j ≤ K → Ended n w count j (low) figure floor b → b ≡ true
+      pub settled_end : {K : ℕ} {z : Option ℕ} → M ≡ K + 1 → j ≤ K → Ended n w count j (low) figure z → z ≡ None
           → answer (λ p. cost (graph_of star ws) p - low) fig wst (ranked n (graph_of star ws) s t) K ≡ settled (route_at s n w place) figure worst j
-      settled_end {K} m upto (Ended.none_left z y) e = late_answer K upto (rest_none P C.filled.entered C.search (omega (arith, long)) (omega arith))
-      settled_end {K} m upto (Ended.late h k y) e = late_answer K upto (rest_beyond P C.filled.entered C.search (omega (arith, long)) (rw (entry_is h) k))
-      settled_end {K} m upto (Ended.more h k z) e = clash e refl
+      settled_end {K} m upto (Ended.none_left z) e = late_answer K upto (rest_none P C.filled.entered C.search (omega (arith, long)) (omega arith))
+      settled_end {K} m upto (Ended.late h k) e = late_answer K upto (rest_beyond P C.filled.entered C.search (omega (arith, long)) (rw (entry_is h) k))
+      settled_end {K} m upto (Ended.more _ h k z) e = absurd (none-some _ (sym e))
 
-      pub open_end : {K floor : ℕ} {b : Bool} → j ≡ K → Ended n w count j (low) figure floor b → b ≡ false
+      pub open_end : {K floor : ℕ} {z : Option ℕ} → j ≡ K → Ended n w count j (low) figure z → z ≡ Some floor
           → answer (λ p. cost (graph_of star ws) p - low) fig wst (ranked n (graph_of star ws) s t) K ≡ left_open (route_at s n w place) figure worst j floor
-      open_end {K} at (Ended.none_left z y) e = clash refl e
-      open_end {K} at (Ended.late h k y) e = clash refl e
-      open_end {K} {floor} at (Ended.more h k z) e =
+      open_end {K} at (Ended.none_left z) e = absurd (none-some _ e)
+      open_end {K} at (Ended.late h k) e = absurd (none-some _ e)
+      open_end {K} {floor} at (Ended.more found h k z) e =
           ap (answer (λ p. cost g p - low) fig wst (ranked n g s t)) (sym at)
           ∙ open_answer low (ranked_rising n g s t) leads C.going all_inside (next_within h k) (rw (← next_cost h k) k) (omega (arith, no_less _ (next_path h k), ap (cost g) (next_is h k)))
-          ∙ ap (λ (p : Route). left_open p figure worst j (cost g (get_or (ranked n g s t) j []) - low)) leader_is ∙ ap (λ (f : ℕ). left_open (route_at s n w place) figure worst j f) (ap (λ (c : ℕ). c - low) (sym (next_cost h k)) ∙ sym z)
+          ∙ ap (λ (p : Route). left_open p figure worst j (cost g (get_or (ranked n g s t) j []) - low)) leader_is ∙ ap (λ (f : ℕ). left_open (route_at s n w place) figure worst j f) (ap (λ (c : ℕ). c - low) (sym (next_cost h k)) ∙ sym z ∙ same_Some _ _ e)
 
   -- ---- it begins
   module _ (exists : 1 ≤ length (ranked n (graph_of star ws) s t)) where

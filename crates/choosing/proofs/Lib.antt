@@ -1,4 +1,4 @@
 pub mod LeaderLaws
 pub mod CountingLaws
 pub mod PricedLaws
-pub mod VerdictLaws
+pub mod FindingLaws

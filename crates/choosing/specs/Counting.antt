@@ -1,5 +1,5 @@
 -- The search for the path of least greatest regret: what is given, and what holds while paths are counted. Assumes nothing.
-use Rattle.std.specs.Prelude.{ℕ, ◌+◌, ◌-◌, ◌≤◌, ◌<◌, ◌≡◌, Bool, true, false, List, [], length, get_or}
+use Rattle.std.specs.Prelude.{ℕ, ◌+◌, ◌-◌, ◌≤◌, ◌<◌, ◌≡◌, Bool, true, false, Option, Some, None, List, [], length, get_or}
 use Rattle.terms.specs.Network.{Graph, Net, column}
 use Rattle.terms.specs.Paths.{Route, Path, cost}
 use Rattle.terms.specs.Ranking.{ranked}
@@ -51,7 +51,7 @@ pub data Outlook (n : ℕ) (w : List ℕ) (count j limit wanted : ℕ) : Bool �
   unwanted : j < count → (entry_at n w j).cost < limit → wanted ≤ j → Outlook n w count j limit wanted false
 
 -- how it ended: there is no candidate, or the first costs low + figure or more; or it costs less, and the floor is its deviation in r
-pub data Ended (n : ℕ) (w : List ℕ) (count j low figure floor : ℕ) : Bool → Type 0 where
-  none_left : j ≡ count → floor ≡ 0 → Ended n w count j low figure floor true
-  late : j < count → low + figure ≤ (entry_at n w j).cost → floor ≡ 0 → Ended n w count j low figure floor true
-  more : j < count → (entry_at n w j).cost < low + figure → floor ≡ (entry_at n w j).cost - low → Ended n w count j low figure floor false
+pub data Ended (n : ℕ) (w : List ℕ) (count j low figure : ℕ) : Option ℕ → Type 0 where
+  none_left : j ≡ count → Ended n w count j low figure None
+  late : j < count → low + figure ≤ (entry_at n w j).cost → Ended n w count j low figure None
+  more : (floor : ℕ) → j < count → (entry_at n w j).cost < low + figure → floor ≡ (entry_at n w j).cost - low → Ended n w count j low figure (Some floor)

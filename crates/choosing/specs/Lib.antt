@@ -1,4 +1,4 @@
 pub mod Leader
 pub mod Counting
-pub mod Verdict
+pub mod Finding
 pub mod Answers

@@ -1,5 +1,5 @@
 // Robust's answer: the search, and the route of the path that it chose.
-ghost use Rattle.std.specs.Prelude.{◌≡◌, ◌++◌, ◌+◌, ◌*◌, ◌≤◌, length, take, drop};
+ghost use Rattle.std.specs.Prelude.{◌≡◌, ◌++◌, ◌+◌, ◌*◌, ◌≤◌, length, take, drop, IfSome};
 ghost use Rattle.terms.specs.Paths.{Route};
 ghost use Rattle.terms.specs.Ranking.{ranked};
 ghost use Rattle.terms.specs.Robust.{robust_over};
@@ -8,41 +8,39 @@ ghost use Rattle.ranking.specs.Ranking.{Problem, Space};
 ghost use Rattle.measuring.specs.Columns.{network};
 ghost use Rattle.choosing.specs.Answers.{chosen_length, answered};
 ghost use Rattle.choosing.specs.Counting.{Priced, InColumn};
-ghost use Rattle.choosing.specs.Verdict.{told};
+ghost use Rattle.choosing.specs.Finding.{told};
 
-use crate::searching::{Verdict, search};
+use crate::searching::{Finding, search};
 use crate::task::Task;
 use candidates::{lay_out, length_at};
 
-// The chosen path: how many nodes it has, its figure and its worst column.
+// The chosen path: how many nodes it has, its figure and its worst column; how many paths were counted, and
+// the floor if the answer is open.
 #[derive(Clone, Copy)]
-pub struct Choice {
+pub struct Decision {
     pub length: u32,
     pub figure: u32,
     pub worst: u32,
+    pub count: u32,
+    pub floor: Option<u32>,
 }
 
-// The choice and the count, and the floor if the answer is open.
-#[derive(Clone, Copy)]
-pub enum Answer {
-    Settled(Choice, u32),
-    Open(Choice, u32, u32),
-}
-
-// The verdict as an answer, with the length of the path.
-fn state(found: Verdict, length: usize) -> Answer
-    requires { (found.figure ≤ 199000000) × (found.floor ≤ 199000000) × (found.count ≤ 256) × (length ≤ 200) }
-    ensures { (chosen_length result ≡ length) × ((p : Route) → answered p result ≡ told p found) }
+// The finding as a decision, with the length of the path.
+fn state(found: Finding, length: usize) -> Decision
+    requires small_figure { found.leader.figure ≤ 199000000 }
+    requires small_floor { IfSome found.floor (λ floor. floor ≤ 199000000) }
+    requires small_count { found.count ≤ 256 }
+    requires short { length ≤ 200 }
+    ensures length_is { chosen_length result ≡ length }
+    ensures answers { (p : Route) → answered p result ≡ told p found }
 {
-    let choice = Choice {
+    Decision {
         length: length as u32,
-        figure: found.figure as u32,
-        worst: found.worst,
-    };
-    if found.settled {
-        return Answer::Settled(choice, found.count as u32);
+        figure: found.leader.figure as u32,
+        worst: found.leader.worst,
+        count: found.count as u32,
+        floor: found.floor.map(|floor| floor as u32),
     }
-    Answer::Open(choice, found.count as u32, found.floor as u32)
 }
 
 // Robust (REFERENCE, section 5) on two slices, against bests that are given: no path from start to goal costs
@@ -57,7 +55,7 @@ pub fn least_regret(
     bests: &[u64],
     work: &mut [u32],
     route: &mut [u16],
-) -> Answer
+) -> Decision
     requires problem { Problem task.n task.start task.goal star.now weights.now overall.now × Space task.n (task.wanted + 1) work.old }
     requires priced { Priced task.n (length weights.now) task.start task.goal star.now costs.now bests.now }
     requires in_column { InColumn task.column (length weights.now) (length bests.now) weights.now costs.now }
@@ -69,7 +67,7 @@ pub fn least_regret(
 {
     let found = search(task, star, weights, overall, costs, bests, work);
     let n = task.n;
-    let place = found.place;
+    let place = found.leader.place;
     let length = length_at(work, n, place);
     lay_out(work, n, place, length, task.start, route);
     state(found, length)

@@ -8,5 +8,5 @@ mod counting;
 mod searching;
 mod task;
 
-pub use answering::{Answer, Choice, least_regret};
+pub use answering::{Decision, least_regret};
 pub use task::Task;

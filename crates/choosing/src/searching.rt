@@ -8,7 +8,7 @@ ghost use Rattle.candidates.specs.Keeping.{Readable};
 ghost use Rattle.ranking.specs.Ranking.{Problem, Space};
 ghost use Rattle.measuring.specs.Columns.{network};
 ghost use Rattle.choosing.specs.Counting.{Priced, InColumn};
-ghost use Rattle.choosing.specs.Verdict.{Judged, Decided};
+ghost use Rattle.choosing.specs.Finding.{Judged, Decided};
 
 use crate::counting::{Leader, count_path, due, larger};
 use crate::task::Task;
@@ -16,58 +16,36 @@ use candidates::cost_at;
 use labels::FAR;
 use ranking::{Query, begin, split};
 
-// What the search found: the place of the path among the ranked ones, its figure and worst column, the
-// count, whether the stopping rule holds, and the floor if it does not.
+// What the search found: the leader, how many paths are counted, and the floor if the stopping rule doesn't
+// hold.
 #[derive(Clone, Copy)]
-pub struct Verdict {
-    pub place: usize,
-    pub figure: u64,
-    pub worst: u32,
+pub struct Finding {
+    pub leader: Leader,
     pub count: usize,
-    pub settled: bool,
-    pub floor: u64,
+    pub floor: Option<u64>,
 }
 
-// The verdict when `counted` paths are counted and the next is not due.
-fn judge(work: &[u32], n: usize, count: usize, counted: usize, best: u64, leader: Leader) -> Verdict
+// The finding when `counted` paths are counted and the next is not due.
+fn judge(work: &[u32], n: usize, count: usize, counted: usize, best: u64, leader: Leader) -> Finding
     requires readable { Readable n work.now count × (counted ≤ count) }
     requires best_bound { counted < count → best ≤ (entry_at n work.now counted).cost }
     ensures { Judged n work.now count counted best leader result }
 {
-    let Leader {
-        place,
-        figure,
-        worst,
-    } = leader;
-    if counted == count {
-        return Verdict {
-            place: place,
-            figure: figure,
-            worst: worst,
-            count: counted,
-            settled: true,
-            floor: 0,
-        };
+    if counted < count {
+        let next = cost_at(work, n, counted);
+        let deviation = next - best;
+        if deviation < leader.figure {
+            return Finding {
+                leader,
+                count: counted,
+                floor: Some(deviation),
+            };
+        }
     }
-    let next = cost_at(work, n, counted);
-    let deviation = next - best;
-    if figure <= deviation {
-        return Verdict {
-            place: place,
-            figure: figure,
-            worst: worst,
-            count: counted,
-            settled: true,
-            floor: 0,
-        };
-    }
-    Verdict {
-        place: place,
-        figure: figure,
-        worst: worst,
+    Finding {
+        leader,
         count: counted,
-        settled: false,
-        floor: deviation,
+        floor: None,
     }
 }
 
@@ -82,7 +60,7 @@ pub fn search(
     costs: &[u32],
     bests: &[u64],
     work: &mut [u32],
-) -> Verdict
+) -> Finding
     requires problem { Problem task.n task.start task.goal star.now weights.now overall.now × Space task.n (task.wanted + 1) work.old }
     requires priced { Priced task.n (length weights.now) task.start task.goal star.now costs.now bests.now }
     requires in_column { InColumn task.column (length weights.now) (length bests.now) weights.now costs.now }

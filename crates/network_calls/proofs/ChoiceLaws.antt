@@ -3,6 +3,7 @@ use Prim.Native.Nat.{ℕ, ◌+◌, ◌*◌, ◌≤◌}
 use native.Mathlib.Omega.{arith}
 use mathlib.Core.Path.{◌≡◌, refl, sym, ◌∙◌, ap, ap₂, subst}
 use mathlib.Core.List.{List, [], ◌∷◌, ◌++◌}
+use Rattle.std.specs.Prelude.{Option, Some, None}
 use lib.ListN.{length, take, drop, replicate}
 use lib.Seq.{length-take-le}
 use Rattle.terms.specs.Network.{column, common, Admitted}
@@ -17,10 +18,8 @@ use Rattle.image.specs.Outcome.{Fault, sound, fault, Outcome, gives, outcome, af
 use Rattle.image.proofs.NetworkLaws.{accepted_network}
 use Rattle.image.proofs.OutcomeLaws.{then_next, then_sound, outcome_sound, after_sound}
 use Rattle.ranking.specs.Ranking.{Space}
-use Rattle.choosing.specs.Answers.{chosen_length, answered}
-use Rattle.choosing.specs.declared.answering.Answer.{Answer}
-use Rattle.choosing.specs.declared.answering.Answer.TheVariants.{Settled, Open}
-use Rattle.choosing.specs.declared.answering.Choice.{Choice}
+use Rattle.choosing.specs.Answers.{answer_of, chosen_length, answered}
+use Rattle.choosing.specs.declared.answering.Decision.{Decision}
 use Rattle.outcomes.specs.Calls.{no_path_row, choice_row, robust_rows, robust_fault, robust_of, chosen, robust_values, cleared}
 use Rattle.closures.specs.Map.{without}
 use Rattle.closures.proofs.WithoutLaws.{without_none}
@@ -57,23 +56,23 @@ pub space_for : {n N K : ℕ} {path work : List ℕ} → n ≡ N → ChoiceSlice
 space_for {n} {K = K} e S = record { some = omega arith; few = omega (arith, S.wanted_to); room = omega (arith, S.slots_long, ap (λ (x : ℕ). (K + 1) * (x + 16)) e) }
 
 -- ---- the answer
-module _ (A : Answer) where
-  pub chosen_answered : (p : Route) → chosen (answered p A) ≡ p
+module _ (d : Decision) where
+  pub chosen_answered : (p : Route) → chosen (answered p d) ≡ p
   unfolding chosen
-  chosen_answered p = by_case A
+  chosen_answered p = by_floor d.floor
     where
-      by_case : (A : Answer) → chosen (answered p A) ≡ p
-      by_case (Settled c count) = refl
-      by_case (Open c count floor) = refl
+      by_floor : (floor : Option ℕ) → chosen (answer_of p d.figure d.worst d.count floor) ≡ p
+      by_floor None = refl
+      by_floor (Some floor) = refl
 
   -- the beginning of new is the path that was chosen, and the rest of it is old
-  module _ {ans : terms.Answer} (old : List ℕ) {new : List ℕ} (e : answered (take (chosen_length A) new) A ≡ ans) (w : new ≡ take (chosen_length A) new ++ drop (chosen_length A) old) (h : chosen_length A ≤ length new) where
-    pub chosen_long : length (take (chosen_length A) new) ≡ chosen_length A
-    chosen_long = length-take-le (chosen_length A) new h
+  module _ {ans : terms.Answer} (old : List ℕ) {new : List ℕ} (e : answered (take (chosen_length d) new) d ≡ ans) (w : new ≡ take (chosen_length d) new ++ drop (chosen_length d) old) (h : chosen_length d ≤ length new) where
+    pub chosen_long : length (take (chosen_length d) new) ≡ chosen_length d
+    chosen_long = length-take-le (chosen_length d) new h
 
     pub chosen_written : new ≡ after sound (chosen ans) old
     chosen_written =
-        let p-is : take (chosen_length A) new ≡ chosen ans = sym (chosen_answered (take (chosen_length A) new)) ∙ ap chosen e in
+        let p-is : take (chosen_length d) new ≡ chosen ans = sym (chosen_answered (take (chosen_length d) new)) ∙ ap chosen e in
         w ∙ ap₂ (λ (p : Route) (k : ℕ). p ++ drop k old) p-is (sym chosen_long ∙ ap length p-is) ∙ sym (after_sound _ old refl)
 
 -- what is found where there is a path
@@ -97,17 +96,17 @@ module _ (b : List ℕ) (r s t K : ℕ) where
   pub whole_work : (old : List ℕ) {new : List ℕ} → new ≡ cleared (no_open_path (without [] (net_of b)) r s t) old → new ≡ cleared (no_open_path (net_of b) r s t) old
   whole_work old e = e ∙ ap (λ net. cleared (no_open_path net r s t) old) (without_none (net_of b))
 
-pub state_settled : (A : Answer) (c : Choice) (count : ℕ) → A ≡ Settled c count → (p : Route) → length p ≡ chosen_length A → gives (c.length ∷ c.figure ∷ c.worst ∷ count ∷ 1 ∷ 0 ∷ []) ≡ gives (robust_values (answered p A))
-unfolding robust_values
-state_settled A c count e p l =
-    let l' : length p ≡ c.length = l ∙ ap chosen_length e in
-    ap (λ (x : ℕ). gives (x ∷ c.figure ∷ c.worst ∷ count ∷ 1 ∷ 0 ∷ [])) (sym l') ∙ ap (λ A. gives (robust_values (answered p A))) (sym e)
+-- the values of a decision, by its floor
+module _ (d : Decision) (p : Route) (l : length p ≡ chosen_length d) where
+  pub settled_values : d.floor ≡ None → gives (d.length ∷ d.figure ∷ d.worst ∷ d.count ∷ 1 ∷ 0 ∷ []) ≡ gives (robust_values (answered p d))
+  unfolding robust_values
+  settled_values e =
+      ap (λ (x : ℕ). gives (x ∷ d.figure ∷ d.worst ∷ d.count ∷ 1 ∷ 0 ∷ [])) (sym l) ∙ ap (λ z. gives (robust_values (answer_of p d.figure d.worst d.count z))) (sym e)
 
-pub state_open : (A : Answer) (c : Choice) (count floor : ℕ) → A ≡ Open c count floor → (p : Route) → length p ≡ chosen_length A → gives (c.length ∷ c.figure ∷ c.worst ∷ count ∷ 2 ∷ floor ∷ []) ≡ gives (robust_values (answered p A))
-unfolding robust_values
-state_open A c count floor e p l =
-    let l' : length p ≡ c.length = l ∙ ap chosen_length e in
-    ap (λ (x : ℕ). gives (x ∷ c.figure ∷ c.worst ∷ count ∷ 2 ∷ floor ∷ [])) (sym l') ∙ ap (λ A. gives (robust_values (answered p A))) (sym e)
+  pub open_values : (floor : ℕ) → d.floor ≡ Some floor → gives (d.length ∷ d.figure ∷ d.worst ∷ d.count ∷ 2 ∷ floor ∷ []) ≡ gives (robust_values (answered p d))
+  unfolding robust_values
+  open_values floor e =
+      ap (λ (x : ℕ). gives (x ∷ d.figure ∷ d.worst ∷ d.count ∷ 2 ∷ floor ∷ [])) (sym l) ∙ ap (λ z. gives (robust_values (answer_of p d.figure d.worst d.count z))) (sym e)
 
 -- ---- demand 3
 module _ (b : List ℕ) (r s t K path work : ℕ) where

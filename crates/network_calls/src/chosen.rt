@@ -21,7 +21,7 @@ ghost use Rattle.measuring.specs.Bests.{Labelled};
 ghost use Rattle.network_calls.specs.Held.{Asked, no_open_path, ChoiceRoom, ChoiceSlices};
 
 use super::pricing::{Trip, price};
-use choosing::{Answer, Task, least_regret};
+use choosing::{Task, least_regret};
 use image::Refusal;
 use labels::FAR;
 use listing::clear;
@@ -46,26 +46,19 @@ pub enum Decided {
     Refused(Refusal),
 }
 
-// The search's answer as Robust's.
-fn state(answer: Answer) -> Decided
-    ensures { (p : Route) → length p ≡ chosen_length answer → decided result ≡ gives (robust_values (answered p answer)) }
+// What the search decided, as Robust's answer.
+fn state(decision: choosing::Decision) -> Decided
+    ensures { (p : Route) → length p ≡ chosen_length decision → decided result ≡ gives (robust_values (answered p decision)) }
 {
-    match answer {
-        Answer::Settled(choice, count) => Decided::Settled(Decision {
-            length: choice.length,
-            figure: choice.figure,
-            worst: choice.worst,
-            count,
-        }),
-        Answer::Open(choice, count, floor) => Decided::Open(
-            Decision {
-                length: choice.length,
-                figure: choice.figure,
-                worst: choice.worst,
-                count,
-            },
-            floor,
-        ),
+    let counted = Decision {
+        length: decision.length,
+        figure: decision.figure,
+        worst: decision.worst,
+        count: decision.count,
+    };
+    match decision.floor {
+        None => Decided::Settled(counted),
+        Some(floor) => Decided::Open(counted, floor),
     }
 }
 
@@ -89,9 +82,9 @@ fn choose_priced(
     ensures path_after { path.new ≡ after sound (chosen (robust_over (network task.n (length weights.now) (length bests.now) star.now costs.now) bests.now task.column task.start task.goal task.wanted)) path.old }
     ensures work_after { work.new ≡ replicate (length work.old) 0 }
 {
-    let answer = least_regret(task, star, weights, overall, costs, bests, work, path);
+    let decision = least_regret(task, star, weights, overall, costs, bests, work, path);
     clear(work);
-    state(answer)
+    state(decision)
 }
 
 // The same where there is a path: the column's labels are at hand, and the bests are searched for.

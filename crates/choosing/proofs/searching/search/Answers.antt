@@ -15,7 +15,7 @@ use Rattle.choosing.specs.Leader.{Leading}
 use Rattle.choosing.specs.Counting.{Priced, InColumn, Counting}
 use Rattle.choosing.proofs.CountingLaws.{outlook_due, low_small, counting_none, next_rooted, next_path, next_within, next_is, split_due, counted_on, all_readable, entry_readable, counted_inside, candidate_most}
 use Rattle.choosing.proofs.PricedLaws.{figure_to, column_one, low_no_less}
-use Rattle.choosing.proofs.VerdictLaws.{decided}
+use Rattle.choosing.proofs.FindingLaws.{decided}
 use Rattle.choosing.proofs.searching.search.Goals as goal
 
 pub begin-count-requires : goal.begin-count-requires

@@ -11,5 +11,5 @@ use Rattle.network_calls.proofs.chosen.choose_priced.Goals as goal
 
 pub returns : goal.returns
 returns c =
-    let fits : chosen_length c.least_regret-answer.result ≤ length c.least_regret-answer.new.route = omega (arith, c.least_regret-answer.ensures.route_after.1, c.least_regret-answer.auto.route, c.requires.n_in_bounds) in
-    record { result_value = c.state.ensures _ (chosen_long c.least_regret-answer.result c.args.path.now c.least_regret-answer.ensures.result_after c.least_regret-answer.ensures.route_after.0 fits) ∙ ap (λ a. gives (robust_values a)) c.least_regret-answer.ensures.result_after; path_after = chosen_written c.least_regret-answer.result c.args.path.now c.least_regret-answer.ensures.result_after c.least_regret-answer.ensures.route_after.0 fits; work_after = c.clear.ensures ∙ ap (λ (k : ℕ). replicate k 0) c.least_regret-answer.auto.work }
+    let fits : chosen_length c.least_regret-decision.result ≤ length c.least_regret-decision.new.route = omega (arith, c.least_regret-decision.ensures.route_after.1, c.least_regret-decision.auto.route, c.requires.n_in_bounds) in
+    record { result_value = c.state.ensures _ (chosen_long c.least_regret-decision.result c.args.path.now c.least_regret-decision.ensures.result_after c.least_regret-decision.ensures.route_after.0 fits) ∙ ap (λ a. gives (robust_values a)) c.least_regret-decision.ensures.result_after; path_after = chosen_written c.least_regret-decision.result c.args.path.now c.least_regret-decision.ensures.result_after c.least_regret-decision.ensures.route_after.0 fits; work_after = c.clear.ensures ∙ ap (λ (k : ℕ). replicate k 0) c.least_regret-decision.auto.work }

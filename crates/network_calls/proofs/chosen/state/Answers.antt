@@ -1,9 +1,9 @@
 -- `chosen::state`: each case with its values. Assumes nothing.
-use Rattle.network_calls.proofs.ChoiceLaws.{state_settled, state_open}
+use Rattle.network_calls.proofs.ChoiceLaws.{settled_values, open_values}
 use Rattle.network_calls.proofs.chosen.state.Goals as goal
 
-pub returns-in-Settled : goal.returns-in-Settled
-returns-in-Settled c = state_settled _ _ _ c.in-Settled.is
+pub returns-in-None : goal.returns-in-None
+returns-in-None c p l = settled_values _ p l c.in-None.is
 
-pub returns-in-Open : goal.returns-in-Open
-returns-in-Open c = state_open _ _ _ _ c.in-Open.is
+pub returns-in-Some : goal.returns-in-Some
+returns-in-Some c p l = open_values _ p l _ c.in-Some.is
