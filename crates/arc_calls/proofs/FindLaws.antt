@@ -15,8 +15,8 @@ use Rattle.image.proofs.OutcomeLaws.{outcome_sound}
 use Rattle.image.proofs.NetworkLaws.{accepted_network}
 use Rattle.star.specs.Search.{Sought, seek, Among, Rising}
 use Rattle.star.specs.Found.{sought}
-use Rattle.star.specs.declared.arcs.Arc.{Arc}
-use Rattle.star.specs.declared.arcs.Arc.TheVariants as arc
+use Rattle.star.specs.declared.arcs.Sought as found
+use Rattle.std.specs.Prelude.{Option, Some, None}
 use Rattle.star.proofs.SearchLaws.{below_of, seek_finds}
 use Rattle.loading.specs.Accepted.{Accepted}
 use Rattle.loading.specs.Selected.{selected}
@@ -69,11 +69,15 @@ sought_in {b} {z} a tail head {ks} all e f r =
     r ∙ ap₂ (λ (t h : List ℕ). seek t h (tail, head) 0 (length ks)) (e ∙ ap (λ x. tails x.arcs) same) (f ∙ ap (λ x. heads x.arcs) same) ∙ ap (λ (m : ℕ). seek (tails (net_of b).arcs) (heads (net_of b).arcs) (tail, head) 0 m) long
 
 -- ---- Find's values
-module _ (b : List ℕ) (tail head : ℕ) {looks : ℕ} {r : Arc} (ok : image_fault b ≡ sound) (e : sought r ≡ find_of b tail head) where
-  pub found_values : {index : ℕ} → r ≡ arc.At index looks → gives (1 ∷ index ∷ looks ∷ []) ≡ find_outcome b tail head
-  unfolding find_outcome find_values
-  found_values t = ap (λ (s : Sought). gives (find_values s)) (sym (ap sought t) ∙ e) ∙ sym (outcome_sound _ ok)
+module _ (b : List ℕ) (tail head : ℕ) {s : found.Sought} (ok : image_fault b ≡ sound) (e : sought s ≡ find_of b tail head) where
+  values : gives (find_values (sought s)) ≡ find_outcome b tail head
+  unfolding find_outcome
+  values = ap (λ (r : Sought). gives (find_values r)) e ∙ sym (outcome_sound _ ok)
 
-  pub none_values : r ≡ arc.Nothing looks → gives (0 ∷ 0 ∷ looks ∷ []) ≡ find_outcome b tail head
-  unfolding find_outcome find_values
-  none_values t = ap (λ (s : Sought). gives (find_values s)) (sym (ap sought t) ∙ e) ∙ sym (outcome_sound _ ok)
+  pub found_values : {index : ℕ} → s.arc ≡ Some index → gives (1 ∷ index ∷ s.looks ∷ []) ≡ find_outcome b tail head
+  unfolding find_values
+  found_values t = ap (λ (o : Option ℕ). gives (find_values (o, s.looks))) (sym t) ∙ values
+
+  pub none_values : s.arc ≡ None → gives (0 ∷ 0 ∷ s.looks ∷ []) ≡ find_outcome b tail head
+  unfolding find_values
+  none_values t = ap (λ (o : Option ℕ). gives (find_values (o, s.looks))) (sym t) ∙ values

@@ -1,6 +1,5 @@
 -- docs/REFERENCE.md, section 4.9: what Find comes to, for every image and every two numbers. Assumes nothing.
-use Rattle.std.specs.Prelude.{ℕ, ◌≤◌, ◌<◌, ◌≡◌, List, [], ◌∷◌, map, length, get_or}
-use Rattle.std.proofs.Math.Option.{none, some}
+use Rattle.std.specs.Prelude.{ℕ, ◌≤◌, ◌<◌, ◌≡◌, List, [], ◌∷◌, map, length, get_or, Some, None}
 use Rattle.image.specs.Outcome.{Outcome, outcome}
 use Rattle.image.specs.Layout.{net_of}
 use Rattle.image.specs.Calls.{image_fault}
@@ -12,8 +11,8 @@ find_of b tail head = seek (map (λ a. a.0) (net_of b).arcs) (map (λ a. a.1) (n
 
 -- found or not, 1 or 0; the index, 0 if there is none; the number of records looked at
 unfoldable pub find_values : Sought → List ℕ
-find_values (some index, looks) = 1 ∷ index ∷ looks ∷ []
-find_values (none, looks) = 0 ∷ 0 ∷ looks ∷ []
+find_values (Some index, looks) = 1 ∷ index ∷ looks ∷ []
+find_values (None, looks) = 0 ∷ 0 ∷ looks ∷ []
 
 -- the image's rows are all that Find has: a node outside 1..n has no arc
 unfoldable pub find_outcome : List ℕ → ℕ → ℕ → Outcome
@@ -27,8 +26,8 @@ pub record Stands (arcs : List (ℕ × ℕ)) (x : ℕ × ℕ) (i : ℕ) : Type 0
 
 -- an index exactly of the arc, none exactly when no record is the arc, and never more than 10 looks
 pub record FindsArc (arcs : List (ℕ × ℕ)) (x : ℕ × ℕ) (s : Sought) : Type 0 where
-  pub index_right : (i : ℕ) → s.0 ≡ some i → Stands arcs x i
-  pub index_found : (i : ℕ) → Stands arcs x i → s.0 ≡ some i
-  pub none_right : s.0 ≡ none → (i : ℕ) → Stands arcs x i → ⊥
-  pub none_found : ((i : ℕ) → Stands arcs x i → ⊥) → s.0 ≡ none
+  pub index_right : (i : ℕ) → s.0 ≡ Some i → Stands arcs x i
+  pub index_found : (i : ℕ) → Stands arcs x i → s.0 ≡ Some i
+  pub none_right : s.0 ≡ None → (i : ℕ) → Stands arcs x i → ⊥
+  pub none_found : ((i : ℕ) → Stands arcs x i → ⊥) → s.0 ≡ None
   pub few : s.1 ≤ 10

@@ -10,7 +10,7 @@ ghost use Rattle.arc_calls.specs.Answers.{found};
 use image::check::check;
 use image::{Checked, Refusal};
 use loading::{Network, number_arcs, read_arcs};
-use star::{Arc, find_arc};
+use star::{Sought, find_arc};
 
 // Find's answer: the arc's index, or that there is none; and at how many records it looked.
 #[derive(Clone, Copy)]
@@ -28,7 +28,7 @@ fn seek_in(
     arcs: &mut [u16],
     tails: &mut [u16],
     heads: &mut [u16],
-) -> Arc
+) -> Sought
     requires arcs_len { length arcs.old ≡ network.now.sizes.m }
     requires tails_len { length tails.old ≡ network.now.sizes.m }
     requires heads_len { length heads.old ≡ network.now.sizes.m }
@@ -40,7 +40,7 @@ fn seek_in(
 }
 
 // The same, with room made for them.
-fn seek_arc(network: &Network<'_>, tail: u32, head: u32) -> Arc
+fn seek_arc(network: &Network<'_>, tail: u32, head: u32) -> Sought
     ensures { sought result ≡ find_of network.now.image.now tail head }
 {
     let mut arcs = [0u16; 1000];
@@ -67,9 +67,9 @@ pub fn find(image: &[u8], tail: u32, head: u32) -> Found
         return Found::Refused(answer.refusal());
     };
     let network = Network { image, sizes };
-    let arc = seek_arc(&network, tail, head);
-    match arc {
-        Arc::At(index, looks) => Found::At(index as u32, looks),
-        Arc::Nothing(looks) => Found::Nothing(looks),
+    let sought = seek_arc(&network, tail, head);
+    match sought.arc {
+        Some(index) => Found::At(index as u32, sought.looks),
+        None => Found::Nothing(sought.looks),
     }
 }

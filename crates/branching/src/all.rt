@@ -5,8 +5,9 @@ ghost use Rattle.branching.specs.Branches.{everything};
 ghost use Rattle.branching.specs.Found.{Idle, Ends, Extent, FirstFound};
 ghost use Rattle.star.specs.Layout.{graph_of, Network};
 
-use crate::first::{Found, Step, along};
-use exits::{Next, least_exit};
+use crate::first::{Found, along};
+use exits::least_exit;
+use star::Graph;
 
 // The same as below, with room for the flags, in which no node is flagged yet.
 fn shortest_in(
@@ -29,10 +30,14 @@ fn shortest_in(
     let v = start as usize;
     path[0] = start;
     used[v] = 1;
-    let Next::Node(y, l) = least_exit(star, weights, v, overall, used, barred) else {
+    let graph = Graph {
+        nodes: used.len() - 1,
+        star,
+        weights,
+    };
+    let Some(step) = least_exit(&graph, v, overall, used, barred) else {
         return Found::Empty;
     };
-    let step = Step { node: y, rest: l };
     along(star, weights, goal, overall, used, barred, path, 1, step)
 }
 

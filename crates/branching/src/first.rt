@@ -12,9 +12,10 @@ ghost use Rattle.star.specs.Layout.{graph_of, Network};
 ghost use Rattle.exits.specs.Walks.{Consistent, Choice};
 
 use crate::walk::{attempt, unmark};
-use exits::{Next, least_exit};
+use exits::{Step, least_exit};
 use labels::least;
 use sharpening::{LONGEST, Quest, sharpen};
+use star::Graph;
 
 #[derive(Clone, Copy)]
 pub enum Found {
@@ -22,13 +23,6 @@ pub enum Found {
     Tail(usize, u64),
     // The branch has no path, or none that is wanted.
     Empty,
-}
-
-// The next node of a path, and what a path by it costs from the node before it on, by the labels at hand.
-#[derive(Clone, Copy)]
-pub struct Step {
-    pub node: u16,
-    pub rest: u64,
 }
 
 // From path[at - 1], each step to the node that labels made anew show to be the next.
@@ -48,15 +42,20 @@ fn steps(
     ensures longer { Longer (length used.old) path.old at used.new path.new result }
     ensures by_index { (s : ℕ) (p : Route) → In (graph_of star.now weights.now) s goal (branch (take at path.old) []) p → First (graph_of star.now weights.now) s goal (branch (take at path.old) []) (take result path.new) }
 {
+    let graph = Graph {
+        nodes: used.len() - 1,
+        star,
+        weights,
+    };
     let mut len = at;
     let mut x = path[at - 1] as usize;
     while x != goal {
-        least(star, weights, used, goal, labels);
-        let Next::Node(y, _) = least_exit(star, weights, x, labels, used, used) else {
+        least(&graph, used, goal, labels);
+        let Some(step) = least_exit(&graph, x, labels, used, used) else {
             return len;
         };
-        path[len] = y;
-        x = y as usize;
+        path[len] = step.node;
+        x = step.node as usize;
         used[x] = 1;
         len += 1;
     }
@@ -107,17 +106,22 @@ fn by_labels(
     ensures kept { Kept used.old path.old d used.new path.new result }
     ensures by_index { (s : ℕ) (F : List ℕ) → Beginning (graph_of star.now weights.now) s goal (take d path.old) → Flagged barred.now F → FirstFound (graph_of star.now weights.now) s goal (branch (take d path.old) F) path.new result }
 {
-    least(star, weights, used, goal, labels);
+    let graph = Graph {
+        nodes: used.len() - 1,
+        star,
+        weights,
+    };
+    least(&graph, used, goal, labels);
     let v = path[d - 1] as usize;
-    let Next::Node(y, l) = least_exit(star, weights, v, labels, used, barred) else {
+    let Some(step) = least_exit(&graph, v, labels, used, barred) else {
         return Found::Empty;
     };
-    let end = attempt(star, weights, goal, labels, used, path, d, y);
+    let end = attempt(star, weights, goal, labels, used, path, d, step.node);
     if end.arrived {
-        return Found::Tail(end.len, l);
+        return Found::Tail(end.len, step.rest);
     }
-    let len = by_steps(star, weights, goal, used, path, d, y, labels);
-    Found::Tail(len, l)
+    let len = by_steps(star, weights, goal, used, path, d, step.node, labels);
+    Found::Tail(len, step.rest)
 }
 
 // The same, with room made for the labels.
@@ -216,17 +220,21 @@ fn by_sharper(
         goal,
         most,
     };
-    let sharp = sharpen(star, weights, quest, overall, used, barred, labels);
+    let graph = Graph {
+        nodes: used.len() - 1,
+        star,
+        weights,
+    };
+    let sharp = sharpen(&graph, quest, overall, used, barred, labels);
     if !sharp {
         return exact_path(star, weights, goal, used, barred, path, d);
     }
-    let Next::Node(y, l) = least_exit(star, weights, v, labels, used, barred) else {
+    let Some(step) = least_exit(&graph, v, labels, used, barred) else {
         return Found::Empty;
     };
-    if is_dear(l, most) {
+    if is_dear(step.rest, most) {
         return Found::Empty;
     }
-    let step = Step { node: y, rest: l };
     along(star, weights, goal, labels, used, barred, path, d, step)
 }
 

@@ -8,4 +8,5 @@ mod first;
 mod walk;
 
 pub use all::shortest;
-pub use first::{Found, Step, first_path};
+pub use exits::Step;
+pub use first::{Found, first_path};

@@ -3,25 +3,24 @@ use Prim.Native.Nat.{ℕ, ◌+◌, ◌≤◌, ◌<◌}
 use native.Mathlib.Omega.{arith}
 use native.Mathlib.Nat.{eq-or-lt_of_le}
 use mathlib.Core.Path.{◌≡◌, refl, sym, ◌∙◌}
-use mathlib.Core.Bool.{Bool, true, false, ◌&&◌}
-use mathlib.Core.Logic.{◌⊎◌, inl, inr, ◌≢◌, ⊎_elim}
+use mathlib.Core.Bool.{true, ◌&&◌}
+use mathlib.Core.Logic.{◌⊎◌, inl, inr, ⊎_elim}
 use mathlib.Core.List.{List}
 use lib.Dec.{eqb, ltb}
 use lib.ListN.{length, get_or}
 use borrow.Author.Tests.{eqb-true, eq-eqb, ltb-true, lt-ltb}
-use Rattle.terms.specs.Network.{Graph, linked, weight}
-use Rattle.terms.proofs.ListLaws.{le_or_lt, clash, by_cond, of_cond, and_both}
+use Rattle.terms.specs.Network.{linked, weight}
+use Rattle.terms.proofs.ListLaws.{le_or_lt, by_cond, of_cond, and_both}
 use Rattle.star.specs.Arcs.{graph, Arcs, At}
 use Rattle.labels.specs.Labels.{far}
 use Rattle.star.proofs.ArcLaws.{linked_at, at_linked, at_weight}
-use Rattle.exits.specs.Flags.{Fresh}
 use Rattle.exits.specs.Walks.{Exit, Choice, Tight}
-use Rattle.exits.specs.Exits.{Below, Unmarked, Unused, via, via_arc, Best, Scanned, Usable, Chosen, Keeps, Stepped}
+use Rattle.exits.specs.Exits.{Unmarked, Unused, via, via_arc, Best, Scanned, Usable, Chosen}
 use Rattle.star.specs.Star.{Star, Heads}
 use Rattle.exits.specs.Small.{longest}
 use Rattle.star.proofs.StarLaws.{up_to, arc_at, arc_among}
-use Rattle.exits.specs.declared.stepping.Next.{Next}
-use Rattle.exits.specs.declared.stepping.Next.TheVariants.{Node, Nothing}
+use Rattle.exits.specs.declared.stepping.Step.{Step}
+use Rattle.std.specs.Prelude.{Option, Some, None}
 
 -- ---- weight and label of an arc: below the mark exactly if its head is open and reached
 module _ (ls used barred : List ℕ) (y w : ℕ) where
@@ -55,62 +54,48 @@ module _ (ls used barred : List ℕ) (y w : ℕ) where
   unfolding via
   via_below h = ⊎_elim (λ t. let k = tests t.0 in (k.0, k.1, via_open k.0 k.1)) (λ t. absurd (omega arith)) (of_cond (λ (x : ℕ). x < far) _ h)
 
-pub none_below : {x best : ℕ} → best ≤ far → x ≤ far → best ≤ x → Below x best far
-none_below h m b = record { is = λ k. absurd (omega arith); no_less = λ _. b; at_most = m }
+-- ---- a scan of the arcs at the indices from a on, up to i
+-- the least number so far
+abbrev pub least_of : Option Step → ℕ
+least_of None = far
+least_of (Some s) = s.rest
 
--- ---- a scan of the arcs at the indices from a on, up to i: the least number so far, and the first head that has it
-pub data Scan (number : ℕ → ℕ) (hs : List ℕ) (a i l y : ℕ) : Type 0 where
-  nothing_yet : l ≡ far → ((j : ℕ) → a ≤ j → j < i → number j ≡ far) → Scan number hs a i l y
-  best_so_far : Best number hs a i l y → Scan number hs a i l y
+module _ (number : ℕ → ℕ) (hs : List ℕ) (a : ℕ) where
+  -- each number so far is at least that
+  least_so_far : (i : ℕ) (r : Option Step) → Scanned number hs a i r → (j : ℕ) → a ≤ j → j < i → least_of r ≤ number j
+  least_so_far i None n j lo hi = omega (arith, n j lo hi)
+  least_so_far i (Some s) b j lo hi = b.least j lo hi
 
-module _ {number : ℕ → ℕ} {hs : List ℕ} {a : ℕ} where
-  pub scan_start : {y : ℕ} → Scan number hs a a far y
-  scan_start = nothing_yet refl (λ j lo hi. absurd (omega arith))
-
-  pub scan_le : {i l y : ℕ} → Scan number hs a i l y → l ≤ far
-  scan_le (nothing_yet e n) = omega arith
-  scan_le (best_so_far b) = omega (arith, b.below)
-
-  -- each number so far is at least l
-  least_so_far : {i l y : ℕ} → Scan number hs a i l y → (j : ℕ) → a ≤ j → j < i → l ≤ number j
-  least_so_far (nothing_yet e n) j lo hi = omega (arith, n j lo hi)
-  least_so_far (best_so_far b) j lo hi = b.least j lo hi
+  least_le : (i : ℕ) (r : Option Step) → Scanned number hs a i r → least_of r ≤ far
+  least_le i None n = omega arith
+  least_le i (Some s) b = omega (arith, b.below)
 
   -- a smaller number
-  pub scan_take : {i l y x : ℕ} → a ≤ i → number i ≡ x → x < l → Scan number hs a i l y → Scan number hs a (i + 1) x (get_or hs i 0)
-  scan_take {i} {l} {x} lo e less s = best_so_far (record {
+  pub scan_take : (i : ℕ) {x : ℕ} (r : Option Step) → a ≤ i → number i ≡ x → x < least_of r → Scanned number hs a i r → Scanned number hs a (i + 1) (Some (record { node = get_or hs i 0; rest = x }))
+  scan_take i {x} r lo e less s = record {
     place = i;
     lower = lo;
     upper = omega arith;
     has = e;
-    below = omega (arith, scan_le s);
+    below = omega (arith, least_le i r s);
     node = refl;
-    least = up_to (λ j. x ≤ number j) a i (λ j lo hi. omega (arith, least_so_far s j lo hi)) (omega arith);
-    earlier_more = λ j lo hi. omega (arith, least_so_far s j lo hi);
-  })
+    least = up_to (λ j. x ≤ number j) a i (λ j lo hi. omega (arith, least_so_far i r s j lo hi)) (omega arith);
+    earlier_more = λ j lo hi. omega (arith, least_so_far i r s j lo hi);
+  }
 
   -- one that is not
-  pub scan_pass : {i l y x : ℕ} → number i ≡ x → l ≤ x → x ≤ far → Scan number hs a i l y → Scan number hs a (i + 1) l y
-  scan_pass {i} e more top (nothing_yet z n) = nothing_yet z (up_to (λ j. number j ≡ far) a i n (omega arith))
-  scan_pass {i} {l} e more top (best_so_far b) = best_so_far (record {
+  pub scan_pass : (i : ℕ) (r : Option Step) → least_of r ≤ number i → number i ≤ far → Scanned number hs a i r → Scanned number hs a (i + 1) r
+  scan_pass i None more top n = up_to (λ j. number j ≡ far) a i n (omega arith)
+  scan_pass i (Some s) more top b = record {
     place = b.place;
     lower = b.lower;
     upper = omega (arith, b.upper);
     has = b.has;
     below = b.below;
     node = b.node;
-    least = up_to (λ j. l ≤ number j) a i b.least (omega arith);
+    least = up_to (λ j. s.rest ≤ number j) a i b.least (omega arith);
     earlier_more = b.earlier_more;
-  })
-
-  -- the scan is done
-  pub scan_none : {i e l y : ℕ} → i ≡ e → l ≡ far → Scan number hs a i l y → Scanned number hs a e Nothing
-  scan_none p z (nothing_yet _ n) = rw (← p) (Scanned.none n)
-  scan_none p z (best_so_far b) = absurd (omega (arith, b.below))
-
-  pub scan_best : {i e l y : ℕ} → i ≡ e → l ≢ far → Scan number hs a i l y → Scanned number hs a e (Node y l)
-  scan_best p z (nothing_yet e n) = absurd (z e)
-  scan_best p z (best_so_far b) = rw (← p) (Scanned.best b)
+  }
 
 -- ---- the arcs out of v are those at its indices
 module _ {n : ℕ} {ts hs ws first : List ℕ} (arcs : Arcs n ts hs ws) (star : Star n ts hs first) {v : ℕ} (node : v ≤ n) where
@@ -158,9 +143,9 @@ module _ {n : ℕ} {ts hs ws first : List ℕ} (arcs : Arcs n ts hs ws) (star : 
         let a = arc_index z x.arc in
         omega (arith, none e.0 e.1 e.2, e.4, low z x.reached, at_weight arcs a.3, arcs.light a.0 a.3.below)
 
-    pub scanned_chosen : {r : Next} → ((v : ℕ) → get_or ls v 0 < far → get_or ls v 0 ≤ longest) → Scanned (via_arc hs ws ls used barred) hs (get_or first v 0) (get_or first (v + 1) 0) r → Chosen (graph ts hs ws) ls (Unmarked used barred) v r
-    scanned_chosen low (Scanned.best b) = Chosen.choice (best_choice b)
-    scanned_chosen low (Scanned.none f) = Chosen.none (no_choice low f)
+    pub scanned_chosen : (r : Option Step) → ((v : ℕ) → get_or ls v 0 < far → get_or ls v 0 ≤ longest) → Scanned (via_arc hs ws ls used barred) hs (get_or first v 0) (get_or first (v + 1) 0) r → Chosen (graph ts hs ws) ls (Unmarked used barred) v r
+    scanned_chosen None low f = no_choice low f
+    scanned_chosen (Some s) low b = best_choice b
 
   -- ---- the first that keeps to the label is the tight step
   pub first_tight : (ls used : List ℕ) (i : ℕ) → get_or first v 0 ≤ i → i < get_or first (v + 1) 0 → get_or ls v 0 < far → get_or used (get_or hs i 0) 0 ≡ 0 → get_or ws i 0 + get_or ls (get_or hs i 0) 0 ≡ get_or ls v 0
@@ -177,43 +162,9 @@ module _ {n : ℕ} {ts hs ws first : List ℕ} (arcs : Arcs n ts hs ws) (star : 
           ⊎_elim (λ h. rw (← r.3.head_is) (head_le i r.0 lo h r.2)) (λ h. absurd (earlier r.0 r.1 h (rw r.3.head_is x.is_open) (rw (r.3.head_is, ← at_weight arcs r.3) e))) (le_or_lt i r.0)
 
 -- ---- the node that was found can be used
-pub scanned_usable : {k a e : ℕ} {hs ws : List ℕ} {r : Next} (ls used barred : List ℕ) → Heads k hs ws → e ≤ length hs → Scanned (via_arc hs ws ls used barred) hs a e r → Usable k used r
-scanned_usable {hs} {ws} ls used barred h top (Scanned.best b) =
+pub scanned_usable : {k : ℕ} {hs ws : List ℕ} (ls used barred : List ℕ) (a e : ℕ) (r : Option Step) → Heads k hs ws → e ≤ length hs → Scanned (via_arc hs ws ls used barred) hs a e r → Usable k used r
+scanned_usable ls used barred a e None h top f = tt
+scanned_usable {hs = hs} {ws = ws} ls used barred a e (Some s) h top b =
     let k = via_below ls used barred (get_or hs b.place 0) (get_or ws b.place 0) (omega (arith, b.has, b.below)) in
     let i : b.place < length hs = omega (arith, b.upper) in
-    rw (← b.node) (Usable.usable (record { from = h.head_from b.place i; upto = h.head_in b.place i; unflagged = k.0.unused }))
-scanned_usable ls used barred h top (Scanned.none f) = Usable.none
-
--- ---- whether an arc keeps to a label
-module _ {ls used : List ℕ} {y w want : ℕ} where
-  pub kept : {b : Bool} → Keeps ls used y w want b → b ≡ true → (get_or used y 0 ≡ 0) × (w + get_or ls y 0 ≡ want)
-  kept (Keeps.keeps u e) t = (u, e)
-  kept (Keeps.strays n) t = clash t refl
-
-  pub strayed : {b : Bool} → Keeps ls used y w want b → b ≡ false → get_or used y 0 ≡ 0 → w + get_or ls y 0 ≡ want → ⊥
-  strayed (Keeps.keeps u e) t = clash refl t
-  strayed (Keeps.strays n) t = n
-
--- ---- what was found, if that is a node, or nothing
-no_node : {A : Type 0} {y l : ℕ} → ◌≡◌ {A = Next} Nothing (Node y l) → A
-no_node e = let z : ◌≡◌ {A = ℕ} 0 1 = cc in absurd (omega arith)
-
-pub usable_node : {k y l : ℕ} {used : List ℕ} {r : Next} → Usable k used r → r ≡ Node y l → Fresh k used y
-usable_node {y} (Usable.usable {y = x} f) e = let h : x ≡ y = cc in rw (← h) f
-usable_node Usable.none e = no_node e
-
-module _ {g : Graph} {ls : List ℕ} {Open : ℕ → Type 0} {v : ℕ} where
-  pub stepped_node : {y l : ℕ} {r : Next} → Stepped g ls Open v r → r ≡ Node y l → Tight g ls Open v y
-  stepped_node {y} (Stepped.tight {y = x} t) e = let h : x ≡ y = cc in rw (← h) t
-  stepped_node Stepped.stuck e = no_node e
-
-  pub chosen_node : {y l : ℕ} {r : Next} → Chosen g ls Open v r → r ≡ Node y l → Choice g ls Open v l y
-  chosen_node {y} {l} (Chosen.choice {y = x} {l = m} c) e =
-      let h : x ≡ y = cc in
-      let k : m ≡ l = cc in
-      rw (← h, ← k) c
-  chosen_node (Chosen.none n) e = no_node e
-
-  pub chosen_nothing : {r : Next} → Chosen g ls Open v r → r ≡ Nothing → (z : ℕ) → Exit g ls Open v z → ⊥
-  chosen_nothing (Chosen.choice c) e = no_node (sym e)
-  chosen_nothing (Chosen.none n) e = n
+    rw (← b.node) (record { from = h.head_from b.place i; upto = h.head_in b.place i; unflagged = k.0.unused })

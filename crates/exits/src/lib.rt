@@ -1,7 +1,6 @@
-// The exits of a node: the next node by labels, among the arcs out of it. The graph is in two slices, as
-// crate star has it.
+// The exits of a node: the next node by labels, among the arcs out of it.
 #![tactic(auto)]
 
 mod stepping;
 
-pub use stepping::{Next, least_exit, tight_exit, via_below};
+pub use stepping::{Step, least_exit, tight_exit, via_below};

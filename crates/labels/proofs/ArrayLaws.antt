@@ -1,12 +1,13 @@
--- A graph in two slices has the arrays that the label loop reads. Assumes nothing.
+-- A graph has the arrays that the label loop reads. Assumes nothing.
 use Prim.Native.Nat.{ℕ, ◌+◌}
 use native.Mathlib.Omega.{arith}
-use mathlib.Core.Path.{◌≡◌, sym, ◌∙◌, subst}
+use mathlib.Core.Path.{◌≡◌, ◌∙◌}
 use mathlib.Core.List.{List}
 use lib.ListN.{length}
 use Rattle.star.specs.Arcs.{Arcs}
 use Rattle.star.specs.Chains.{Chains}
-use Rattle.star.specs.Layout.{tails_of, nexts_of, ins_of, Network}
+use Rattle.star.specs.Graphs.{tails, next_in, first_in}
+use Rattle.star.specs.declared.graph.Graph.{Graph}
 use Rattle.labels.specs.Arrays.{Arrays}
 
 -- arcs with their chains fit arrays that have a place for each node, and one more
@@ -22,6 +23,5 @@ arrays_of arcs c e e' = record {
   next_in = λ i b. (c.goes_on i (omega (arith, arcs.heads_long))).within;
 }
 
-pub network_arrays : {k : ℕ} {s ws bars : List ℕ} → Network k s ws → length bars ≡ k → Arrays k (tails_of (length ws) s) ws (ins_of k (length ws) s) (nexts_of (length ws) s) bars
-network_arrays {k} {s} {ws} {bars} net e =
-    subst (λ j. Arrays j (tails_of (length ws) s) ws (ins_of k (length ws) s) (nexts_of (length ws) s) bars) (sym net.places) (arrays_of net.arcs net.chains (net.ins_long ∙ net.places) (e ∙ net.places))
+pub graph_arrays : (g : Graph) {bars : List ℕ} → length bars ≡ g.nodes + 1 → Arrays (g.nodes + 1) (tails g) g.weights.now (first_in g) (next_in g) bars
+graph_arrays g e = arrays_of g.holds.arcs g.holds.chains g.holds.ins_long e

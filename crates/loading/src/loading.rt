@@ -15,6 +15,7 @@ use super::reading::{read_column, read_columns};
 use super::selecting::{number_arcs, select_common, select_open};
 use crate::network::Network;
 use labels::least;
+use star::Graph;
 
 // Labels each node of a graph in two slices with its least cost to the goal.
 pub fn label_nodes(star: &[u16], weights: &[u32], goal: usize, overall: &mut [u64])
@@ -23,7 +24,12 @@ pub fn label_nodes(star: &[u16], weights: &[u32], goal: usize, overall: &mut [u6
 {
     let barred = [0u8; 201];
     let places = overall.len();
-    least(star, weights, &barred[..places], goal, overall);
+    let graph = Graph {
+        nodes: places - 1,
+        star,
+        weights,
+    };
+    least(&graph, &barred[..places], goal, overall);
 }
 
 // Reads the arcs at these indices, all of them open in column u, and labels each node with its least cost to

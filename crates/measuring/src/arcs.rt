@@ -6,7 +6,7 @@ ghost use Rattle.star.specs.Arcs.{graph, Arcs, At};
 ghost use Rattle.star.specs.Star.{Star};
 ghost use Rattle.measuring.specs.Steps.{Starred, Steps};
 
-use star::{Arc, arc_between};
+use star::arc_between;
 
 // The index of the arc from v to y, 0 if there is none.
 fn arc_index(heads: &[u16], first_out: &[u16], v: usize, y: u16) -> u16
@@ -14,7 +14,7 @@ fn arc_index(heads: &[u16], first_out: &[u16], v: usize, y: u16) -> u16
     ensures { (n : ℕ) (ts ws : List ℕ) → Arcs n ts heads.now ws → Star n ts heads.now first_out.now → linked (graph ts heads.now ws) v y ≡ true → At ts heads.now v y result }
 {
     let found = arc_between(heads, first_out, v, y);
-    let Arc::At(i, _) = found else {
+    let Some(i) = found else {
         return 0;
     };
     i

@@ -8,6 +8,7 @@ ghost use Rattle.measuring.specs.Columns.{network};
 ghost use Rattle.measuring.specs.Bests.{Joined, Labelled};
 
 use labels::least;
+use star::Graph;
 
 // The least cost of a path from start to goal among n nodes, with the weights of one column: the label of
 // the start. There is a path.
@@ -18,13 +19,12 @@ fn least_cost(star: &[u16], weights: &[u32], n: usize, start: usize, goal: usize
     let barred = [0u8; 201];
     let mut labels = [0u64; 201];
     let places = n + 1;
-    least(
+    let graph = Graph {
+        nodes: n,
         star,
         weights,
-        &barred[..places],
-        goal,
-        &mut labels[..places],
-    );
+    };
+    least(&graph, &barred[..places], goal, &mut labels[..places]);
     labels[start]
 }
 

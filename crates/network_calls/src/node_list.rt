@@ -6,7 +6,7 @@ ghost use Rattle.star.specs.Layout.{graph_of, Network};
 ghost use Rattle.loading.specs.Accepted.{Node};
 ghost use Rattle.network_calls.specs.NodeLists.{Followed, FirstError, list_fault};
 
-use star::{Arc, arc_between};
+use star::arc_between;
 
 // What the check of a node list finds: a path, or the place of row 14.
 #[derive(Clone, Copy)]
@@ -24,7 +24,7 @@ fn first_error(heads: &[u16], first_out: &[u16], nodes: &[u16]) -> usize
     let mut at = 1;
     'search: while at < nodes.len() {
         let found = arc_between(heads, first_out, nodes[at - 1] as usize, nodes[at]);
-        let Arc::At(_, _) = found else {
+        let Some(_) = found else {
             break 'search;
         };
         let mut i = 0;

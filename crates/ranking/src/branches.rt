@@ -12,8 +12,9 @@ ghost use Rattle.exits.specs.Walks.{Choice};
 use crate::query::{Detour, Query};
 use branching::{Found, Step, first_path};
 use candidates::{cost_at, insert, place_for};
-use exits::{Next, least_exit};
+use exits::least_exit;
 use sharpening::LONGEST;
+use star::Graph;
 
 // Whether every slot is taken, and the last entry costs less than `bound`.
 fn too_dear(work: &[u32], n: usize, slots: usize, count: usize, bound: u64) -> bool
@@ -127,10 +128,15 @@ pub fn consider(
     let d = detour.d;
     let before = detour.before;
     let v = path[d - 1] as usize;
-    let Next::Node(y, l) = least_exit(star, weights, v, overall, used, barred) else {
+    let graph = Graph {
+        nodes: query.n,
+        star,
+        weights,
+    };
+    let Some(step) = least_exit(&graph, v, overall, used, barred) else {
         return count;
     };
-    let bound = before + l;
+    let bound = before + step.rest;
     let limit = query.limit;
     if limit <= bound {
         return count;
@@ -138,7 +144,6 @@ pub fn consider(
     if too_dear(work, query.n, query.slots, count, bound) {
         return count;
     }
-    let step = Step { node: y, rest: l };
     enter(
         query, star, weights, overall, used, barred, path, work, detour, step,
     )

@@ -14,7 +14,7 @@ ghost use Rattle.ranking.specs.State.{Searching, branch_of, taking_over, waiting
 use crate::branches::consider;
 use crate::query::{Detour, Fork, Query, Stem};
 use candidates::{cost_at, lay_out, set_bars, shared_at, tail_length_at};
-use star::{Arc, arc_between};
+use star::arc_between;
 
 // The weight of the arc from v to y.
 fn arc_weight(heads: &[u16], weights: &[u32], first_out: &[u16], v: usize, y: u16) -> u32
@@ -22,7 +22,7 @@ fn arc_weight(heads: &[u16], weights: &[u32], first_out: &[u16], v: usize, y: u1
     ensures { (n : ℕ) (ts : List ℕ) → Arcs n ts heads.now weights.now → Star n ts heads.now first_out.now → linked (graph ts heads.now weights.now) v y ≡ true → result ≡ weight (graph ts heads.now weights.now) v y }
 {
     let found = arc_between(heads, first_out, v, y);
-    let Arc::At(i, _) = found else {
+    let Some(i) = found else {
         return 0;
     };
     weights[i as usize]

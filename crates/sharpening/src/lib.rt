@@ -2,7 +2,6 @@
 // hand, finds by how much these fall short of what a path round the beginning costs; the labels of the
 // nodes that it took are raised by that, and then each to what its node's exits allow. Labels that come
 // through are consistent whatever the search found: no fact about it is needed.
-// The graph is in two slices, as crate star has it.
 #![tactic(auto)]
 
 mod raise;

@@ -1,20 +1,24 @@
 // Labels raised by what a search found, and mended so that they are consistent.
-ghost use Rattle.std.specs.Prelude.{◌≡◌, true, false, List, ℕ, ◌≤◌, ◌<◌, length, get_or};
+ghost use Rattle.std.specs.Prelude.{◌≡◌, true, List, ℕ, ◌+◌, ◌≤◌, ◌<◌, length, get_or, false};
 ghost use Rattle.terms.specs.Lists.{elem};
 ghost use Rattle.labels.specs.Labels.{far};
-ghost use Rattle.star.specs.Layout.{graph_of, Network};
+ghost use Rattle.star.specs.Graphs.{arcs_of};
 ghost use Rattle.exits.specs.Small.{Small, longest};
 ghost use Rattle.exits.specs.Walks.{Consistent};
 ghost use Rattle.sharpening.specs.Sharp.{Listed, Raises, Lifted, Mends};
 
 use crate::search::LONGEST;
-use exits::{Next, least_exit};
+use exits::least_exit;
 use labels::FAR;
+use star::Graph;
 
 // Raises the label of x by what its key falls short of `level`, or to FAR if level is.
 fn lift(x: usize, level: u64, keys: &[u64], labels: &mut [u64])
-    requires { Small (length keys.now) labels.old × (x < length keys.now) × (level < far → level ≤ longest) }
-    ensures { Small (length keys.now) labels.new × Raises x labels.old labels.new }
+    requires small { Small (length keys.now) labels.old }
+    requires node { x < length keys.now }
+    requires level { level < far → level ≤ longest }
+    ensures still_small { Small (length keys.now) labels.new }
+    ensures raises { Raises x labels.old labels.new }
 {
     let old = labels[x];
     if level == FAR {
@@ -22,14 +26,9 @@ fn lift(x: usize, level: u64, keys: &[u64], labels: &mut [u64])
         return;
     }
     let key = keys[x];
-    if level < key {
-        return;
+    if key <= level && old <= LONGEST - (level - key) {
+        labels[x] = old + (level - key);
     }
-    let more = level - key;
-    if LONGEST - more < old {
-        return;
-    }
-    labels[x] = old + more;
 }
 
 // The same for each node of nodes[..taken] but the goal.
@@ -41,30 +40,33 @@ pub fn lift_all(
     keys: &[u64],
     labels: &mut [u64],
 )
-    requires { Small (length keys.now) labels.old × Listed (length keys.now) nodes.now 0 taken × (level < far → level ≤ longest) }
-    ensures { Small (length keys.now) labels.new × Lifted goal nodes.now taken labels.old labels.new }
+    requires small { Small (length keys.now) labels.old }
+    requires listed { Listed (length keys.now) nodes.now 0 taken }
+    requires level { level < far → level ≤ longest }
+    ensures still_small { Small (length keys.now) labels.new }
+    ensures lifted { Lifted goal nodes.now taken labels.old labels.new }
 {
-    let mut i = 0;
-    while i < taken {
+    for i in 0..taken {
         let x = nodes[i] as usize;
         if x != goal {
             lift(x, level, keys, labels);
         }
-        i += 1;
     }
 }
+
 // Raises the label of x to the least weight and label over its exits, if it is not above that.
-fn mend(star: &[u16], weights: &[u32], x: usize, used: &[u8], labels: &mut [u64]) -> bool
-    requires network { Network (length used.now) star.now weights.now }
+fn mend(graph: &Graph<'_>, x: usize, used: &[u8], labels: &mut [u64]) -> bool
+    requires used_long { length used.now ≡ graph.now.nodes + 1 }
     requires small { Small (length used.now) labels.old }
-    requires x_in_bounds { x < length used.now }
-    ensures small_2 { Small (length used.now) labels.new }
-    ensures mends { result ≡ true → Mends (graph_of star.now weights.now) used.now x labels.old labels.new }
+    requires node { x < length used.now }
+    ensures still_small { Small (length used.now) labels.new }
+    ensures mends { result ≡ true → Mends (arcs_of graph.now) used.now x labels.old labels.new }
 {
-    let Next::Node(_, l) = least_exit(star, weights, x, labels, used, used) else {
+    let Some(step) = least_exit(graph, x, labels, used, used) else {
         labels[x] = FAR;
         return true;
     };
+    let l = step.rest;
     let old = labels[x];
     if l < old {
         return false;
@@ -78,28 +80,23 @@ fn mend(star: &[u16], weights: &[u32], x: usize, used: &[u8], labels: &mut [u64]
 
 // The same for each node of nodes[..taken] but the goal, from the last to the first.
 pub fn mend_all(
-    star: &[u16],
-    weights: &[u32],
+    graph: &Graph<'_>,
     nodes: &[u16],
     taken: usize,
     goal: usize,
     used: &[u8],
     labels: &mut [u64],
 ) -> bool
-    requires network { Network (length used.now) star.now weights.now }
+    requires used_long { length used.now ≡ graph.now.nodes + 1 }
     requires small { Small (length used.now) labels.old }
     requires listed { Listed (length used.now) nodes.now 0 taken }
-    ensures small_2 { Small (length used.now) labels.new }
-    ensures by_index { (os bar : List ℕ) → result ≡ true → Lifted goal nodes.now taken os labels.old → ((z : ℕ) → elem z bar ≡ false → get_or used.now z 0 ≡ 0) → Consistent (graph_of star.now weights.now) goal os bar → Consistent (graph_of star.now weights.now) goal labels.new bar }
+    ensures still_small { Small (length used.now) labels.new }
+    ensures consistent { (os bar : List ℕ) → result ≡ true → Lifted goal nodes.now taken os labels.old → ((z : ℕ) → elem z bar ≡ false → get_or used.now z 0 ≡ 0) → Consistent (arcs_of graph.now) goal os bar → Consistent (arcs_of graph.now) goal labels.new bar }
 {
-    let mut i = taken;
-    while 0 < i {
-        i -= 1;
+    for i in (0..taken).rev() {
         let x = nodes[i] as usize;
-        if x != goal {
-            if !mend(star, weights, x, used, labels) {
-                return false;
-            }
+        if x != goal && !mend(graph, x, used, labels) {
+            return false;
         }
     }
     true

@@ -1,12 +1,12 @@
 // The search: it takes nodes outwards from the end of a branch's beginning, and says how far it went.
 ghost use Rattle.std.specs.Prelude.{◌≡◌, ℕ, ◌+◌, ◌≤◌, ◌<◌, length};
 ghost use Rattle.labels.specs.Labels.{far};
-ghost use Rattle.star.specs.Layout.{Network};
 ghost use Rattle.exits.specs.Small.{Small, longest};
 ghost use Rattle.sharpening.specs.Sharp.{Listed, Front};
 
-use exits::{Next, tight_exit, via_below};
+use exits::{tight_exit, via_below};
 use labels::FAR;
+use star::Graph;
 
 // No path costs more.
 pub const LONGEST: u64 = 53418655545;
@@ -40,7 +40,9 @@ pub struct Level {
 // Lists y. The nodes met are nodes[..met], and those taken nodes[..taken]; if y is to be the next that is
 // taken, it comes first among the others. Returns how many are then met.
 fn list(y: usize, is_next: bool, nodes: &mut [u16], taken: usize, met: usize) -> usize
-    requires { (y < 65536) × (taken ≤ met) × (met ≤ length nodes.old) }
+    requires node { y < 65536 }
+    requires part { taken ≤ met }
+    requires room { met ≤ length nodes.old }
     ensures { (k : ℕ) → y < k → Listed k nodes.old taken met → Listed k nodes.new taken result }
 {
     if nodes.len() <= met {
@@ -66,7 +68,8 @@ fn note(
     met: usize,
 ) -> usize
     requires front { Front (length keys.old) keys.old nodes.old taken met }
-    requires y_in_bounds { (y < length keys.old) × (key ≤ longest) }
+    requires node { y < length keys.old }
+    requires key { key ≤ longest }
     ensures { Front (length keys.old) keys.new nodes.new taken result }
 {
     let old = keys[y];
@@ -92,26 +95,20 @@ fn reach(
     met: usize,
 ) -> usize
     requires front { Front (length keys.old) keys.old nodes.old hub.taken met }
-    requires y_in_bounds { (y < length keys.old) × (hub.key + hub.room ≤ longest) }
+    requires node { y < length keys.old }
+    requires room { hub.key + hub.room ≤ longest }
     ensures { Front (length keys.old) keys.new nodes.new hub.taken result }
 {
-    if l < own {
+    if l < own || hub.room < l - own {
         return met;
     }
     let more = l - own;
-    let key = hub.key;
-    let room = hub.room;
-    if room < more {
-        return met;
-    }
-    let taken = hub.taken;
-    note(y, key + more, more == 0, keys, nodes, taken, met)
+    note(y, hub.key + more, more == 0, keys, nodes, hub.taken, met)
 }
 
 // Follows each arc from the hub to a node that is neither used nor barred.
 fn spread(
-    star: &[u16],
-    weights: &[u32],
+    graph: &Graph<'_>,
     hub: Hub,
     overall: &[u64],
     used: &[u8],
@@ -120,35 +117,34 @@ fn spread(
     nodes: &mut [u16],
     met: usize,
 ) -> usize
-    requires network { Network (length overall.now) star.now weights.now }
-    requires small { Small (length overall.now) overall.now × (hub.node < length overall.now) × (hub.key + hub.room ≤ longest) }
-    requires used_len { (length used.now ≡ length overall.now) × (length barred.now ≡ length overall.now) }
+    requires overall_long { length overall.now ≡ graph.now.nodes + 1 }
+    requires small { Small (length overall.now) overall.now }
+    requires node { hub.node < length overall.now }
+    requires room { hub.key + hub.room ≤ longest }
+    requires used_long { length used.now ≡ length overall.now }
+    requires barred_long { length barred.now ≡ length overall.now }
     requires front { Front (length overall.now) keys.old nodes.old hub.taken met }
     ensures { Front (length overall.now) keys.new nodes.new hub.taken result }
 {
-    let m = weights.len();
-    let outs = 3 * m;
-    let ins = outs + overall.len() + 1;
-    let heads = &star[m..2 * m];
-    let first_out = &star[outs..ins];
-    let x = hub.node;
-    let own = overall[x];
-    let mut listed = met;
-    let mut i = first_out[x] as usize;
-    let to = first_out[x + 1] as usize;
-    while i < to {
+    let heads = graph.heads();
+    let weights = graph.weights;
+    let own = overall[hub.node];
+    let mut met = met;
+    let outs = graph.outs(hub.node);
+    for i in outs.start..outs.end {
         let y = heads[i] as usize;
-        let l = via_below(y, weights[i], FAR, overall, used, barred);
-        listed = reach(y, l, own, hub, keys, nodes, listed);
-        i += 1;
+        if let Some(l) = via_below(y, weights[i], FAR, overall, used, barred) {
+            met = reach(y, l, own, hub, keys, nodes, met);
+        }
     }
-    listed
+    met
 }
 
 // The place of a node with the least key in nodes[from..to]: the first, if its key is `floor`, than which
 // none is less.
 fn pick(nodes: &[u16], from: usize, to: usize, keys: &[u64], floor: u64) -> usize
-    requires { Front (length keys.now) keys.now nodes.now from to × (from < to) }
+    requires front { Front (length keys.now) keys.now nodes.now from to }
+    requires some { from < to }
     ensures { result < to }
 {
     let mut best = from;
@@ -156,14 +152,12 @@ fn pick(nodes: &[u16], from: usize, to: usize, keys: &[u64], floor: u64) -> usiz
     if least <= floor {
         return from;
     }
-    let mut i = from + 1;
-    while i < to {
+    for i in from + 1..to {
         let key = keys[nodes[i] as usize];
         if key < least {
             best = i;
             least = key;
         }
-        i += 1;
     }
     best
 }
@@ -171,8 +165,7 @@ fn pick(nodes: &[u16], from: usize, to: usize, keys: &[u64], floor: u64) -> usiz
 // Whether a walk along the labels leads from x to the goal in at most `most` steps, and meets neither a
 // used node nor one with a key that is no greater than `key`, as all nodes have that were taken.
 fn leads(
-    star: &[u16],
-    weights: &[u32],
+    graph: &Graph<'_>,
     goal: usize,
     overall: &[u64],
     used: &[u8],
@@ -181,8 +174,10 @@ fn leads(
     key: u64,
     most: usize,
 ) -> bool
-    requires network { Network (length overall.now) star.now weights.now }
-    requires x_in_bounds { (x < length overall.now) × (length used.now ≡ length overall.now) × (length keys.now ≡ length overall.now) }
+    requires overall_long { length overall.now ≡ graph.now.nodes + 1 }
+    requires node { x < length overall.now }
+    requires used_long { length used.now ≡ length overall.now }
+    requires keys_long { length keys.now ≡ length overall.now }
 {
     let mut at = x;
     let mut left = most;
@@ -191,7 +186,7 @@ fn leads(
             return false;
         }
         left -= 1;
-        let Next::Node(y, _) = tight_exit(star, weights, at, overall, used) else {
+        let Some(y) = tight_exit(graph, at, overall, used) else {
             return false;
         };
         at = y as usize;
@@ -205,13 +200,7 @@ fn leads(
 // How many steps that walk may have: none from the first node, where it was tried before, nor from one
 // that has the key of the last node taken, because it goes on from there; else any number.
 fn steps_allowed(taken: usize, floor: u64, key: u64, nodes: usize) -> usize {
-    if taken == 0 {
-        return 0;
-    }
-    if key <= floor {
-        return 0;
-    }
-    nodes
+    if taken == 0 || key <= floor { 0 } else { nodes }
 }
 
 // What a path costs at least if none was found that costs `most` at the most.
@@ -219,17 +208,13 @@ fn beyond(most: u64) -> u64
     requires { most ≤ longest }
     ensures { result < far → result ≤ longest }
 {
-    if most < LONGEST {
-        return most + 1;
-    }
-    FAR
+    if most < LONGEST { most + 1 } else { FAR }
 }
 
 // Takes node after node, by its key, and follows its arcs, until it comes to the goal, or a walk along
 // the labels leads there, or all keys are above `most`. The nodes taken are then nodes[..taken].
 fn search(
-    star: &[u16],
-    weights: &[u32],
+    graph: &Graph<'_>,
     goal: usize,
     overall: &[u64],
     used: &[u8],
@@ -238,10 +223,13 @@ fn search(
     met: usize,
     most: u64,
 ) -> Level
-    requires network { Network (length overall.now) star.now weights.now }
-    requires small { Small (length overall.now) overall.now × (length used.now ≡ length overall.now) × (most ≤ longest) }
+    requires overall_long { length overall.now ≡ graph.now.nodes + 1 }
+    requires small { Small (length overall.now) overall.now }
+    requires used_long { length used.now ≡ length overall.now }
+    requires most { most ≤ longest }
     requires front { Front (length overall.now) keys.old nodes.old 0 met }
-    ensures { Listed (length overall.now) nodes.new 0 result.taken × (result.key < far → result.key ≤ longest) }
+    ensures listed { Listed (length overall.now) nodes.new 0 result.taken }
+    ensures key { result.key < far → result.key ≤ longest }
 {
     let mut listed = met;
     let mut taken = 0;
@@ -258,7 +246,7 @@ fn search(
             };
         }
         let steps = steps_allowed(taken, floor, key, used.len());
-        if leads(star, weights, goal, overall, used, keys, x, key, steps) {
+        if leads(graph, goal, overall, used, keys, x, key, steps) {
             return Level { taken, key };
         }
         nodes[at] = nodes[taken];
@@ -271,7 +259,7 @@ fn search(
             room: most - key,
             taken,
         };
-        listed = spread(star, weights, hub, overall, used, used, keys, nodes, listed);
+        listed = spread(graph, hub, overall, used, used, keys, nodes, listed);
     }
     Level {
         taken,
@@ -281,8 +269,7 @@ fn search(
 
 // The whole search, from the last node of the branch's beginning. No node has been met.
 pub fn search_from(
-    star: &[u16],
-    weights: &[u32],
+    graph: &Graph<'_>,
     quest: Quest,
     overall: &[u64],
     used: &[u8],
@@ -290,16 +277,18 @@ pub fn search_from(
     keys: &mut [u64],
     nodes: &mut [u16],
 ) -> Level
-    requires network { Network (length overall.now) star.now weights.now }
-    requires small { Small (length overall.now) overall.now × (quest.from < length overall.now) × (quest.most ≤ longest) }
-    requires used_len { (length used.now ≡ length overall.now) × (length barred.now ≡ length overall.now) }
+    requires overall_long { length overall.now ≡ graph.now.nodes + 1 }
+    requires small { Small (length overall.now) overall.now }
+    requires from { quest.from < length overall.now }
+    requires most { quest.most ≤ longest }
+    requires used_long { length used.now ≡ length overall.now }
+    requires barred_long { length barred.now ≡ length overall.now }
     requires front { Front (length overall.now) keys.old nodes.old 0 0 }
-    ensures { Listed (length overall.now) nodes.new 0 result.taken × (result.key < far → result.key ≤ longest) }
+    ensures listed { Listed (length overall.now) nodes.new 0 result.taken }
+    ensures key { result.key < far → result.key ≤ longest }
 {
-    let v = quest.from;
-    let goal = quest.goal;
     let most = quest.most;
-    let key = overall[v];
+    let key = overall[quest.from];
     if most < key {
         return Level {
             taken: 0,
@@ -307,11 +296,11 @@ pub fn search_from(
         };
     }
     let hub = Hub {
-        node: v,
+        node: quest.from,
         key,
         room: most - key,
         taken: 0,
     };
-    let met = spread(star, weights, hub, overall, used, barred, keys, nodes, 0);
-    search(star, weights, goal, overall, used, keys, nodes, met, most)
+    let met = spread(graph, hub, overall, used, barred, keys, nodes, 0);
+    search(graph, quest.goal, overall, used, keys, nodes, met, most)
 }

@@ -1,18 +1,11 @@
 -- A star that is put together from its parts has them. Assumes nothing.
-use Prim.Native.Nat.{ℕ, suc, ◌+◌, ◌-◌, ◌*◌, ◌<◌}
+use Prim.Native.Nat.{ℕ, ◌+◌, ◌-◌, ◌*◌}
 use native.Mathlib.Omega.{arith}
-use native.Mathlib.Numerals.{add-one}
 use mathlib.Core.Path.{◌≡◌, sym, ◌∙◌, ap}
-use mathlib.Core.List.{List, [], ◌∷◌, ◌++◌, append_assoc}
-use lib.ListN.{length, get_or, set, take, length-append}
-use lib.Seq.{take_at, drop_at, take_all, take-suc, take-suc-set}
+use mathlib.Core.List.{List, ◌++◌, append_assoc}
+use lib.ListN.{length, take, length-append}
+use lib.Seq.{take_at, drop_at, take_all}
 use Rattle.star.specs.Layout.{part, tails_of, heads_of, nexts_of, outs_of, ins_of}
-
--- ---- one number more is written behind the first a places of s₀ and the first i of p
-pub append_more : (s₀ s p : List ℕ) (a i : ℕ) → a + i < length s → i < length p → take (a + i) s ≡ take a s₀ ++ take i p → take (a + (i + 1)) (set s (a + i) (get_or p i 0)) ≡ take a s₀ ++ take (i + 1) p
-append_more s₀ s p a i h k e =
-    let z : a + (i + 1) ≡ suc (a + i) = omega arith in
-    rw (z, add-one i, take-suc-set s (a + i) (get_or p i 0) h, take-suc p i 0 k, e) (append_assoc (take a s₀) (take i p) (get_or p i 0 ∷ []))
 
 -- what stands between two lists
 between : (l mid r : List ℕ) (a e : ℕ) → a ≡ length l → e ≡ length l + length mid → part a e (l ++ mid ++ r) ≡ mid

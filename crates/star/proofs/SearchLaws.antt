@@ -6,7 +6,7 @@ use mathlib.Core.Path.{◌≡◌, refl, sym, ◌∙◌, ap, subst}
 use mathlib.Core.Bool.{Bool, true, false, ◌||◌}
 use mathlib.Core.Logic.{⊎_elim}
 use mathlib.Core.List.{List}
-use mathlib.Core.Option.{Option, none, some}
+use Rattle.std.specs.Prelude.{Option, Some, None}
 use lib.Dec.{ltb, eqb}
 use lib.ListN.{get_or}
 use borrow.Author.Tests.{ltb-true, eqb-true, eqb-false, lt-ltb, le-ltb, eq-eqb, ne_eqb}
@@ -28,7 +28,7 @@ pub below_is : {a b : ℕ × ℕ} → below a b ≡ true → Below a b
 unfolding below
 below_is {a} {b} e = ⊎_elim (λ h. lower_tail (ltb-true _ _ h)) (λ h. let k = and_both (eqb a.0 b.0) (ltb a.1 b.1) h in lower_head (eqb-true _ _ k.0) (ltb-true _ _ k.1)) (or_cases e)
 
--- none is below one that is below it
+-- None is below one that is below it
 below_once : {a b : ℕ × ℕ} → Below a b → Below b a → ⊥
 below_once (lower_tail h) (lower_tail k) = omega arith
 below_once (lower_tail h) (lower_head e k) = omega arith
@@ -65,19 +65,19 @@ some_left : (l : ℕ) → eqb l 0 ≡ false → 0 < l
 some_left zero t = absurd (eqb-false zero 0 t refl)
 some_left (suc l) t = omega arith
 
--- an index, or none
-none_else : (o : Option ℕ) → ((i : ℕ) → o ≡ some i → ⊥) → o ≡ none
-none_else none h = refl
-none_else (some i) h = absurd (h i refl)
+-- an index, or None
+none_else : (o : Option ℕ) → ((i : ℕ) → o ≡ Some i → ⊥) → o ≡ None
+none_else None h = refl
+none_else (Some i) h = absurd (h i refl)
 
 module _ (ts hs : List ℕ) (x : ℕ × ℕ) where
   -- ---- its steps
-  halve_none : (most looks f : ℕ) → halve ts hs x most looks f 0 ≡ (none, looks)
+  halve_none : (most looks f : ℕ) → halve ts hs x most looks f 0 ≡ (None, looks)
   unfolding halve
   halve_none zero looks f = refl
   halve_none (suc most) looks f = refl
 
-  halve_here : (most looks f l : ℕ) → 0 < l → is_arc (record_at ts hs (middle f l)) x ≡ true → halve ts hs x (suc most) looks f l ≡ (some (middle f l), looks + 1)
+  halve_here : (most looks f l : ℕ) → 0 < l → is_arc (record_at ts hs (middle f l)) x ≡ true → halve ts hs x (suc most) looks f l ≡ (Some (middle f l), looks + 1)
   unfolding halve
   halve_here most looks f l h t = rw (ne_eqb l 0 (λ e. omega arith), t)
 
@@ -93,18 +93,18 @@ module _ (ts hs : List ℕ) (x : ℕ × ℕ) where
   wider : {a e a' e' i : ℕ} → a ≤ a' → e' ≤ e → Among ts hs x a' e' i → Among ts hs x a e i
   wider h k m = record { from = omega (arith, m.from); upto = omega (arith, m.upto); tail_is = m.tail_is; head_is = m.head_is }
 
-  halve_right : (most looks f l i : ℕ) → (halve ts hs x most looks f l).0 ≡ some i → Among ts hs x f (f + l) i
+  halve_right : (most looks f l i : ℕ) → (halve ts hs x most looks f l).0 ≡ Some i → Among ts hs x f (f + l) i
   unfolding halve
   halve_right zero looks f l i p = let z : ◌≡◌ {A = ℕ} 0 1 = cc in absurd (omega arith)
   halve_right (suc most) looks f l i p =
-      by_cond (λ (s : Sought). s.0 ≡ some i → Among ts hs x f (f + l) i) (eqb l 0) (λ _ p. let z : ◌≡◌ {A = ℕ} 0 1 = cc in absurd (omega arith))
+      by_cond (λ (s : Sought). s.0 ≡ Some i → Among ts hs x f (f + l) i) (eqb l 0) (λ _ p. let z : ◌≡◌ {A = ℕ} 0 1 = cc in absurd (omega arith))
       (λ t. let h : 0 < l = some_left l t in
-      by_cond (λ (s : Sought). s.0 ≡ some i → Among ts hs x f (f + l) i) (is_arc (record_at ts hs (middle f l)) x)
+      by_cond (λ (s : Sought). s.0 ≡ Some i → Among ts hs x f (f + l) i) (is_arc (record_at ts hs (middle f l)) x)
       (λ u p. let q : middle f l ≡ i = cc in
       let r = arc_true _ _ _ _ u in
       let n : Among ts hs x f (f + l) (middle f l) = record { from = omega arith; upto = omega arith; tail_is = r.0; head_is = r.1 } in
       subst (Among ts hs x f (f + l)) q n)
-      (λ _. by_cond (λ (s : Sought). s.0 ≡ some i → Among ts hs x f (f + l) i) (below (record_at ts hs (middle f l)) x) (λ _ p. wider (omega arith) (omega arith) (halve_right most (looks + 1) (middle f l + 1) (l / 2) i p)) (λ _ p. wider (omega arith) (omega arith) (halve_right most (looks + 1) f ((l - 1) / 2) i p))))
+      (λ _. by_cond (λ (s : Sought). s.0 ≡ Some i → Among ts hs x f (f + l) i) (below (record_at ts hs (middle f l)) x) (λ _ p. wider (omega arith) (omega arith) (halve_right most (looks + 1) (middle f l + 1) (l / 2) i p)) (λ _ p. wider (omega arith) (omega arith) (halve_right most (looks + 1) f ((l - 1) / 2) i p))))
       p
 
   -- ---- in records that rise it finds the arc
@@ -123,15 +123,15 @@ module _ (ts hs : List ℕ) (x : ℕ × ℕ) where
     once : {i j : ℕ} → Among ts hs x a e i → Among ts hs x a e j → i ≡ j
     once {i} {j} m n = ⊎_elim (λ k. ⊎_elim (λ q. q) (λ k'. absurd (not_twice m n k')) (eq-or-lt_of_le k)) (λ k. absurd (not_twice n m k)) (le_or_lt i j)
 
-    halve_found : (most looks f l i : ℕ) → a ≤ f → f + l ≤ e → l ≤ most → f ≤ i → i < f + l → Among ts hs x a e i → (halve ts hs x most looks f l).0 ≡ some i
+    halve_found : (most looks f l i : ℕ) → a ≤ f → f + l ≤ e → l ≤ most → f ≤ i → i < f + l → Among ts hs x a e i → (halve ts hs x most looks f l).0 ≡ Some i
     unfolding halve
     halve_found zero looks f l i lo up enough from to m = absurd (omega arith)
     halve_found (suc most) looks f l i lo up enough from to m =
-        by_cond (λ (s : Sought). s.0 ≡ some i) (eqb l 0) (λ t. let z = eqb-true l 0 t in absurd (omega arith))
+        by_cond (λ (s : Sought). s.0 ≡ Some i) (eqb l 0) (λ t. let z = eqb-true l 0 t in absurd (omega arith))
         (λ t. let h : 0 < l = some_left l t in
-        by_cond (λ (s : Sought). s.0 ≡ some i) (is_arc (record_at ts hs (middle f l)) x)
-        (λ v. let r = arc_true _ _ _ _ v in ap some (once (record { from = omega arith; upto = omega arith; tail_is = r.0; head_is = r.1 }) m))
-        (λ v. by_cond (λ (s : Sought). s.0 ≡ some i) (below (record_at ts hs (middle f l)) x)
+        by_cond (λ (s : Sought). s.0 ≡ Some i) (is_arc (record_at ts hs (middle f l)) x)
+        (λ v. let r = arc_true _ _ _ _ v in ap Some (once (record { from = omega arith; upto = omega arith; tail_is = r.0; head_is = r.1 }) m))
+        (λ v. by_cond (λ (s : Sought). s.0 ≡ Some i) (below (record_at ts hs (middle f l)) x)
         (λ w. halve_found most (looks + 1) (middle f l + 1) (l / 2) i (omega arith) (omega arith) (omega arith) (⊎_elim (λ k. absurd (⊎_elim (λ q. other v q) (λ k'. below_once (below_is (lower m k' (omega arith))) (below_is w)) (eq-or-lt_of_le k))) (λ k. omega arith) (le_or_lt i (middle f l))) (omega arith) m)
         (λ w. halve_found most (looks + 1) f ((l - 1) / 2) i lo (omega arith) (omega arith) from (⊎_elim (λ k. absurd (⊎_elim (λ q. other v (sym q)) (λ k'. clash (higher m k' (omega arith)) w) (eq-or-lt_of_le k))) (λ k. k) (le_or_lt (middle f l) i)) m)))
       where
@@ -162,10 +162,10 @@ module _ (ts hs : List ℕ) (x : ℕ × ℕ) where
     few = λ h. halve_few 10 (e - a) 0 a (e - a) (omega arith);
   }
     where
-      right : (i : ℕ) → (halve ts hs x (e - a) 0 a (e - a)).0 ≡ some i → Among ts hs x a e i
+      right : (i : ℕ) → (halve ts hs x (e - a) 0 a (e - a)).0 ≡ Some i → Among ts hs x a e i
       right i p = let m = halve_right (e - a) 0 a (e - a) i p in wider (omega arith) (omega (arith, m.from, m.upto)) m
 
-      found : Rising ts hs a e → (i : ℕ) → Among ts hs x a e i → (halve ts hs x (e - a) 0 a (e - a)).0 ≡ some i
+      found : Rising ts hs a e → (i : ℕ) → Among ts hs x a e i → (halve ts hs x (e - a) 0 a (e - a)).0 ≡ Some i
       found r i m = let k = m.from in let k' = m.upto in halve_found r (e - a) 0 a (e - a) i (omega arith) (omega arith) (omega arith) k (omega arith) m
 
 -- ---- the search on its way: `looks` were looked at, and `left` records from `first` on are left
@@ -190,7 +190,7 @@ module _ {ts hs : List ℕ} {x : ℕ × ℕ} {from to : ℕ} where
       by_most (suc most) k p q = (most, (k, p, q))
 
   -- the tests of the record in the middle, as they came out
-  pub seek_here : {f l looks : ℕ} {is : Bool} → Seeking ts hs x from to f l looks → 0 < l → is ≡ is_arc (record_at ts hs (middle f l)) x → is ≡ true → (some (middle f l), looks + 1) ≡ seek ts hs x from to
+  pub seek_here : {f l looks : ℕ} {is : Bool} → Seeking ts hs x from to f l looks → 0 < l → is ≡ is_arc (record_at ts hs (middle f l)) x → is ≡ true → (Some (middle f l), looks + 1) ≡ seek ts hs x from to
   seek_here {f} {l} {looks} s h t t' = let p = spend s h in sym (halve_here ts hs x p.0 looks f l h (sym t ∙ t')) ∙ p.1.2
 
   pub seek_behind : {f l looks : ℕ} {is low : Bool} → Seeking ts hs x from to f l looks → 0 < l → is ≡ is_arc (record_at ts hs (middle f l)) x → is ≡ false → low ≡ below (record_at ts hs (middle f l)) x → low ≡ true → Seeking ts hs x from to (middle f l + 1) (l / 2) (looks + 1)
@@ -201,10 +201,10 @@ module _ {ts hs : List ℕ} {x : ℕ × ℕ} {from to : ℕ} where
   seek_before {f} {l} {looks} s h t t' u u' = let p = spend s h in
       record { most = p.0; within = omega (arith, s.within); enough = omega (arith, p.1.0); spent = omega (arith, p.1.1); goes_on = sym (halve_before ts hs x p.0 looks f l h (sym t ∙ t') (sym u ∙ u')) ∙ p.1.2 }
 
-  pub seek_end : {f l looks : ℕ} → Seeking ts hs x from to f l looks → l ≤ 0 → (none, looks) ≡ seek ts hs x from to
+  pub seek_end : {f l looks : ℕ} → Seeking ts hs x from to f l looks → l ≤ 0 → (None, looks) ≡ seek ts hs x from to
   seek_end {f} {l} {looks} s h = let z : l ≡ 0 = omega arith in sym (halve_none ts hs x s.most looks f) ∙ (rw z at s.goes_on)
 
--- of no records none is looked at
-pub seek_none : (ts hs : List ℕ) (x : ℕ × ℕ) (from to : ℕ) → to ≤ from → (none, 0) ≡ seek ts hs x from to
+-- of no records None is looked at
+pub seek_none : (ts hs : List ℕ) (x : ℕ × ℕ) (from to : ℕ) → to ≤ from → (None, 0) ≡ seek ts hs x from to
 unfolding seek
 seek_none ts hs x from to h = let z : to - from ≡ 0 = omega arith in rw z (sym (halve_none ts hs x 0 0 from))

@@ -3,49 +3,26 @@ use Prim.Native.Nat.{ℕ, ◌+◌, ◌≤◌, ◌<◌}
 use native.Mathlib.Omega.{arith}
 use native.Mathlib.Nat.{eq-or-lt_of_le}
 use mathlib.Core.Path.{◌≡◌, refl, sym, ◌∙◌}
-use mathlib.Core.Bool.{Bool, true, false}
 use mathlib.Core.Logic.{⊎_elim}
 use mathlib.Core.List.{List}
-use lib.ListN.{length, get_or, set}
-use Rattle.terms.proofs.ListLaws.{le_or_lt, clash}
+use Rattle.std.specs.Prelude.{Option, Some, None}
+use lib.ListN.{length, get_or}
+use Rattle.terms.proofs.ListLaws.{le_or_lt}
 use Rattle.star.specs.Arcs.{Arcs, At}
-use Rattle.star.proofs.Stores.{set_each}
-use Rattle.star.specs.Star.{Star, RisingTails, Comes, Cut}
+use Rattle.star.specs.Star.{Star, Cut}
 use Rattle.star.specs.Search.{Rising, Finds}
-use Rattle.star.specs.Found.{sought, ArcFound, here, missing}
+use Rattle.star.specs.Found.{ArcFound, here, missing}
 use Rattle.star.proofs.SearchLaws.{below_of}
-use Rattle.star.specs.declared.arcs.Arc.{Arc}
-use Rattle.star.specs.declared.arcs.Arc.TheVariants as arc
 
--- ---- the tails before index i are below v, and the cuts of the nodes below v are found
-pub record Cutting (ts : List ℕ) (i v : ℕ) (first : List ℕ) : Type 0 where
+-- ---- the tails before index i are below v
+pub record Before (ts : List ℕ) (i v : ℕ) : Type 0 where
   pub within : i ≤ length ts
-  pub before : (j : ℕ) → j < i → get_or ts j 0 < v
+  pub below : (j : ℕ) → j < i → get_or ts j 0 < v
+
+-- and the cuts of the nodes below v are found
+pub record Cutting (ts : List ℕ) (i v : ℕ) (first : List ℕ) : Type 0 where
+  pub before : Before ts i v
   pub cuts : (u : ℕ) → u < v → Cut ts u (get_or first u 0)
-
-module _ {ts : List ℕ} {i v : ℕ} where
-  pub came : {b : Bool} → Comes ts i v b → b ≡ true → (i < length ts) × (get_or ts i 0 < v)
-  came (Comes.comes h k) t = (h, k)
-  came (Comes.ends n) t = clash t refl
-
-  ended : {b : Bool} → Comes ts i v b → b ≡ false → i < length ts → v ≤ get_or ts i 0
-  ended (Comes.comes h k) t = clash refl t
-  ended (Comes.ends n) t = n
-
-  -- one tail more
-  pub cutting_on : {first : List ℕ} {b : Bool} → Comes ts i v b → b ≡ true → Cutting ts i v first → Cutting ts (i + 1) v first
-  cutting_on c t s =
-      let k = came c t in
-      record { within = omega (arith, k.0); before = λ j h. ⊎_elim (λ e. rw e k.1) (λ m. s.before j m) (eq-or-lt_of_le {n = j} {m = i} (omega arith)); cuts = s.cuts }
-
-  -- the tails below v end here
-  pub cutting_next : {first : List ℕ} {b : Bool} → RisingTails ts → v < length first → Comes ts i v b → b ≡ false → Cutting ts i v first → Cutting ts i (v + 1) (set first v i)
-  cutting_next {first} r h c t s = record {
-    within = s.within;
-    before = λ j m. omega (arith, s.before j m);
-    cuts = λ u m. set_each (λ u c. u < v + 1 → Cut ts u c) first v i h
-        (λ _. record { within = s.within; before = s.before; from = λ j lo hi. omega (arith, ended c t (omega arith), r.rising i j lo hi) }) (λ u n m. s.cuts u (omega arith)) u m;
-  }
 
 -- ---- with the cuts, arcs that rise by tail, then head, have their star
 pub star_of : {n : ℕ} {ts hs ws first : List ℕ} → Arcs n ts hs ws → ((i j : ℕ) → i < j → j < length ts → get_or ts i 0 ≡ get_or ts j 0 → get_or hs i 0 < get_or hs j 0) → length first ≡ n + 2
@@ -82,21 +59,21 @@ out_rising : {n : ℕ} {ts hs first : List ℕ} → Star n ts hs first → (v : 
 out_rising {hs = hs} star v node = record { rises = λ i j lo h hi. let l = star.rising i j h (omega (arith, star.within (v + 1) (omega arith))) (star.out_of v i node lo (omega arith) ∙ sym (star.out_of v j node (omega arith) hi)) in below_of (get_or hs i 0) (get_or hs i 0) (get_or hs j 0) (get_or hs j 0) (omega arith) (λ _. l) }
 
 -- so what the search gives there, by heads, is the arc
-pub arc_found : {hs first : List ℕ} {v y : ℕ} (r : Arc) → v + 1 < length first → get_or first (v + 1) 0 ≤ length hs → Finds hs hs (y, y) (get_or first v 0) (get_or first (v + 1) 0) (sought r) → ArcFound hs first v y r
-arc_found (arc.At i looks) v-in within f = let m = f.index_right i refl in here {i = i} (omega (arith, m.upto)) m.head_is (λ n ts star. arc_at star (omega (arith, star.long)) i m.from m.upto m.head_is)
-arc_found {v = v} (arc.Nothing looks) v-in within f =
+pub arc_found : {hs first : List ℕ} {v y : ℕ} (o : Option ℕ) {looks : ℕ} → v + 1 < length first → get_or first (v + 1) 0 ≤ length hs → Finds hs hs (y, y) (get_or first v 0) (get_or first (v + 1) 0) (o, looks) → ArcFound hs first v y o
+arc_found (Some i) v-in within f = let m = f.index_right i refl in here {i = i} (omega (arith, m.upto)) m.head_is (λ n ts star. arc_at star (omega (arith, star.long)) i m.from m.upto m.head_is)
+arc_found {v = v} None v-in within f =
     missing (λ n ts star i a. let node : v ≤ n = omega (arith, star.long) in let o = arc_among star node a in f.none_right (out_rising star v node) refl i (record { from = o.0; upto = o.1; tail_is = a.head_is; head_is = a.head_is }))
 
 -- ---- what was found
 module _ {hs first : List ℕ} {v y : ℕ} where
-  pub found_index : {i looks : ℕ} {r : Arc} → ArcFound hs first v y r → r ≡ arc.At i looks → (i < length hs) × (get_or hs i 0 ≡ y)
+  pub found_index : {i : ℕ} {o : Option ℕ} → ArcFound hs first v y o → o ≡ Some i → (i < length hs) × (get_or hs i 0 ≡ y)
   found_index {i = j} (here {i} h e a) t = let q : j ≡ i = cc in rw q (h, e)
   found_index (missing n) t = let z : ◌≡◌ {A = ℕ} 0 1 = cc in absurd (omega arith)
 
-  pub found_at : {i looks n : ℕ} {ts : List ℕ} {r : Arc} → ArcFound hs first v y r → r ≡ arc.At i looks → Star n ts hs first → At ts hs v y i
+  pub found_at : {i n : ℕ} {ts : List ℕ} {o : Option ℕ} → ArcFound hs first v y o → o ≡ Some i → Star n ts hs first → At ts hs v y i
   found_at {i = j} {n = n} {ts = ts} (here {i} h e a) t s = let q : j ≡ i = cc in rw q (a n ts s)
   found_at (missing n) t s = let z : ◌≡◌ {A = ℕ} 0 1 = cc in absurd (omega arith)
 
-  pub none_found : {looks n : ℕ} {ts : List ℕ} {r : Arc} → ArcFound hs first v y r → r ≡ arc.Nothing looks → Star n ts hs first → (i : ℕ) → At ts hs v y i → ⊥
+  pub none_found : {n : ℕ} {ts : List ℕ} {o : Option ℕ} → ArcFound hs first v y o → o ≡ None → Star n ts hs first → (i : ℕ) → At ts hs v y i → ⊥
   none_found (here h e a) t s = let z : ◌≡◌ {A = ℕ} 0 1 = cc in absurd (omega arith)
   none_found {n = n} {ts = ts} (missing none) t s = none n ts s

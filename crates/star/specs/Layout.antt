@@ -31,7 +31,15 @@ ins_of k m s = part (3 * m + k + 1) (length s) s
 unfoldable pub graph_of : List ℕ → List ℕ → Graph
 graph_of s ws = graph (tails_of (length ws) s) (heads_of (length ws) s) ws
 
--- the slices hold a graph, with the arcs out of and into each node
+-- the slices hold a graph of n nodes, with the arcs out of and into each node
+pub record Holds (n : ℕ) (s ws : List ℕ) : Type 0 where
+  pub long : length s ≡ 3 * length ws + (n + 1) + 1 + (n + 1)
+  pub arcs : Arcs n (tails_of (length ws) s) (heads_of (length ws) s) ws
+  pub star : Star n (tails_of (length ws) s) (heads_of (length ws) s) (outs_of (n + 1) (length ws) s)
+  pub chains : Chains (heads_of (length ws) s) (ins_of (n + 1) (length ws) s) (nexts_of (length ws) s)
+  pub ins_long : length (ins_of (n + 1) (length ws) s) ≡ n + 1
+
+-- the slices hold a graph whose nodes have the places below k
 pub record Network (k : ℕ) (s ws : List ℕ) : Type 0 where
   pub nodes : ℕ
   pub places : k ≡ nodes + 1

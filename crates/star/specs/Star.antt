@@ -1,6 +1,6 @@
 -- The arcs out of each node, for arcs that rise by tail, then head: where those of each node begin, and what the arrays hold,
 -- so that no index lies outside. Assumes nothing.
-use Rattle.std.specs.Prelude.{ℕ, ◌+◌, ◌≤◌, ◌<◌, ◌≡◌, Bool, true, false, List, length, get_or}
+use Rattle.std.specs.Prelude.{ℕ, ◌+◌, ◌≤◌, ◌<◌, ◌≡◌, List, length, get_or}
 
 -- the arcs out of v are at the indices from first[v] to below first[v + 1], in the order of their heads
 pub record Star (n : ℕ) (ts hs first : List ℕ) : Type 0 where
@@ -16,11 +16,6 @@ pub record Star (n : ℕ) (ts hs first : List ℕ) : Type 0 where
 pub record RisingTails (ts : List ℕ) : Type 0 where
   pub rising : (i j : ℕ) → i ≤ j → j < length ts → get_or ts i 0 ≤ get_or ts j 0
   pub few : length ts < 65536
-
--- the tail at index i is below v
-pub data Comes (ts : List ℕ) (i v : ℕ) : Bool → Type 0 where
-  comes : i < length ts → get_or ts i 0 < v → Comes ts i v true
-  ends : (i < length ts → v ≤ get_or ts i 0) → Comes ts i v false
 
 -- the tails below v are those before index c
 pub record Cut (ts : List ℕ) (v c : ℕ) : Type 0 where

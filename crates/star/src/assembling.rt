@@ -7,12 +7,9 @@ fn append(part: &[u16], star: &mut [u16], at: usize) -> usize
     ensures value { result ≡ at + length part.now }
     ensures star_after { take (at + length part.now) star.new ≡ take at star.old ++ part.now }
 {
-    let mut i = 0;
-    while i < part.len() {
-        star[at + i] = part[i];
-        i += 1;
-    }
-    at + i
+    let end = at + part.len();
+    star[at..end].copy_from_slice(part);
+    end
 }
 
 // Fills a star with its five parts, one behind the other.

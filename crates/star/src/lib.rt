@@ -7,9 +7,11 @@
 mod arcs;
 mod assembling;
 mod chains;
+mod graph;
 mod outs;
 
-pub use arcs::{Arc, arc_between, find_arc};
+pub use arcs::{Sought, arc_between, find_arc};
 pub use assembling::assemble;
 pub use chains::chain;
+pub use graph::Graph;
 pub use outs::out_starts;

@@ -19,12 +19,12 @@ invariant_of-network c =
     let known : Accepted c.args.image.now c.in-Network.sizes = let g = accepted _ (sym (ap checked c.in-Network.is) ∙ c.check-answer.ensures) in accepted_of g.0 g.1 in
     record { accepted = known }
 
-pub returns-in-At : goal.returns-in-At
-returns-in-At c =
+pub returns-in-Some : goal.returns-in-Some
+returns-in-Some c =
     let known : Accepted c.args.image.now c.in-Network.sizes = let g = accepted _ (sym (ap checked c.in-Network.is) ∙ c.check-answer.ensures) in accepted_of g.0 g.1 in
-    record { result_value = found_values _ _ _ known.passes c.seek_arc-arc.ensures c.in-At.is; finds_arc = finds_arc _ _ _ }
+    record { result_value = found_values _ _ _ known.passes c.seek_arc-sought.ensures c.in-Some.is; finds_arc = finds_arc _ _ _ }
 
-pub returns-in-Nothing : goal.returns-in-Nothing
-returns-in-Nothing c =
+pub returns-in-None : goal.returns-in-None
+returns-in-None c =
     let known : Accepted c.args.image.now c.in-Network.sizes = let g = accepted _ (sym (ap checked c.in-Network.is) ∙ c.check-answer.ensures) in accepted_of g.0 g.1 in
-    record { result_value = none_values _ _ _ known.passes c.seek_arc-arc.ensures c.in-Nothing.is; finds_arc = finds_arc _ _ _ }
+    record { result_value = none_values _ _ _ known.passes c.seek_arc-sought.ensures c.in-None.is; finds_arc = finds_arc _ _ _ }

@@ -9,16 +9,12 @@ use Rattle.branching.specs.Found.{Begun, Extent, FirstFound}
 use Rattle.exits.specs.Walks.{Consistent}
 use Rattle.branching.proofs.AllLaws.{start_begun, start_ahead, start_path, start_last}
 use Rattle.branching.proofs.BranchLaws.{beginning_start}
-use Rattle.exits.proofs.ExitLaws.{chosen_node, chosen_nothing}
 use Rattle.branching.proofs.FirstLaws.{branch_empty}
 use Rattle.branching.proofs.FlagLaws.{flags_none}
 use Rattle.branching.proofs.NetworkLaws.{network_small, network_consistent}
+use Rattle.star.proofs.NetworkLaws.{network_holds}
+use native.Mathlib.Omega.{arith}
 use Rattle.branching.proofs.all.shortest_in.Goals as goal
-
-pub least_exit-requires : goal.least_exit-requires
-least_exit-requires c =
-    rw (c.requires.least.1, length-set c.args.used.now c.args.start 1)
-    (record { network = (c.requires.network, c.requires.ends.start_place); small = network_small c.requires.network c.requires.least.1 c.requires.least.0; used_len = (refl, c.requires.idle.0.barred_long) })
 
 pub returns-in_default : goal.returns-in_default
 returns-in_default c =
@@ -29,7 +25,7 @@ returns-in_default c =
     let last_node : get_or path (1 - 1) 0 ≡ c.args.start = start_last c.args.path.now c.requires.idle.1 c.requires.idle.0 c.requires.ends in
     let beginning : Beginning (graph_of c.args.star.now c.args.weights.now) c.args.start c.args.goal (take 1 path) = rw laid (beginning_start c.requires.ends.apart) in
     let consistent : (q : List ℕ) → Consistent (graph_of c.args.star.now c.args.weights.now) c.args.goal c.args.overall.now q = network_consistent c.requires.network c.requires.least.1 c.requires.least.0 (λ x. refl) in
-    let none = chosen_nothing c.least_exit.ensures.chosen c.in_default.is in
+    let none = rw c.in_default.is at c.least_exit.ensures.chosen in
     record { extent = Extent.nothing; first_found = FirstFound.none (λ p i. branch_empty begun (flags_none c.requires.idle.0.none_barred) beginning (consistent _) (rw last_node none) p (rw laid i)) }
 
 pub along-requires : goal.along-requires
@@ -39,7 +35,7 @@ along-requires c =
     let begun : Begun (length c.args.used.now) used c.args.barred.now path 1 = start_begun c.args.path.now c.requires.idle.1 c.requires.idle.0 c.requires.ends in
     let last_node : get_or path (1 - 1) 0 ≡ c.args.start = start_last c.args.path.now c.requires.idle.1 c.requires.idle.0 c.requires.ends in
     let consistent : (q : List ℕ) → Consistent (graph_of c.args.star.now c.args.weights.now) c.args.goal c.args.overall.now q = network_consistent c.requires.network c.requires.least.1 c.requires.least.0 (λ x. refl) in
-    let choice = chosen_node c.least_exit.ensures.chosen c.in-Node.is in
+    let choice = c.in-Some.ensures.chosen in
     let ahead = start_ahead c.args.path.now c.requires.idle.1 c.requires.idle.0 c.requires.ends in
     rw (length-set c.args.used.now c.args.start 1) (record { network = c.requires.network; begun = begun; ahead = ahead; consistent = (consistent _, network_small c.requires.network c.requires.least.1 c.requires.least.0); choice = rw last_node choice })
 
@@ -49,3 +45,12 @@ returns c =
     let laid : take 1 path ≡ c.args.start ∷ [] = start_path c.args.path.now c.requires.idle.1 c.requires.idle.0 c.requires.ends in
     let beginning : Beginning (graph_of c.args.star.now c.args.weights.now) c.args.start c.args.goal (take 1 path) = rw laid (beginning_start c.requires.ends.apart) in
     record { extent = c.along.ensures.kept.reach; first_found = rw laid at (c.along.ensures.by_index c.args.start [] beginning (flags_none c.requires.idle.0.none_barred)) }
+
+pub invariant_of-graph : goal.invariant_of-graph
+invariant_of-graph c = record { holds = network_holds c.requires.network (omega (arith, c.requires.network.places, length-set c.args.used.now c.args.start 1)) }
+
+pub least_exit-requires-clause-node : goal.least_exit-requires-clause-node
+least_exit-requires-clause-node c = rw c.requires.least.1 c.requires.ends.start_place
+
+pub least_exit-requires-clause-small : goal.least_exit-requires-clause-small
+least_exit-requires-clause-small c = rw c.requires.least.1 (network_small c.requires.network c.requires.least.1 c.requires.least.0)

@@ -11,26 +11,13 @@ use Rattle.exits.specs.Flags.{Fresh}
 use Rattle.branching.specs.Found.{Begun, Extent, FirstFound}
 use Rattle.branching.specs.Laid.{Laid, Tried}
 use Rattle.star.specs.Layout.{Network}
-use Rattle.exits.proofs.ExitLaws.{usable_node, chosen_node, chosen_nothing}
 use Rattle.branching.proofs.FlagLaws.{unflagged}
 use Rattle.branching.proofs.FirstLaws.{branch_empty, branch_walked, branch_stepped, tried_kept}
 use Rattle.branching.proofs.LaidLaws.{laid_place, laid_kept, tried_again}
 use Rattle.branching.proofs.NetworkLaws.{network_small, network_exact}
 use Rattle.branching.proofs.WalkLaws.{Exact}
+use Rattle.star.proofs.NetworkLaws.{network_holds}
 use Rattle.branching.proofs.first.by_labels.Goals as goal
-
-pub least-requires : goal.least-requires
-least-requires c =
-    rw c.requires.labels_len (record { network = (c.requires.network, c.requires.begun.laid.flags_long); goal = record { place = c.requires.ahead.place; free = c.requires.ahead.unmet } })
-
-pub least_exit-requires : goal.least_exit-requires
-least_exit-requires c =
-    let network : Network (length c.args.used.now) c.args.star.now c.args.weights.now = c.requires.network in
-    let begun : Begun (length c.args.used.now) c.args.used.now c.args.barred.now c.args.path.now c.args.d = c.requires.begun in
-    let made_long : length c.least.new.labels ≡ length c.args.used.now = c.least.auto.labels ∙ c.requires.labels_len in
-    let made_least : Least (graph_of c.args.star.now c.args.weights.now) c.args.used.now c.args.goal c.least.new.labels = c.least.ensures in
-    let n = network in
-    rw made_long (record { network = (n, laid_place (c.args.d - 1) (omega (arith, begun.some)) begun.laid); small = network_small n made_long made_least; used_len = (refl, begun.barred_long) })
 
 pub returns-in_default : goal.returns-in_default
 returns-in_default c =
@@ -40,14 +27,14 @@ returns-in_default c =
     let made_least : Least (graph_of c.args.star.now c.args.weights.now) c.args.used.now c.args.goal c.least.new.labels = c.least.ensures in
     let made_exact : Exact (graph_of c.args.star.now c.args.weights.now) c.args.goal c.least.new.labels (take c.args.d c.args.path.now) = network_exact network made_long made_least begun.laid.flagged (unflagged begun.laid.flagged _ c.requires.ahead.unmet) in
     let n = network in
-    record { kept = record { flags = refl; kept = refl; reach = Extent.nothing }; by_index = λ s F B h. FirstFound.none (branch_empty begun h B made_exact.consistent (chosen_nothing c.least_exit.ensures.chosen c.in_default.is)) }
+    record { kept = record { flags = refl; kept = refl; reach = Extent.nothing }; by_index = λ s F B h. FirstFound.none (branch_empty begun h B made_exact.consistent (rw c.in_default.is at c.least_exit.ensures.chosen)) }
 
 pub attempt-end-requires : goal.attempt-end-requires
 attempt-end-requires c =
     let network : Network (length c.args.used.now) c.args.star.now c.args.weights.now = c.requires.network in
     let begun : Begun (length c.args.used.now) c.args.used.now c.args.barred.now c.args.path.now c.args.d = c.requires.begun in
     let made_long : length c.least.new.labels ≡ length c.args.used.now = c.least.auto.labels ∙ c.requires.labels_len in
-    let usable : Fresh (length c.args.used.now) c.args.used.now c.in-Node.y = rw made_long at (usable_node c.least_exit.ensures.usable c.in-Node.is) in
+    let usable : Fresh (length c.args.used.now) c.args.used.now c.in-Some.step.node = rw made_long at (c.in-Some.ensures.usable) in
     let n = network in
     rw made_long (record { network = n; laid = ((begun.laid, usable)) })
 
@@ -58,7 +45,7 @@ returns-then-end c =
     let made_long : length c.least.new.labels ≡ length c.args.used.now = c.least.auto.labels ∙ c.requires.labels_len in
     let made_least : Least (graph_of c.args.star.now c.args.weights.now) c.args.used.now c.args.goal c.least.new.labels = c.least.ensures in
     let made_exact : Exact (graph_of c.args.star.now c.args.weights.now) c.args.goal c.least.new.labels (take c.args.d c.args.path.now) = network_exact network made_long made_least begun.laid.flagged (unflagged begun.laid.flagged _ c.requires.ahead.unmet) in
-    let choice : Choice (graph_of c.args.star.now c.args.weights.now) c.least.new.labels (Unmarked c.args.used.now c.args.barred.now) (get_or c.args.path.now (c.args.d - 1) 0) c.in-Node.l c.in-Node.y = let n = network in chosen_node c.least_exit.ensures.chosen c.in-Node.is in
+    let choice : Choice (graph_of c.args.star.now c.args.weights.now) c.least.new.labels (Unmarked c.args.used.now c.args.barred.now) (get_or c.args.path.now (c.args.d - 1) 0) c.in-Some.step.rest c.in-Some.step.node = let n = network in c.in-Some.ensures.chosen in
     let walk_tried : Tried c.args.used.now c.args.path.now c.args.d c.attempt-end.new.used c.attempt-end.new.path c.attempt-end.result.len = c.attempt-end.ensures.tried in
     let n = network in
     record { kept = tried_kept walk_tried; by_index = λ s F B h. let r = branch_walked begun h B choice made_exact.consistent (c.attempt-end.ensures.arrives choice.exit.reached c.if-end.true) in FirstFound.found r.0 r.1 }
@@ -66,7 +53,7 @@ returns-then-end c =
 pub by_steps-len-requires : goal.by_steps-len-requires
 by_steps-len-requires c =
     let made_long : length c.least.new.labels ≡ length c.args.used.now = c.least.auto.labels ∙ c.requires.labels_len in
-    let usable : Fresh (length c.args.used.now) c.args.used.now c.in-Node.y = rw made_long at (usable_node c.least_exit.ensures.usable c.in-Node.is) in
+    let usable : Fresh (length c.args.used.now) c.args.used.now c.in-Some.step.node = rw made_long at (c.in-Some.ensures.usable) in
     let walk_tried : Tried c.args.used.now c.args.path.now c.args.d c.attempt-end.new.used c.attempt-end.new.path c.attempt-end.result.len = c.attempt-end.ensures.tried in
     let begun : Begun (length c.args.used.now) c.args.used.now c.args.barred.now c.args.path.now c.args.d = c.requires.begun in
     let walk_laid : Laid (length c.args.used.now) c.args.used.now c.attempt-end.new.path c.args.d = laid_kept walk_tried.kept c.attempt-end.auto.path begun.laid in
@@ -79,7 +66,7 @@ returns c =
     let made_long : length c.least.new.labels ≡ length c.args.used.now = c.least.auto.labels ∙ c.requires.labels_len in
     let made_least : Least (graph_of c.args.star.now c.args.weights.now) c.args.used.now c.args.goal c.least.new.labels = c.least.ensures in
     let made_exact : Exact (graph_of c.args.star.now c.args.weights.now) c.args.goal c.least.new.labels (take c.args.d c.args.path.now) = network_exact network made_long made_least begun.laid.flagged (unflagged begun.laid.flagged _ c.requires.ahead.unmet) in
-    let choice : Choice (graph_of c.args.star.now c.args.weights.now) c.least.new.labels (Unmarked c.args.used.now c.args.barred.now) (get_or c.args.path.now (c.args.d - 1) 0) c.in-Node.l c.in-Node.y = let n = network in chosen_node c.least_exit.ensures.chosen c.in-Node.is in
+    let choice : Choice (graph_of c.args.star.now c.args.weights.now) c.least.new.labels (Unmarked c.args.used.now c.args.barred.now) (get_or c.args.path.now (c.args.d - 1) 0) c.in-Some.step.rest c.in-Some.step.node = let n = network in c.in-Some.ensures.chosen in
     let walk_tried : Tried c.args.used.now c.args.path.now c.args.d c.attempt-end.new.used c.attempt-end.new.path c.attempt-end.result.len = c.attempt-end.ensures.tried in
     record {
       kept = tried_kept (tried_again walk_tried c.by_steps-len.ensures.tried);
@@ -87,3 +74,19 @@ returns c =
           let r = branch_stepped begun h B choice made_exact (λ p i. rw walk_tried.kept at (c.by_steps-len.ensures.by_index s p (rw walk_tried.kept i))) in
           FirstFound.found r.0 r.1;
     }
+
+pub invariant_of-graph : goal.invariant_of-graph
+invariant_of-graph c = record { holds = network_holds c.requires.network (omega (arith, c.requires.network.places)) }
+
+pub least-requires-clause-goal : goal.least-requires-clause-goal
+least-requires-clause-goal c = rw c.requires.labels_len (record { place = c.requires.ahead.place; free = c.requires.ahead.unmet })
+
+pub least_exit-requires-clause-node : goal.least_exit-requires-clause-node
+least_exit-requires-clause-node c =
+    let made_long : length c.least.new.labels ≡ length c.args.used.now = c.least.auto.labels ∙ c.requires.labels_len in
+    rw made_long (laid_place (c.args.d - 1) (omega (arith, c.requires.begun.some)) c.requires.begun.laid)
+
+pub least_exit-requires-clause-small : goal.least_exit-requires-clause-small
+least_exit-requires-clause-small c =
+    let made_long : length c.least.new.labels ≡ length c.args.used.now = c.least.auto.labels ∙ c.requires.labels_len in
+    rw made_long (network_small c.requires.network made_long c.least.ensures)

@@ -7,16 +7,12 @@ use lib.ListN.{length, length-set}
 use lib.Seq.{take-set-le}
 use Rattle.terms.proofs.ListLaws.{clash}
 use Rattle.exits.specs.Flags.{Fresh}
-use Rattle.exits.proofs.ExitLaws.{usable_node, stepped_node}
 use Rattle.branching.proofs.LaidLaws.{take_more, walking_start, walking_step, walking_end, laid_room, laid_more, laid_place}
+use Rattle.star.proofs.NetworkLaws.{network_holds}
 use Rattle.branching.proofs.walk.walk.Goals as goal
 
 pub loop-x-init : goal.loop-x-init
 loop-x-init c = (omega arith, refl, refl, c.requires.laid.0, laid_place (c.args.at - 1) (omega arith) c.requires.laid.0, λ r. (walking_start, r))
-
-pub tight_exit-requires : goal.tight_exit-requires
-tight_exit-requires c =
-    record { network = (c.requires.network, c.loop-x.invariant.4); used_len = c.loop-x.invariant.3.flags_long }
 
 pub returns-in_default : goal.returns-in_default
 returns-in_default c =
@@ -24,24 +20,24 @@ returns-in_default c =
 
 pub loop-x-smaller : goal.loop-x-smaller
 loop-x-smaller c =
-    let usable : Fresh (length c.args.labels.now) c.loop-x.used c.in-Node.y = usable_node c.tight_exit.ensures.usable c.in-Node.is in
+    let usable : Fresh (length c.args.labels.now) c.loop-x.used c.in-Some.y = c.in-Some.ensures.usable in
     let room : c.loop-x.len < length c.loop-x.path = laid_room c.loop-x.invariant.3 usable in
     simp length-set (omega (arith, room))
 
 pub loop-x-preserved : goal.loop-x-preserved
 loop-x-preserved c =
-    let usable : Fresh (length c.args.labels.now) c.loop-x.used c.in-Node.y = usable_node c.tight_exit.ensures.usable c.in-Node.is in
+    let usable : Fresh (length c.args.labels.now) c.loop-x.used c.in-Some.y = c.in-Some.ensures.usable in
     let room : c.loop-x.len < length c.loop-x.path = laid_room c.loop-x.invariant.3 usable in
     let u = usable in
-    let e = take_more c.loop-x.path c.loop-x.len c.in-Node.y room in (
+    let e = take_more c.loop-x.path c.loop-x.len c.in-Some.y room in (
       omega (arith, c.loop-x.invariant.0),
       simp length-set c.loop-x.invariant.1,
-      take-set-le _ _ _ c.in-Node.y c.loop-x.invariant.0 ∙ c.loop-x.invariant.2,
+      take-set-le _ _ _ c.in-Some.y c.loop-x.invariant.0 ∙ c.loop-x.invariant.2,
       laid_more c.loop-x.invariant.3 u,
       u.upto,
       λ r.
           let w = c.loop-x.invariant.5 r in
-          let t = stepped_node (c.tight_exit.ensures.stepped w.1) c.in-Node.is in
+          let t = c.in-Some.ensures.tight w.1 in
           (rw e (walking_step c.loop-x.invariant.3.flagged c.loop-x-test.true t w.0), t.exit.reached),
     )
 
@@ -51,6 +47,9 @@ returns c =
 
 pub bounds-path-len : goal.bounds-path-len
 bounds-path-len c =
-    let usable : Fresh (length c.args.labels.now) c.loop-x.used c.in-Node.y = usable_node c.tight_exit.ensures.usable c.in-Node.is in
+    let usable : Fresh (length c.args.labels.now) c.loop-x.used c.in-Some.y = c.in-Some.ensures.usable in
     let room : c.loop-x.len < length c.loop-x.path = laid_room c.loop-x.invariant.3 usable in
     room
+
+pub invariant_of-graph : goal.invariant_of-graph
+invariant_of-graph c = record { holds = network_holds c.requires.network (omega (arith, c.requires.network.places)) }

@@ -1,14 +1,15 @@
--- `stepping::tight_exit` lends the parts of the star that hold the heads, and where the arcs out of each node begin. Assumes nothing.
-use Rattle.star.specs.Layout.{heads_of, outs_of, graph_of}
-use Rattle.star.proofs.NetworkLaws.{network_heads, network_starts}
+-- `stepping::tight_exit` stops at the first arc that keeps to the label; heads rise, so that it goes to the smallest node. Assumes nothing.
+use native.Mathlib.Omega.{arith}
+use Rattle.star.specs.Layout.{graph_of}
+use Rattle.exits.proofs.ExitLaws.{first_tight}
 use Rattle.exits.proofs.stepping.tight_exit.Goals as goal
 
-pub tight_among-requires : goal.tight_among-requires
-unfolding heads_of outs_of
-tight_among-requires c =
-    record { heads = network_heads c.requires.network.0; starts = (network_starts c.requires.network.0, c.requires.network.1); used_len = c.requires.used_len }
-
-pub returns : goal.returns
-unfolding heads_of outs_of graph_of
-returns c =
-    record { usable = c.tight_among.ensures.usable; stepped = c.tight_among.ensures.by_index _ _ c.requires.network.0.arcs c.requires.network.0.star }
+pub returns-then-keeps-clause-tight : goal.returns-then-keeps-clause-tight
+unfolding graph_of
+returns-then-keeps-clause-tight c =
+    let g = c.args.graph.now in
+    let same = c.heads-heads.ensures.value in
+    let kept = rw same at (c.keeps.ensures.0 c.if-keeps.true) in
+    rw same (λ reached. first_tight g.holds.arcs g.holds.star (omega (arith, c.requires.node, c.requires.labels_long)) c.args.labels.now c.args.used.now c.loop-i.i
+    (omega (arith, c.outs-outs.ensures.start)) (omega (arith, c.outs-outs.ensures.end)) reached kept.unused kept.adds_up
+    (λ j lo hi unused adds_up. c.loop-i.invariant j lo hi (record { unused = unused; adds_up = adds_up })))

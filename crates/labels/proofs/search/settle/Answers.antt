@@ -1,61 +1,34 @@
 -- `search::settle` ends with no dirty node, and then the labels are exact. The loop: the dirty nodes stand in the ring, and the labels are right but for
 -- the arcs into them; with each node taken twice the sum of the labels and the number of dirty nodes fall. Assumes nothing.
-use mathlib.Core.Path.{◌≡◌, refl, sym, ap, ◌∙◌}
-use Prim.Native.Nat.{◌<◌}
+use Rattle.std.proofs.Common.{rules}
+use mathlib.Core.Path.{◌≡◌}
 use native.Mathlib.Omega.{arith}
-use lib.ListN.{length, length-set}
-use Rattle.labels.specs.declared.queue.Ends.{Ends}
-use Rattle.labels.specs.Search.{input}
+use lib.ListN.{length, replicate}
+use Rattle.star.specs.Layout.{graph_of}
+use Rattle.star.proofs.NetworkLaws.{graph_few}
+use Rattle.labels.specs.Labels.{far}
+use Rattle.labels.specs.Search.{input_of}
 use Rattle.labels.proofs.SumLaws.{sum_zero}
-use Rattle.labels.proofs.QueueLaws.{room_long, none_listed, taken_in}
+use Rattle.labels.proofs.QueueLaws.{none_listed}
 use Rattle.labels.proofs.SearchLaws.{state_start, state_taken}
 use Rattle.labels.proofs.LabelLaws.{exact}
 use Rattle.labels.proofs.search.settle.Goals as goal
 
-pub mark-ends-requires : goal.mark-ends-requires
-mark-ends-requires c =
-    record { listed = none_listed c.requires.room (omega (arith, c.requires.goal.place)) c.requires.arrays.few; v_in_bounds = (omega (arith, room_long c.requires.room, c.requires.goal.place), simp length-set (omega (arith, room_long c.requires.room, c.reset.auto))) }
+pub mark-ends-requires-clause-listed : goal.mark-ends-requires-clause-listed
+mark-ends-requires-clause-listed c = none_listed c.requires.room (omega (arith, c.requires.goal.place)) (omega (arith, graph_few c.args.graph.now, c.requires.labels_long))
 
 pub loop-ends-init : goal.loop-ends-init
-loop-ends-init c = (
-  simp length-set (omega (arith, c.mark-ends.auto, c.reset.auto, room_long c.requires.room)),
-  refl,
-  refl,
-  c.mark-ends.ensures.listed,
-  λ hs ch. rw (c.mark-ends.ensures.flag, c.requires.room.dirty_is, c.reset.ensures)
-      (state_start (input c.args.tails.now hs c.args.weights.now c.args.barred.now) c.args.goal (length c.args.labels.now) c.requires.goal.place (λ i b. omega (arith, ch.head_in i (omega (arith, ch.next_long, c.requires.arrays.next_long)), c.requires.arrays.first_long))),
-)
-
-pub take-h-requires : goal.take-h-requires
-take-h-requires c =
-    let same : length c.loop-ends.dirty ≡ length c.loop-ends.labels = c.loop-ends.invariant.0 ∙ sym c.loop-ends.invariant.2 in
-    let some : 0 < c.loop-ends.ends.count = omega (arith, c.loop-ends-test.true) in
-    record { listed = c.loop-ends.invariant.3; count_nonzero = (some, same) }
-
-pub behind_first-requires : goal.behind_first-requires
-behind_first-requires c =
-    let some : 0 < c.loop-ends.ends.count = omega (arith, c.loop-ends-test.true) in
-    (c.loop-ends.invariant.3.start, some)
-
-pub spread-ends-requires : goal.spread-ends-requires
-spread-ends-requires c =
-    let long : length c.loop-ends.labels ≡ length c.args.labels.now = c.loop-ends.invariant.2 ∙ simp length-set c.reset.auto.labels in
-    let same : length c.loop-ends.dirty ≡ length c.loop-ends.labels = c.loop-ends.invariant.0 ∙ sym c.loop-ends.invariant.2 in
-    record { arrays = rw long c.requires.arrays; h_in_bounds = (omega (arith, taken_in c.take-h.ensures, same), c.take-h.auto.dirty ∙ same); listed = rw c.behind_first.ensures c.take-h.ensures.listed }
-
-pub loop-ends-smaller : goal.loop-ends-smaller
-loop-ends-smaller c =
-    let some : 0 < c.loop-ends.ends.count = omega (arith, c.loop-ends-test.true) in
-    omega (arith, c.spread-ends.ensures.falls, ap (λ (e : Ends). e.count) c.behind_first.ensures, some)
+loop-ends-init c =
+    let g = c.args.graph.now in
+    let filled : c.fill.new.self ≡ replicate (length c.args.labels.now) far = search rules in (
+      c.mark-ends.ensures.listed,
+      rw (c.mark-ends.ensures.flag, c.requires.room.dirty_is, filled)
+          (state_start (input_of g c.args.barred.now) c.args.goal (length c.args.labels.now) c.requires.goal.place (λ i b. omega (arith, g.holds.arcs.head_to i b, c.requires.labels_long))),
+    )
 
 pub loop-ends-preserved : goal.loop-ends-preserved
-loop-ends-preserved c = (
-  c.spread-ends.auto.dirty ∙ c.take-h.auto.dirty ∙ c.loop-ends.invariant.0,
-  c.spread-ends.auto.ring ∙ c.take-h.auto.ring ∙ c.loop-ends.invariant.1,
-  c.spread-ends.auto.labels ∙ c.loop-ends.invariant.2,
-  c.spread-ends.ensures.listed,
-  λ hs ch. c.spread-ends.ensures.keeps hs _ ch (state_taken c.take-h.ensures (c.loop-ends.invariant.4 hs ch)),
-)
+loop-ends-preserved c = (c.spread-ends.ensures.listed, c.spread-ends.ensures.keeps _ (state_taken c.take-h.ensures c.loop-ends.invariant.1))
 
 pub returns : goal.returns
-returns c = λ n hs a ch. exact a c.requires.goal.free (c.loop-ends.invariant.4 hs ch) (sum_zero c.loop-ends.dirty (omega (arith, c.loop-ends.invariant.3.counted, c.loop-ends-test.false)))
+unfolding graph_of
+returns c = exact c.args.graph.now.holds.arcs c.requires.goal.free c.loop-ends.invariant.1 (sum_zero c.loop-ends.dirty (omega (arith, c.loop-ends.invariant.0.counted, c.loop-ends-test.false)))

@@ -1,5 +1,5 @@
 -- `selecting::drop_marked`: of the first i indices those that are kept stand at the front, and behind i nothing has changed. Assumes nothing.
-use Prim.Native.Nat.{ℕ, ◌-◌, ◌≤◌}
+use Prim.Native.Nat.{ℕ, ◌≤◌}
 use mathlib.Core.Path.{◌≡◌}
 use lib.ListN.{length, get_or, take}
 use Rattle.terms.specs.Lists.{keep}

@@ -1,5 +1,5 @@
 -- `selecting::number_left`: of the first i indices those that the map leaves stand at the front. Assumes nothing.
-use Prim.Native.Nat.{◌-◌, ◌≤◌}
+use Prim.Native.Nat.{◌≤◌}
 use mathlib.Core.Path.{◌≡◌}
 use lib.ListN.{length, take}
 use Rattle.terms.specs.Lists.{keep, numbers}

@@ -1,5 +1,5 @@
 -- `selecting::select_common`: of the indices that the map leaves, those of the arcs that are open in the columns 1 to u. Assumes nothing.
-use Prim.Native.Nat.{◌-◌, ◌≤◌}
+use Prim.Native.Nat.{◌≤◌}
 use mathlib.Core.Path.{◌≡◌}
 use lib.ListN.{length, take}
 use Rattle.terms.specs.Lists.{keep}

@@ -9,4 +9,4 @@ returns-in_default c =
     absurd (none_found c.arc_between-found.ensures c.in_default.is S a.0 a.1)
 
 pub returns : goal.returns
-returns c = λ n ts ws A S l. found_at c.arc_between-found.ensures c.in-At.is S
+returns c = λ n ts ws A S l. found_at c.arc_between-found.ensures c.in-Some.is S

@@ -23,8 +23,8 @@ search-preserved c =
     let e : c.search.at + 1 - 1 ≡ c.search.at = omega arith in (
       omega arith,
       omega arith,
-      rw e (let k = found_index c.arc_between-found.ensures c.in-At.is in omega (arith, c.requires.heads_in _ k.0, k.1)),
-      λ n ts S. below_more _ c.search.at (c.search.invariant.3 n ts S) (λ _. record { arc = (_, found_at c.arc_between-found.ensures c.in-At.is S); new = λ j h. c.loop-i.invariant.1 j (omega arith) }),
+      rw e (let k = found_index c.arc_between-found.ensures c.in-Some.is in omega (arith, c.requires.heads_in _ k.0, k.1)),
+      λ n ts S. below_more _ c.search.at (c.search.invariant.3 n ts S) (λ _. record { arc = (_, found_at c.arc_between-found.ensures c.in-Some.is S); new = λ j h. c.loop-i.invariant.1 j (omega arith) }),
     )
 
 pub returns-after-search : goal.returns-after-search

@@ -1,12 +1,8 @@
 -- `raise::lift_all` lifts label after label. The loop: those of the first i nodes may be greater, and no others. Assumes nothing.
-use Prim.Native.Nat.{◌-◌, ◌≤◌}
 use lib.ListN.{length}
 use Rattle.exits.specs.Small.{Small}
 use Rattle.sharpening.specs.Sharp.{Lifted}
 use Rattle.sharpening.proofs.raise.lift_all.Given as goal
 
 abbrev pub invariant-loop-i : goal.invariant-loop-i
-invariant-loop-i l = (l.i ≤ l.taken) × Small (length l.keys) l.labels × Lifted l.goal l.nodes l.i l.initial.labels l.labels
-
-abbrev pub decreases-loop-i : goal.decreases-loop-i
-decreases-loop-i l = l.taken - l.i
+invariant-loop-i l = Small (length l.keys) l.labels × Lifted l.goal l.nodes l.i l.initial.labels l.labels

@@ -1,17 +1,14 @@
 -- `raise::mend_all` mends label after label, from the last to the first. The loop: those of the first i nodes are still to be mended. Assumes nothing.
-use Prim.Native.Nat.{ℕ, ◌≤◌}
+use Prim.Native.Nat.{ℕ}
 use mathlib.Core.Path.{◌≡◌}
 use mathlib.Core.List.{List}
 use lib.ListN.{length, get_or}
-use Rattle.star.specs.Layout.{graph_of}
+use Rattle.star.specs.Graphs.{arcs_of}
 use Rattle.exits.specs.Small.{Small}
 use Rattle.sharpening.specs.Sharp.{Lifted}
 use Rattle.sharpening.proofs.SharpLaws.{Mending}
 use Rattle.sharpening.proofs.raise.mend_all.Given as goal
 
 abbrev pub invariant-loop-i : goal.invariant-loop-i
-invariant-loop-i l = (l.i ≤ l.taken) × Small (length l.used) l.labels
-    × ((os : List ℕ) → get_or os l.goal 0 ≡ 0 → Lifted l.goal l.nodes l.taken os l.initial.labels → Mending (graph_of l.star l.weights) l.goal l.used l.nodes l.i os l.labels)
-
-abbrev pub decreases-loop-i : goal.decreases-loop-i
-decreases-loop-i l = l.i
+invariant-loop-i l = Small (length l.used) l.labels
+    × ((os : List ℕ) → get_or os l.goal 0 ≡ 0 → Lifted l.goal l.nodes l.taken os l.initial.labels → Mending (arcs_of l.graph) l.goal l.used l.nodes l.i os l.labels)

@@ -10,4 +10,4 @@ find_arc-requires c =
     (omega arith, omega arith, omega arith)
 
 pub returns : goal.returns
-returns c = arc_found c.find_arc.result c.requires.0 c.requires.1 c.find_arc.ensures.finds
+returns c = arc_found c.find_arc.result.arc c.requires.0 c.requires.1 c.find_arc.ensures.finds
