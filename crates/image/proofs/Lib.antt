@@ -1,4 +1,5 @@
 pub mod OutcomeLaws
+pub mod AnswerLaws
 pub mod ByteLaws
 pub mod SliceLaws
 pub mod RowLaws

@@ -1,9 +1,7 @@
 -- docs/REFERENCE.md, section 6: the number and the place of each refusal. Assumes nothing.
-use Rattle.std.specs.Prelude.{ℕ}
+use Rattle.std.specs.Prelude.{ℕ, Result, Ok, Err}
 use Rattle.image.specs.declared.refusal.Refusal.{Refusal}
 use Rattle.image.specs.declared.refusal.Refusal.TheVariants.{ImageTooShort, WrongEdition, SizeOutOfRange, WrongField, WrongLength, ArcOutOfRange, ArcToItself, ArcNotRising, CostTooLarge, WrongEnds, WrongColumn, WrongPathCount, SliceTooShort, NotAPath, NoPath, WrongRecordArc, WrongRecordColumn, TooManyArcs, WrongEventArc}
-use Rattle.image.specs.declared.refusal.Verdict.{Verdict}
-use Rattle.image.specs.declared.refusal.Verdict.TheVariants.{Sound, Refused}
 use Rattle.image.specs.Outcome.{Fault, sound, fault}
 
 -- the number of a refusal; no refusal has 16
@@ -50,7 +48,7 @@ place_of (WrongRecordColumn index) = index
 place_of (TooManyArcs limit) = limit
 place_of (WrongEventArc arc) = arc
 
--- what some rows come to
-abbrev pub verdict : Verdict → Fault
-verdict Sound = sound
-verdict (Refused r) = fault (number_of r) (place_of r)
+-- what some rows come to: none applies, or the first that does
+abbrev pub verdict : Result (Unit {0}) Refusal → Fault
+verdict (Ok u) = sound
+verdict (Err r) = fault (number_of r) (place_of r)

@@ -10,8 +10,8 @@ mod refusal;
 mod rows;
 
 pub use bytes::{read16, read32, write16, write32};
-pub use check::{Checked, Sizes};
+pub use check::Sizes;
 pub use layout::{cost_count, costs_start, image_length};
 pub use reading::read_costs;
-pub use refusal::{Refusal, Verdict, number, place};
+pub use refusal::Refusal;
 pub use rows::{CLOSED, check_arc, in_range, is_cost, is_node, is_taken};

@@ -2,92 +2,71 @@
 ghost use Rattle.std.specs.Prelude.{◌≡◌, ◌&&◌, leb};
 ghost use Rattle.image.specs.Rows.{in_range, is_node, is_cost, arc_fault};
 ghost use Rattle.image.specs.Refusals.{verdict};
+ghost use Rattle.terms.specs.Network.{below};
 
-use super::refusal::{Refusal, Verdict};
+use super::refusal::Refusal;
 
 // Whether a call that takes the editions from 1 to `latest` takes this one: row 2.
 pub fn is_taken(latest: u32, edition: u32) -> bool
     ensures { result ≡ (leb 1 edition && leb edition latest) }
 {
-    if edition < 1 {
-        return false;
-    }
-    edition <= latest
+    1 <= edition && edition <= latest
 }
 
 // Whether n, m and k are in their ranges: row 3.
+#[tactic(auto, unfolding(crate::specs::Rows::in_range))]
 pub fn in_range(n: u32, m: u32, k: u32) -> bool
     ensures { result ≡ in_range n m k }
 {
-    if n < 2 {
-        return false;
-    }
-    if 200 < n {
-        return false;
-    }
-    if 1000 < m {
-        return false;
-    }
-    if k < 1 {
-        return false;
-    }
-    k <= 8
+    (2..=200).contains(&n) && m <= 1000 && (1..=8).contains(&k)
 }
 
 // Whether v is one of the nodes 1 to n.
+#[tactic(auto, unfolding(crate::specs::Rows::is_node))]
 pub fn is_node(n: u32, v: u32) -> bool
     ensures { result ≡ is_node n v }
 {
-    if v < 1 {
-        return false;
-    }
-    v <= n
+    (1..=n).contains(&v)
 }
 
-// Rows 6, 7 and 8 for the arc at an index, which stands after the arc last_tail→last_head.
-pub fn check_arc(
-    n: u32,
-    last_tail: u32,
-    last_head: u32,
-    index: u32,
-    tail: u32,
-    head: u32,
-) -> Verdict
-    ensures { verdict result ≡ arc_fault n (last_tail, last_head) index (tail, head) }
+// Whether tail and head are nodes.
+fn joins_nodes(n: u32, arc: (u32, u32)) -> bool
+    ensures { result ≡ (is_node n arc.0 && is_node n arc.1) }
 {
-    if !is_node(n, tail) {
-        return Verdict::Refused(Refusal::ArcOutOfRange(index));
+    is_node(n, arc.0) && is_node(n, arc.1)
+}
+
+// Whether an arc stands after the arc `last`: by its tail, and with the same tail by its head.
+#[tactic(auto, unfolding(terms::specs::Network::below))]
+fn is_after(last: (u32, u32), arc: (u32, u32)) -> bool
+    ensures { result ≡ below last arc }
+{
+    last < arc
+}
+
+// Rows 6, 7 and 8 for the arc at an index, its tail and its head, which stands after the arc `last`.
+pub fn check_arc(n: u32, last: (u32, u32), index: u32, arc: (u32, u32)) -> Result<(), Refusal>
+    ensures { verdict result ≡ arc_fault n last index arc }
+{
+    if !joins_nodes(n, arc) {
+        return Err(Refusal::ArcOutOfRange(index));
     }
-    if !is_node(n, head) {
-        return Verdict::Refused(Refusal::ArcOutOfRange(index));
+    if arc.0 == arc.1 {
+        return Err(Refusal::ArcToItself(index));
     }
-    if tail == head {
-        return Verdict::Refused(Refusal::ArcToItself(index));
+    if !is_after(last, arc) {
+        return Err(Refusal::ArcNotRising(index));
     }
-    if last_tail < tail {
-        return Verdict::Sound;
-    }
-    if tail < last_tail {
-        return Verdict::Refused(Refusal::ArcNotRising(index));
-    }
-    if head <= last_head {
-        return Verdict::Refused(Refusal::ArcNotRising(index));
-    }
-    Verdict::Sound
+    Ok(())
 }
 
 // In the place of a cost: the arc is closed in that column.
 pub const CLOSED: u32 = 4294967295;
 
 // Whether a number may stand as a cost in an image of this edition: row 9.
+#[tactic(auto, unfolding(crate::specs::Rows::is_cost))]
 pub fn is_cost(edition: u32, cost: u32) -> bool
     ensures { result ≡ is_cost edition cost }
 {
-    if cost <= 1000000 {
-        return true;
-    }
-    if edition != 2 {
-        return false;
-    }
-    cost == CLOSED
+    cost <= 1000000 || (edition == 2 && cost == CLOSED)
 }

@@ -5,91 +5,74 @@ ghost use Rattle.image.specs.Outcome.{sound, after};
 ghost use Rattle.image.specs.Rows.{pairs, arcs_fault, costs_fault};
 ghost use Rattle.image.specs.Layout.{header, image_of};
 ghost use Rattle.image.specs.Refusals.{verdict};
+ghost use Rattle.image.specs.Answers.{answer, one_number};
 ghost use Rattle.packing.specs.Calls.{build_fault, build_outcome};
-ghost use Rattle.packing.specs.Answers.{built};
 ghost use Rattle.packing.specs.RoundTrip.{ReadsBack};
 
 use image::{
-    Refusal, Verdict, check_arc, cost_count, costs_start, image_length, in_range, is_cost,
-    is_taken, write16, write32,
+    Refusal, check_arc, cost_count, costs_start, image_length, in_range, is_cost, is_taken,
+    write16, write32,
 };
 
-// Build's answer.
-#[derive(Clone, Copy)]
-pub enum Built {
-    Image(u32),
-    Refused(Refusal),
-}
-
 // Rows 6 to 8, over a list of 2m node numbers.
-fn check_arc_list(nodes: &[u16], n: u32, m: usize) -> Verdict
+fn check_arc_list(nodes: &[u16], n: u32, m: usize) -> Result<(), Refusal>
     requires { (2 * m ≤ length nodes.now) × (m ≤ 1000) }
     ensures { verdict result ≡ arcs_fault n (0, 0) 0 (pairs m nodes.now) }
 {
-    let mut last_tail = 0;
-    let mut last_head = 0;
+    let mut last = (0, 0);
     let mut i: usize = 0;
     while i < m {
         let tail = nodes[2 * i] as u32;
         let head = nodes[2 * i + 1] as u32;
-        let verdict = check_arc(n, last_tail, last_head, i as u32, tail, head);
-        let Verdict::Sound = verdict else {
-            return verdict;
-        };
-        last_tail = tail;
-        last_head = head;
+        check_arc(n, last, i as u32, (tail, head))?;
+        last = (tail, head);
         i += 1;
     }
-    Verdict::Sound
+    Ok(())
 }
 
 // Row 9, over a list of costs for an image of this edition.
-fn check_cost_list(costs: &[u32], edition: u32) -> Verdict
+fn check_cost_list(costs: &[u32], edition: u32) -> Result<(), Refusal>
     requires { length costs.now ≤ 8000 }
     ensures { verdict result ≡ costs_fault edition 0 costs.now }
 {
     let mut i: usize = 0;
     while i < costs.len() {
         if !is_cost(edition, costs[i]) {
-            return Verdict::Refused(Refusal::CostTooLarge(i as u32));
+            return Err(Refusal::CostTooLarge(i as u32));
         }
         i += 1;
     }
-    Verdict::Sound
+    Ok(())
 }
 
 // Rows 2, 3, 4, 6 to 9 and 13 for an image slice of `room` bytes.
-fn check_lists(edition: u32, n: u32, k: u32, nodes: &[u16], costs: &[u32], room: usize) -> Verdict
+fn check_lists(
+    edition: u32,
+    n: u32,
+    k: u32,
+    nodes: &[u16],
+    costs: &[u32],
+    room: usize,
+) -> Result<(), Refusal>
     ensures { verdict result ≡ build_fault edition n k nodes.now costs.now room }
 {
     if !is_taken(2, edition) {
-        return Verdict::Refused(Refusal::WrongEdition);
+        return Err(Refusal::WrongEdition);
     }
     let m = nodes.len() / 2;
-    if 1000 < m {
-        return Verdict::Refused(Refusal::SizeOutOfRange);
+    if 1000 < m || !in_range(n, m as u32, k) {
+        return Err(Refusal::SizeOutOfRange);
     }
-    if !in_range(n, m as u32, k) {
-        return Verdict::Refused(Refusal::SizeOutOfRange);
+    if nodes.len() % 2 != 0 || costs.len() != cost_count(m as u32, k) as usize {
+        return Err(Refusal::WrongField);
     }
-    if nodes.len() % 2 != 0 {
-        return Verdict::Refused(Refusal::WrongField);
-    }
-    if costs.len() != cost_count(m as u32, k) as usize {
-        return Verdict::Refused(Refusal::WrongField);
-    }
-    let arcs = check_arc_list(nodes, n, m);
-    let Verdict::Sound = arcs else {
-        return arcs;
-    };
-    let prices = check_cost_list(costs, edition);
-    let Verdict::Sound = prices else {
-        return prices;
-    };
+    check_arc_list(nodes, n, m)?;
+    check_cost_list(costs, edition)?;
     if room < image_length(m as u32, k) as usize {
-        return Verdict::Refused(Refusal::SliceTooShort);
+        return Err(Refusal::SliceTooShort);
     }
-    Verdict::Sound
+    Ok(())
 }
 
 // The header of 24 bytes.
@@ -132,18 +115,22 @@ fn write_costs(image: &mut [u8], start: usize, costs: &[u32])
 }
 
 // REFERENCE, section 4.7.
-pub fn build(edition: u32, n: u32, k: u32, nodes: &[u16], costs: &[u32], image: &mut [u8]) -> Built
-    ensures result_value { built result ≡ build_outcome edition n k nodes.now costs.now (length image.old) }
+pub fn build(
+    edition: u32,
+    n: u32,
+    k: u32,
+    nodes: &[u16],
+    costs: &[u32],
+    image: &mut [u8],
+) -> Result<u32, Refusal>
+    ensures result_value { answer one_number result ≡ build_outcome edition n k nodes.now costs.now (length image.old) }
     ensures image_after { image.new ≡ after (build_fault edition n k nodes.now costs.now (length image.old)) (image_of edition n k nodes.now costs.now) image.old }
     ensures reads_back { build_fault edition n k nodes.now costs.now (length image.old) ≡ sound → ReadsBack edition n k nodes.now costs.now }
 {
-    let lists = check_lists(edition, n, k, nodes, costs, image.len());
-    if let Verdict::Refused(refusal) = lists {
-        return Built::Refused(refusal);
-    }
+    check_lists(edition, n, k, nodes, costs, image.len())?;
     let m = (nodes.len() / 2) as u32;
     write_header(image, edition, n, m, k);
     write_nodes(image, 24, nodes);
     write_costs(image, costs_start(m) as usize, costs);
-    Built::Image(image_length(m, k))
+    Ok(image_length(m, k))
 }

@@ -4,6 +4,3 @@
 
 pub mod build;
 pub mod unpack;
-
-pub use build::Built;
-pub use unpack::Unpacked;

@@ -3,19 +3,12 @@ ghost use Rattle.std.specs.Prelude.{◌≡◌, ◌++◌, ◌*◌, ◌≤◌, len
 ghost use Rattle.image.specs.Bytes.{decode};
 ghost use Rattle.image.specs.Outcome.{sound, after};
 ghost use Rattle.image.specs.Layout.{node_list, cost_list};
+ghost use Rattle.image.specs.Answers.{answer, size_list};
 ghost use Rattle.packing.specs.Calls.{unpack_fault, unpack_outcome};
-ghost use Rattle.packing.specs.Answers.{unpacked};
 ghost use Rattle.packing.specs.RoundTrip.{WritesAgain};
 
 use image::check::check;
-use image::{Checked, Refusal, Sizes, cost_count, costs_start, read_costs, read16};
-
-// Unpack's answer.
-#[derive(Clone, Copy)]
-pub enum Unpacked {
-    Lists(Sizes),
-    Refused(Refusal),
-}
+use image::{Refusal, Sizes, cost_count, costs_start, read_costs, read16};
 
 // The first `count` numbers of two bytes each.
 fn read_nodes(source: &[u8], count: usize, nodes: &mut [u16])
@@ -30,28 +23,22 @@ fn read_nodes(source: &[u8], count: usize, nodes: &mut [u16])
 }
 
 // REFERENCE, section 4.8.
-pub fn unpack(image: &[u8], nodes: &mut [u16], costs: &mut [u32]) -> Unpacked
-    ensures result_value { unpacked result ≡ unpack_outcome image.now (length nodes.old) (length costs.old) }
+pub fn unpack(image: &[u8], nodes: &mut [u16], costs: &mut [u32]) -> Result<Sizes, Refusal>
+    ensures result_value { answer size_list result ≡ unpack_outcome image.now (length nodes.old) (length costs.old) }
     ensures nodes_after { nodes.new ≡ after (unpack_fault image.now (length nodes.old) (length costs.old)) (node_list image.now) nodes.old }
     ensures costs_after { costs.new ≡ after (unpack_fault image.now (length nodes.old) (length costs.old)) (cost_list image.now) costs.old }
     ensures writes_again { unpack_fault image.now (length nodes.old) (length costs.old) ≡ sound → WritesAgain image.now }
 {
-    let answer = check(image);
-    let Checked::Network(sizes) = answer else {
-        return Unpacked::Refused(answer.refusal());
-    };
+    let sizes = check(image)?;
     let m = sizes.m;
     let k = sizes.k;
     let nodes_needed = 2 * (m as usize);
     let costs_needed = cost_count(m, k) as usize;
-    if nodes.len() < nodes_needed {
-        return Unpacked::Refused(Refusal::SliceTooShort);
-    }
-    if costs.len() < costs_needed {
-        return Unpacked::Refused(Refusal::SliceTooShort);
+    if nodes.len() < nodes_needed || costs.len() < costs_needed {
+        return Err(Refusal::SliceTooShort);
     }
     read_nodes(&image[24..], nodes_needed, nodes);
     let start = costs_start(m) as usize;
     read_costs(&image[start..], costs_needed, costs);
-    Unpacked::Lists(sizes)
+    Ok(sizes)
 }
