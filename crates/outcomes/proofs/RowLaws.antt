@@ -2,37 +2,29 @@
 -- ---- rows
 use Prim.Native.Nat.{ℕ, ◌≤◌, ◌<◌}
 use native.Mathlib.Omega.{arith}
-use mathlib.Core.Path.{◌≡◌, sym, ◌∙◌}
-use mathlib.Core.Bool.{true, false, not, ◌&&◌}
+use mathlib.Core.Path.{◌≡◌, ◌∙◌, ap}
+use mathlib.Core.Bool.{Bool, true, false, not, ◌&&◌, ◌||◌}
 use mathlib.Core.List.{List}
 use mathlib.Core.Option.{none, some}
 use lib.Dec.{leb, eqb}
 use lib.ListN.{length}
-use borrow.Author.Tests.{lt-ltb, le-ltb, lt-leb, le-leb, eq-eqb, ne_eqb, leb-true, ltb-false, eqb-false, not-false}
+use borrow.Author.Tests.{lt-ltb, le-ltb, leb-true, ltb-false, eqb-false, not-false}
 use Rattle.terms.specs.Network.{Net}
 use Rattle.terms.proofs.ListLaws.{and_both, or_false}
-use Rattle.image.specs.Outcome.{Fault, sound, fault, row, ◌then◌, Outcome, gives, refuses, outcome}
+use Rattle.image.specs.Outcome.{Fault, sound, fault, row, ◌then◌, gives, outcome}
 use Rattle.image.specs.Rows.{is_node}
 use Rattle.image.specs.Layout.{net_of}
 use Rattle.image.specs.Calls.{image_fault, sizes, check_outcome}
 use Rattle.image.specs.Answers.{size_list}
 use Rattle.image.specs.declared.check.Sizes.{Sizes}
-use Rattle.image.proofs.OutcomeLaws.{outcome_fault, then_fault, then_next, then_sound, row_sound, gives_sound}
-use Rattle.image.proofs.CheckLaws.{sized, same_sizes, rejected}
+use Rattle.image.proofs.OutcomeLaws.{then_next, then_sound, row_sound, gives_sound}
+use Rattle.image.proofs.CheckLaws.{sized, same_sizes}
 use Rattle.loading.proofs.PartLaws.{length_arcs}
 use Rattle.loading.proofs.DecodeLaws.{accepted_of, admitted}
 use Rattle.image.proofs.NetworkLaws.{length_columns}
 use Rattle.outcomes.specs.Calls.{ends_row, goal_row, column_row, room_row, list_row, count_row, workspace, search_rows, ranking_rows, label_fault}
 use Rattle.loading.specs.Accepted.{Accepted, Node, InColumn, Ends}
 use Rattle.terms.specs.Regret.{open_fault}
-
--- Check's refusal is the call's
-pub refused_first : (b : List ℕ) {o : Outcome} {number place : ℕ} (g : Fault) (values : List ℕ) → o ≡ refuses number place → o ≡ check_outcome b → o ≡ outcome (image_fault b then g) values
-refused_first b g values e f = e ∙ sym (outcome_fault values (then_fault g (rejected b (sym e ∙ f))))
-
--- a refusal is no result
-pub never : {A : Type 0} {n p : ℕ} {l : List ℕ} → refuses n p ≡ gives l → A
-never e = let z : ◌≡◌ {A = ℕ} 0 1 = cc in absurd (omega arith)
 
 -- ---- what an answer that gives sizes says: the rows so far are sound, the image is accepted, and these are its sizes
 pub given_sizes : {b : List ℕ} (f : Fault) {z : Sizes} → (f ≡ sound → image_fault b ≡ sound) → gives (size_list z) ≡ outcome f (sizes b) → (f ≡ sound) × Accepted b z
@@ -61,23 +53,21 @@ pub node_true : {n v : ℕ} → is_node n v ≡ true → Node n v
 unfolding is_node
 node_true {n} {v} e = let f = and_both (leb 1 v) (leb v n) e in record { from = leb-true _ _ f.0; upto = leb-true _ _ f.1 }
 
+-- a test that is refused where it fails
+not_both : (p q : Bool) {v : Bool} → (p && not q) ≡ v → (not p || q) ≡ not v
+not_both true true e = ap not e
+not_both true false e = ap not e
+not_both false q e = ap not e
+
 -- ---- row 10, for a start and a goal
 module _ {b : List ℕ} {z : Sizes} (a : Accepted b z) (s t : ℕ) where
-  pub wrong_start : is_node z.n s ≡ false → (image_fault b then ends_row (net_of b) s t) ≡ fault 10 0
+  pub wrong_ends : (is_node z.n s && is_node z.n t && not (eqb s t)) ≡ false → (image_fault b then ends_row (net_of b) s t) ≡ fault 10 0
   unfolding ends_row row
-  wrong_start e = rw (then_next _ a.passes, ← a.nodes_are, e)
+  wrong_ends e = rw (then_next _ a.passes, ← a.nodes_are, not_both _ (eqb s t) e)
 
-  pub wrong_goal : is_node z.n s ≡ true → is_node z.n t ≡ false → (image_fault b then ends_row (net_of b) s t) ≡ fault 10 0
+  pub right_ends : (is_node z.n s && is_node z.n t && not (eqb s t)) ≡ true → (image_fault b then ends_row (net_of b) s t) ≡ sound
   unfolding ends_row row
-  wrong_goal e f = rw (then_next _ a.passes, ← a.nodes_are, e, f)
-
-  pub same_ends : is_node z.n s ≡ true → is_node z.n t ≡ true → s ≡ t → (image_fault b then ends_row (net_of b) s t) ≡ fault 10 0
-  unfolding ends_row row
-  same_ends e f h = rw (then_next _ a.passes, ← a.nodes_are, e, f, eq-eqb s t h)
-
-  pub right_ends : is_node z.n s ≡ true → is_node z.n t ≡ true → (s ≡ t → ⊥) → (image_fault b then ends_row (net_of b) s t) ≡ sound
-  unfolding ends_row row
-  right_ends e f h = rw (then_next _ a.passes, ← a.nodes_are, e, f, ne_eqb s t h)
+  right_ends e = rw (then_next _ a.passes, ← a.nodes_are, not_both _ (eqb s t) e)
 
 -- and back: both ends are nodes, and differ
 pub ends_sound : (net : Net) (s t : ℕ) → ends_row net s t ≡ sound → Ends net.nodes s t
@@ -97,17 +87,16 @@ module _ {b : List ℕ} {z : Sizes} (a : Accepted b z) (u : ℕ) where
   unfolding column_row row
   right_column h = rw (← a.columns_are, h)
 
-pub too_few : (K : ℕ) → K < 1 → count_row K ≡ fault 12 0
+pub wrong_count : (K : ℕ) → (leb 1 K && leb K 256) ≡ false → count_row K ≡ fault 12 0
 unfolding count_row row
-too_few K h = rw (lt-leb 1 K h)
+wrong_count K e = rw e
 
-pub too_many : (K : ℕ) → 256 < K → count_row K ≡ fault 12 0
+pub right_count : (K : ℕ) → (leb 1 K && leb K 256) ≡ true → count_row K ≡ sound
 unfolding count_row row
-too_many K h = rw (le-leb 1 K (omega arith), lt-leb K 256 h)
+right_count K e = rw e
 
-pub right_count : (K : ℕ) → 1 ≤ K → K ≤ 256 → count_row K ≡ sound
-unfolding count_row row
-right_count K h g = rw (le-leb 1 K h, le-leb K 256 g)
+pub count_to : {K : ℕ} → (leb 1 K && leb K 256) ≡ true → K ≤ 256
+count_to {K} e = leb-true _ _ (and_both (leb 1 K) (leb K 256) e).1
 
 pub counted : (K : ℕ) → count_row K ≡ sound → (1 ≤ K) × (K ≤ 256)
 unfolding count_row

@@ -1,60 +1,61 @@
 // Rows of the refusal table that calls share. A call's rows come to the image's sizes, or to the
 // first refusal that applies.
-ghost use Rattle.std.specs.Prelude.{◌≡◌, ◌&&◌, ◌*◌, ◌≤◌, leb};
+ghost use Rattle.std.specs.Prelude.{◌≡◌, ◌&&◌, ◌*◌, ◌≤◌, not, leb, eqb};
 ghost use Rattle.image.specs.Outcome.{◌then◌, outcome};
+ghost use Rattle.image.specs.Rows.{is_node};
 ghost use Rattle.image.specs.Layout.{net_of};
 ghost use Rattle.image.specs.Calls.{image_fault, sizes};
-ghost use Rattle.image.specs.Answers.{checked};
+ghost use Rattle.image.specs.Answers.{answer, size_list};
 ghost use Rattle.outcomes.specs.Calls.{ends_row, search_rows, ranking_rows, workspace};
 
 use image::check::check;
-use image::{Checked, Refusal, Sizes, is_node};
+use image::{Refusal, Sizes, is_node};
 
 // Whether u is one of the columns 1 to k: row 11.
 pub fn is_column(k: u32, u: u32) -> bool
     ensures { result ≡ (leb 1 u && leb u k) }
 {
-    if u < 1 {
-        return false;
-    }
-    u <= k
+    (1..=k).contains(&u)
+}
+
+// Whether start and goal are two nodes of 1 to n: row 10.
+fn are_ends(n: u32, start: u32, goal: u32) -> bool
+    ensures { result ≡ (is_node n start && is_node n goal && not (eqb start goal)) }
+{
+    is_node(n, start) && is_node(n, goal) && start != goal
 }
 
 // The image's rows, and row 10 for a start and a goal.
-pub fn check_ends(image: &[u8], start: u32, goal: u32) -> Checked
-    ensures { checked result ≡ outcome (image_fault image.now then ends_row (net_of image.now) start goal) (sizes image.now) }
+pub fn check_ends(image: &[u8], start: u32, goal: u32) -> Result<Sizes, Refusal>
+    ensures { answer size_list result ≡ outcome (image_fault image.now then ends_row (net_of image.now) start goal) (sizes image.now) }
 {
-    let answer = check(image);
-    let Checked::Network(sizes) = answer else {
-        return answer;
-    };
-    if !is_node(sizes.n, start) {
-        return Checked::Refused(Refusal::WrongEnds);
+    let sizes = check(image)?;
+    if !are_ends(sizes.n, start, goal) {
+        return Err(Refusal::WrongEnds);
     }
-    if !is_node(sizes.n, goal) {
-        return Checked::Refused(Refusal::WrongEnds);
-    }
-    if start == goal {
-        return Checked::Refused(Refusal::WrongEnds);
-    }
-    Checked::Network(sizes)
+    Ok(sizes)
 }
 
 // The same, and row 11 for a column.
-pub fn check_search(image: &[u8], column: u32, start: u32, goal: u32) -> Checked
-    ensures { checked result ≡ outcome (search_rows image.now column start goal) (sizes image.now) }
+pub fn check_search(image: &[u8], column: u32, start: u32, goal: u32) -> Result<Sizes, Refusal>
+    ensures { answer size_list result ≡ outcome (search_rows image.now column start goal) (sizes image.now) }
 {
-    let answer = check_ends(image, start, goal);
-    let Checked::Network(sizes) = answer else {
-        return answer;
-    };
+    let sizes = check_ends(image, start, goal)?;
     if !is_column(sizes.k, column) {
-        return Checked::Refused(Refusal::WrongColumn);
+        return Err(Refusal::WrongColumn);
     }
-    answer
+    Ok(sizes)
+}
+
+// Whether so many paths may be wanted: row 12.
+fn is_count(wanted: u32) -> bool
+    ensures { result ≡ (leb 1 wanted && leb wanted 256) }
+{
+    (1..=256).contains(&wanted)
 }
 
 // How many numbers a workspace must have for `wanted` paths in a network of n nodes.
+#[tactic(auto, unfolding(crate::specs::Calls::workspace))]
 pub fn workspace(n: usize, wanted: usize) -> usize
     requires { (n ≤ 200) × (wanted ≤ 256) }
     ensures { result ≡ workspace n wanted }
@@ -70,21 +71,15 @@ pub fn check_ranking(
     goal: u32,
     wanted: u32,
     work: usize,
-) -> Checked
-    ensures { checked result ≡ outcome (ranking_rows image.now column start goal wanted work) (sizes image.now) }
+) -> Result<Sizes, Refusal>
+    ensures { answer size_list result ≡ outcome (ranking_rows image.now column start goal wanted work) (sizes image.now) }
 {
-    let answer = check_search(image, column, start, goal);
-    let Checked::Network(sizes) = answer else {
-        return answer;
-    };
-    if wanted < 1 {
-        return Checked::Refused(Refusal::WrongPathCount);
-    }
-    if 256 < wanted {
-        return Checked::Refused(Refusal::WrongPathCount);
+    let sizes = check_search(image, column, start, goal)?;
+    if !is_count(wanted) {
+        return Err(Refusal::WrongPathCount);
     }
     if work < workspace(sizes.n as usize, wanted as usize) {
-        return Checked::Refused(Refusal::SliceTooShort);
+        return Err(Refusal::SliceTooShort);
     }
-    answer
+    Ok(sizes)
 }
