@@ -33,6 +33,7 @@ use Rattle.loading.proofs.DecodeLaws.{few_columns}
 use Rattle.loading.proofs.RoomLaws.{star_fits, all_fit}
 use Rattle.image.specs.declared.check.Sizes.{Sizes}
 use Rattle.terms.proofs.RoomLaws.{part_long}
+use Rattle.network_calls.specs.Answers.{state_of, floor_of, decision_list}
 use Rattle.network_calls.specs.Held.{no_open_path, ChoiceRoom, ChoiceSlices}
 
 -- ---- room in local arrays
@@ -96,17 +97,15 @@ module _ (b : List ℕ) (r s t K : ℕ) where
   pub whole_work : (old : List ℕ) {new : List ℕ} → new ≡ cleared (no_open_path (without [] (net_of b)) r s t) old → new ≡ cleared (no_open_path (net_of b) r s t) old
   whole_work old e = e ∙ ap (λ net. cleared (no_open_path net r s t) old) (without_none (net_of b))
 
--- the values of a decision, by its floor
+-- the values of a decision whose path is p
 module _ (d : Decision) (p : Route) (l : length p ≡ chosen_length d) where
-  pub settled_values : d.floor ≡ None → gives (d.length ∷ d.figure ∷ d.worst ∷ d.count ∷ 1 ∷ 0 ∷ []) ≡ gives (robust_values (answered p d))
+  pub decision_values : decision_list d ≡ robust_values (answered p d)
   unfolding robust_values
-  settled_values e =
-      ap (λ (x : ℕ). gives (x ∷ d.figure ∷ d.worst ∷ d.count ∷ 1 ∷ 0 ∷ [])) (sym l) ∙ ap (λ z. gives (robust_values (answer_of p d.figure d.worst d.count z))) (sym e)
-
-  pub open_values : (floor : ℕ) → d.floor ≡ Some floor → gives (d.length ∷ d.figure ∷ d.worst ∷ d.count ∷ 2 ∷ floor ∷ []) ≡ gives (robust_values (answered p d))
-  unfolding robust_values
-  open_values floor e =
-      ap (λ (x : ℕ). gives (x ∷ d.figure ∷ d.worst ∷ d.count ∷ 2 ∷ floor ∷ [])) (sym l) ∙ ap (λ z. gives (robust_values (answer_of p d.figure d.worst d.count z))) (sym e)
+  decision_values = ap (λ (x : ℕ). x ∷ d.figure ∷ d.worst ∷ d.count ∷ state_of d.floor ∷ floor_of d.floor ∷ []) (sym l) ∙ by_floor d.floor
+    where
+      by_floor : (floor : Option ℕ) → length p ∷ d.figure ∷ d.worst ∷ d.count ∷ state_of floor ∷ floor_of floor ∷ [] ≡ robust_values (answer_of p d.figure d.worst d.count floor)
+      by_floor None = refl
+      by_floor (Some floor) = refl
 
 -- ---- demand 3
 module _ (b : List ℕ) (r s t K path work : ℕ) where

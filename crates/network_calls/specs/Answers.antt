@@ -1,19 +1,22 @@
--- What the answers of Regret and Robust say: the values, or the refusal's number and place. Assumes nothing.
-use Rattle.std.specs.Prelude.{[], ◌∷◌}
-use Rattle.image.specs.Outcome.{Outcome, gives}
-use Rattle.image.specs.Answers.{refused}
-use Rattle.network_calls.specs.declared.measured.Regretted.{Regretted}
-use Rattle.network_calls.specs.declared.measured.Regretted.TheVariants as regret
-use Rattle.network_calls.specs.declared.chosen.Decided.{Decided}
-use Rattle.network_calls.specs.declared.chosen.Decided.TheVariants as robust
-
--- length, figure, worst column, count, state and floor
-abbrev pub decided : Decided → Outcome
-decided (robust.Settled d) = gives (d.length ∷ d.figure ∷ d.worst ∷ d.count ∷ 1 ∷ 0 ∷ [])
-decided (robust.Open d floor) = gives (d.length ∷ d.figure ∷ d.worst ∷ d.count ∷ 2 ∷ floor ∷ [])
-decided (robust.Refused r) = refused r
+-- The values of Regret's and Robust's results. Assumes nothing.
+use Rattle.std.specs.Prelude.{ℕ, Option, Some, None, List, [], ◌∷◌}
+use Rattle.choosing.specs.declared.answering.Decision.{Decision}
+use Rattle.network_calls.specs.declared.measured.Measure.{Measure}
 
 -- figure and worst column
-abbrev pub regretted : Regretted → Outcome
-regretted (regret.Measured m) = gives (m.figure ∷ m.worst ∷ [])
-regretted (regret.Refused r) = refused r
+abbrev pub measure_list : Measure → List ℕ
+measure_list m = m.figure ∷ m.worst ∷ []
+
+-- an answer's state, by its floor: 1 if it is settled, 2 if it is open
+abbrev pub state_of : Option ℕ → ℕ
+state_of None = 1
+state_of (Some floor) = 2
+
+-- the floor, or 0
+abbrev pub floor_of : Option ℕ → ℕ
+floor_of None = 0
+floor_of (Some floor) = floor
+
+-- length, figure, worst column, count, state and floor
+abbrev pub decision_list : Decision → List ℕ
+decision_list d = d.length ∷ d.figure ∷ d.worst ∷ d.count ∷ state_of d.floor ∷ floor_of d.floor ∷ []

@@ -1,9 +1,6 @@
 -- The first error of a node list, found in decoded arrays. Assumes nothing.
 use Rattle.std.specs.Prelude.{ℕ, ◌+◌, ◌-◌, ◌≤◌, ◌<◌, ◌≡◌, List, length, get_or}
-use Rattle.std.proofs.Math.Option.{Option, none, some}
 use Rattle.star.specs.Arcs.{At}
-use Rattle.network_calls.specs.declared.node_list.NodeList.{NodeList}
-use Rattle.network_calls.specs.declared.node_list.NodeList.TheVariants.{Path, Fault}
 
 -- a list whose arcs can be looked for: its first node, and each head of an arc, has a place in first, which holds indices of arcs
 pub record Followed (hs first nodes : List ℕ) : Type 0 where
@@ -23,8 +20,3 @@ pub record FirstError (ts hs nodes : List ℕ) (place : ℕ) : Type 0 where
   pub upto : place ≤ length nodes
   pub right_before : (i : ℕ) → i < place → 1 ≤ i → GoesOn ts hs nodes i
   pub wrong_here : place < length nodes → GoesOn ts hs nodes place → ⊥
-
--- the place in row 14, or none if the list is a path
-abbrev pub list_fault : NodeList → Option ℕ
-list_fault Path = none
-list_fault (Fault place) = some place

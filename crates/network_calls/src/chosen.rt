@@ -1,6 +1,5 @@
 // The path whose greatest regret is least, of an accepted image.
 ghost use Rattle.std.specs.Prelude.{◌≡◌, ◌+◌, ◌≤◌, length, get_or, replicate};
-ghost use Rattle.terms.specs.Paths.{Route};
 ghost use Rattle.terms.specs.Ranking.{ranked};
 ghost use Rattle.terms.specs.Robust.{robust, robust_over};
 ghost use Rattle.closures.specs.Map.{without};
@@ -8,11 +7,11 @@ ghost use Rattle.star.specs.Layout.{graph_of};
 ghost use Rattle.labels.specs.Labels.{far};
 ghost use Rattle.ranking.specs.Ranking.{Problem, Space};
 ghost use Rattle.measuring.specs.Columns.{network};
-ghost use Rattle.choosing.specs.Answers.{chosen_length, answered};
 ghost use Rattle.choosing.specs.Counting.{Priced};
 ghost use Rattle.choosing.specs.Counting as counting;
-ghost use Rattle.image.specs.Outcome.{gives, sound, outcome, after};
-ghost use Rattle.network_calls.specs.Answers.{decided};
+ghost use Rattle.image.specs.Outcome.{sound, outcome, after};
+ghost use Rattle.image.specs.Answers.{answer};
+ghost use Rattle.network_calls.specs.Answers.{decision_list};
 ghost use Rattle.outcomes.specs.Calls.{robust_of, chosen, robust_values, cleared};
 ghost use Rattle.loading.specs.Accepted.{InColumn, Ends};
 ghost use Rattle.loading.specs.Networks.{net};
@@ -21,46 +20,11 @@ ghost use Rattle.measuring.specs.Bests.{Labelled};
 ghost use Rattle.network_calls.specs.Held.{Asked, no_open_path, ChoiceRoom, ChoiceSlices};
 
 use super::pricing::{Trip, price};
-use choosing::{Task, least_regret};
+use choosing::{Decision, Task, least_regret};
 use image::Refusal;
 use labels::FAR;
 use listing::clear;
 use loading::{Network, label_nodes, load_common_left};
-
-// A path with the least figure among those counted.
-#[derive(Clone, Copy)]
-pub struct Decision {
-    pub length: u32,
-    pub figure: u32,
-    pub worst: u32,
-    // How many ranked paths were counted.
-    pub count: u32,
-}
-
-// Robust's answer.
-#[derive(Clone, Copy)]
-pub enum Decided {
-    Settled(Decision),
-    // And the floor: no path has a smaller figure.
-    Open(Decision, u32),
-    Refused(Refusal),
-}
-
-// What the search decided, as Robust's answer.
-fn state(decision: choosing::Decision) -> Decided
-    ensures { (p : Route) → length p ≡ chosen_length decision → decided result ≡ gives (robust_values (answered p decision)) }
-{
-    let counted = Decision {
-        length: decision.length,
-        figure: decision.figure,
-        worst: decision.worst,
-        count: decision.count,
-    };
-    match decision.floor {
-        None => Decided::Settled(counted),
-        Some(floor) => Decided::Open(counted, floor),
-    }
-}
 
 // Chooses the path, with all columns and bests for them at hand, and writes it. The workspace is cleared.
 fn choose_priced(
@@ -72,19 +36,19 @@ fn choose_priced(
     bests: &[u64],
     work: &mut [u32],
     path: &mut [u16],
-) -> Decided
+) -> Decision
     requires problem { Problem task.n task.start task.goal star.now weights.now overall.now × Space task.n (task.wanted + 1) work.old }
     requires priced { Priced task.n (length weights.now) task.start task.goal star.now costs.now bests.now }
     requires in_column { counting.InColumn task.column (length weights.now) (length bests.now) weights.now costs.now }
     requires le_wanted { (1 ≤ task.wanted) × (1 ≤ length (ranked task.n (graph_of star.now weights.now) task.start task.goal)) }
     requires n_in_bounds { task.n ≤ length path.old }
-    ensures result_value { decided result ≡ gives (robust_values (robust_over (network task.n (length weights.now) (length bests.now) star.now costs.now) bests.now task.column task.start task.goal task.wanted)) }
+    ensures result_value { decision_list result ≡ robust_values (robust_over (network task.n (length weights.now) (length bests.now) star.now costs.now) bests.now task.column task.start task.goal task.wanted) }
     ensures path_after { path.new ≡ after sound (chosen (robust_over (network task.n (length weights.now) (length bests.now) star.now costs.now) bests.now task.column task.start task.goal task.wanted)) path.old }
     ensures work_after { work.new ≡ replicate (length work.old) 0 }
 {
     let decision = least_regret(task, star, weights, overall, costs, bests, work, path);
     clear(work);
-    state(decision)
+    decision
 }
 
 // The same where there is a path: the column's labels are at hand, and the bests are searched for.
@@ -99,12 +63,12 @@ fn choose_reached(
     bests: &mut [u64],
     work: &mut [u32],
     path: &mut [u16],
-) -> Decided
+) -> Decision
     requires asked { Asked network.now.image.now task }
     requires shared { Shared (without closed.now (net network.now)) m star.now costs.now }
     requires labelled { Labelled task.n m star.now costs.now task.goal task.column overall.now × (get_or overall.now task.start 0 ≡ far → ⊥) }
     requires bests_len { (length bests.old ≡ network.now.sizes.k) × ChoiceSlices (net network.now).nodes task.wanted path.old work.old }
-    ensures result_value { decided result ≡ gives (robust_values (robust (without closed.now (net network.now)) task.column task.start task.goal task.wanted)) }
+    ensures result_value { decision_list result ≡ robust_values (robust (without closed.now (net network.now)) task.column task.start task.goal task.wanted) }
     ensures path_after { path.new ≡ after sound (chosen (robust (without closed.now (net network.now)) task.column task.start task.goal task.wanted)) path.old }
     ensures work_after { work.new ≡ replicate (length work.old) 0 }
 {
@@ -142,11 +106,11 @@ fn choose_shared(
     bests: &mut [u64],
     work: &mut [u32],
     path: &mut [u16],
-) -> Decided
+) -> Result<Decision, Refusal>
     requires asked { Asked network.now.image.now task }
     requires shared { Shared (without closed.now (net network.now)) m star.now costs.now }
     requires overall_len { (length overall.old ≡ network.now.sizes.n + 1) × (length bests.old ≡ network.now.sizes.k) × ChoiceSlices (net network.now).nodes task.wanted path.old work.old }
-    ensures result_value { decided result ≡ outcome (no_open_path (without closed.now (net network.now)) task.column task.start task.goal) (robust_values (robust (without closed.now (net network.now)) task.column task.start task.goal task.wanted)) }
+    ensures result_value { answer decision_list result ≡ outcome (no_open_path (without closed.now (net network.now)) task.column task.start task.goal) (robust_values (robust (without closed.now (net network.now)) task.column task.start task.goal task.wanted)) }
     ensures path_after { path.new ≡ after (no_open_path (without closed.now (net network.now)) task.column task.start task.goal) (chosen (robust (without closed.now (net network.now)) task.column task.start task.goal task.wanted)) path.old }
     ensures work_after { work.new ≡ cleared (no_open_path (without closed.now (net network.now)) task.column task.start task.goal) work.old }
 {
@@ -156,11 +120,11 @@ fn choose_shared(
     let to = from + m;
     label_nodes(star, &costs[from..to], task.goal, overall);
     if overall[start] == FAR {
-        return Decided::Refused(Refusal::NoPath);
+        return Err(Refusal::NoPath);
     }
-    choose_reached(
+    Ok(choose_reached(
         network, closed, m, task, star, costs, overall, bests, work, path,
-    )
+    ))
 }
 
 // The same from the image on, with room for all that the search needs.
@@ -174,11 +138,11 @@ fn choose_in(
     bests: &mut [u64],
     work: &mut [u32],
     path: &mut [u16],
-) -> Decided
+) -> Result<Decision, Refusal>
     requires asked { Asked network.now.image.now task }
     requires choice_room { ChoiceRoom network.now.sizes.n network.now.sizes.m network.now.sizes.k star.old costs.old bests.old }
     requires overall_len { (length overall.old ≡ network.now.sizes.n + 1) × ChoiceSlices (net network.now).nodes task.wanted path.old work.old }
-    ensures result_value { decided result ≡ outcome (no_open_path (without closed.now (net network.now)) task.column task.start task.goal) (robust_values (robust (without closed.now (net network.now)) task.column task.start task.goal task.wanted)) }
+    ensures result_value { answer decision_list result ≡ outcome (no_open_path (without closed.now (net network.now)) task.column task.start task.goal) (robust_values (robust (without closed.now (net network.now)) task.column task.start task.goal task.wanted)) }
     ensures path_after { path.new ≡ after (no_open_path (without closed.now (net network.now)) task.column task.start task.goal) (chosen (robust (without closed.now (net network.now)) task.column task.start task.goal task.wanted)) path.old }
     ensures work_after { work.new ≡ cleared (no_open_path (without closed.now (net network.now)) task.column task.start task.goal) work.old }
 {
@@ -210,11 +174,11 @@ pub fn choose_left(
     wanted: u32,
     path: &mut [u16],
     work: &mut [u32],
-) -> Decided
+) -> Result<Decision, Refusal>
     requires column { InColumn network.now.image.now r }
     requires ends { Ends (net network.now).nodes start goal }
     requires choice_slices { ChoiceSlices (net network.now).nodes wanted path.old work.old }
-    ensures result_value { decided result ≡ outcome (no_open_path (without closed.now (net network.now)) r start goal) (robust_values (robust (without closed.now (net network.now)) r start goal wanted)) }
+    ensures result_value { answer decision_list result ≡ outcome (no_open_path (without closed.now (net network.now)) r start goal) (robust_values (robust (without closed.now (net network.now)) r start goal wanted)) }
     ensures path_after { path.new ≡ after (no_open_path (without closed.now (net network.now)) r start goal) (chosen (robust (without closed.now (net network.now)) r start goal wanted)) path.old }
     ensures work_after { work.new ≡ cleared (no_open_path (without closed.now (net network.now)) r start goal) work.old }
 {
@@ -257,11 +221,11 @@ pub fn choose(
     wanted: u32,
     path: &mut [u16],
     work: &mut [u32],
-) -> Decided
+) -> Result<Decision, Refusal>
     requires column { InColumn network.now.image.now r }
     requires ends { Ends (net network.now).nodes start goal }
     requires choice_slices { ChoiceSlices (net network.now).nodes wanted path.old work.old }
-    ensures result_value { decided result ≡ outcome (no_open_path (net network.now) r start goal) (robust_values (robust_of network.now.image.now r start goal wanted)) }
+    ensures result_value { answer decision_list result ≡ outcome (no_open_path (net network.now) r start goal) (robust_values (robust_of network.now.image.now r start goal wanted)) }
     ensures path_after { path.new ≡ after (no_open_path (net network.now) r start goal) (chosen (robust_of network.now.image.now r start goal wanted)) path.old }
     ensures work_after { work.new ≡ cleared (no_open_path (net network.now) r start goal) work.old }
 {

@@ -9,6 +9,7 @@ mod pricing;
 pub mod regret;
 pub mod robust;
 
-pub use chosen::{Decided, Decision, choose_left};
-pub use measured::{Measure, Regretted, measure_path};
+pub use choosing::Decision;
+pub use chosen::choose_left;
+pub use measured::{Measure, measure_path};
 pub use pricing::own_bests;

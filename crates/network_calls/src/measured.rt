@@ -3,14 +3,15 @@ ghost use Rattle.std.specs.Prelude.{◌≡◌, [], ◌∷◌, ◌+◌, length};
 ghost use Rattle.terms.specs.Paths.{OpenPath};
 ghost use Rattle.terms.specs.Regret as terms;
 ghost use Rattle.image.specs.Outcome.{outcome};
+ghost use Rattle.image.specs.Answers.{answer};
 ghost use Rattle.loading.specs.Accepted.{Ends};
 ghost use Rattle.loading.specs.Networks.{net};
 ghost use Rattle.loading.specs.Loaded.{Shared};
 ghost use Rattle.outcomes.specs.Calls.{list_row};
-ghost use Rattle.network_calls.specs.Answers.{regretted};
+ghost use Rattle.network_calls.specs.Answers.{measure_list};
 ghost use Rattle.network_calls.specs.Held.{ChoiceRoom};
 
-use super::node_list::{NodeList, check_list};
+use super::node_list::check_list;
 use super::pricing::{Trip, price};
 use image::Refusal;
 use labels::FAR;
@@ -18,17 +19,10 @@ use loading::{Network, load_common};
 use measuring::measure;
 
 // A path's greatest regret, and the lowest-numbered column that has it.
-#[derive(Clone, Copy)]
+#[derive(Clone, Copy, Debug, PartialEq, Eq)]
 pub struct Measure {
     pub figure: u32,
     pub worst: u32,
-}
-
-// Regret's answer.
-#[derive(Clone, Copy)]
-pub enum Regretted {
-    Measured(Measure),
-    Refused(Refusal),
 }
 
 // Measures a path that is open in every column, with the m arcs that are so at hand, and all columns for them.
@@ -74,24 +68,21 @@ fn measure_shared(
     star: &[u16],
     costs: &[u32],
     bests: &mut [u64],
-) -> Regretted
+) -> Result<Measure, Refusal>
     requires shared { Shared (net network.now) m star.now costs.now }
     requires bests_len { length bests.old ≡ network.now.sizes.k }
     requires ends { Ends (net network.now).nodes start goal }
-    ensures { regretted result ≡ outcome (list_row (terms.open_fault (net network.now) start goal nodes.now)) (terms.figure (net network.now) start goal nodes.now ∷ terms.worst (net network.now) start goal nodes.now ∷ []) }
+    ensures { answer measure_list result ≡ outcome (list_row (terms.open_fault (net network.now) start goal nodes.now)) (terms.figure (net network.now) start goal nodes.now ∷ terms.worst (net network.now) start goal nodes.now ∷ []) }
 {
-    let list = check_list(
+    check_list(
         star,
         &costs[..m],
         network.sizes.n as usize,
         start,
         goal,
         nodes,
-    );
-    if let NodeList::Fault(place) = list {
-        return Regretted::Refused(Refusal::NotAPath(place));
-    }
-    Regretted::Measured(measure_path(
+    )?;
+    Ok(measure_path(
         network,
         m,
         start as usize,
@@ -112,10 +103,10 @@ fn measure_in(
     star: &mut [u16],
     costs: &mut [u32],
     bests: &mut [u64],
-) -> Regretted
+) -> Result<Measure, Refusal>
     requires choice_room { ChoiceRoom network.now.sizes.n network.now.sizes.m network.now.sizes.k star.old costs.old bests.old }
     requires ends { Ends (net network.now).nodes start goal }
-    ensures { regretted result ≡ outcome (list_row (terms.open_fault (net network.now) start goal nodes.now)) (terms.figure (net network.now) start goal nodes.now ∷ terms.worst (net network.now) start goal nodes.now ∷ []) }
+    ensures { answer measure_list result ≡ outcome (list_row (terms.open_fault (net network.now) start goal nodes.now)) (terms.figure (net network.now) start goal nodes.now ∷ terms.worst (net network.now) start goal nodes.now ∷ []) }
 {
     let m = load_common(network, star, costs);
     let places = network.sizes.n as usize + 1;
@@ -134,9 +125,14 @@ fn measure_in(
 }
 
 // The figure and the worst column of a node list, or the row that refuses it.
-pub fn measure_list(network: &Network<'_>, start: u32, goal: u32, nodes: &[u16]) -> Regretted
+pub fn measure_list(
+    network: &Network<'_>,
+    start: u32,
+    goal: u32,
+    nodes: &[u16],
+) -> Result<Measure, Refusal>
     requires { Ends (net network.now).nodes start goal }
-    ensures { regretted result ≡ outcome (list_row (terms.open_fault (net network.now) start goal nodes.now)) (terms.figure (net network.now) start goal nodes.now ∷ terms.worst (net network.now) start goal nodes.now ∷ []) }
+    ensures { answer measure_list result ≡ outcome (list_row (terms.open_fault (net network.now) start goal nodes.now)) (terms.figure (net network.now) start goal nodes.now ∷ terms.worst (net network.now) start goal nodes.now ∷ []) }
 {
     let mut star = [0u16; 3403];
     let mut costs = [0u32; 8000];

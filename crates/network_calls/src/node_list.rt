@@ -1,19 +1,15 @@
 // Node lists: whether one is a path, and where it fails.
 ghost use Rattle.std.specs.Prelude.{◌≡◌, List, ℕ, ◌+◌, length};
 ghost use Rattle.terms.specs.Regret.{fault};
+ghost use Rattle.image.specs.Refusals.{verdict};
 ghost use Rattle.star.specs.Star.{Star};
 ghost use Rattle.star.specs.Layout.{graph_of, Network};
 ghost use Rattle.loading.specs.Accepted.{Node};
-ghost use Rattle.network_calls.specs.NodeLists.{Followed, FirstError, list_fault};
+ghost use Rattle.outcomes.specs.Calls.{list_row};
+ghost use Rattle.network_calls.specs.NodeLists.{Followed, FirstError};
 
+use image::Refusal;
 use star::arc_between;
-
-// What the check of a node list finds: a path, or the place of row 14.
-#[derive(Clone, Copy)]
-pub enum NodeList {
-    Path,
-    Fault(u32),
-}
 
 // The first position after the first whose node repeats or has no arc from the node before; the
 // length if there is none.
@@ -47,15 +43,15 @@ pub fn check_list(
     start: u32,
     goal: u32,
     nodes: &[u16],
-) -> NodeList
+) -> Result<(), Refusal>
     requires { Network (n + 1) star.now weights.now × Node n start }
-    ensures { list_fault result ≡ fault (graph_of star.now weights.now) start goal nodes.now }
+    ensures { verdict result ≡ list_row (fault (graph_of star.now weights.now) start goal nodes.now) }
 {
     if nodes.len() == 0 {
-        return NodeList::Fault(0);
+        return Err(Refusal::NotAPath(0));
     }
     if nodes[0] as u32 != start {
-        return NodeList::Fault(0);
+        return Err(Refusal::NotAPath(0));
     }
     let m = weights.len();
     let places = n + 1;
@@ -63,10 +59,10 @@ pub fn check_list(
     let ins = outs + places + 1;
     let at = first_error(&star[m..2 * m], &star[outs..ins], nodes);
     if at < nodes.len() {
-        return NodeList::Fault(at as u32);
+        return Err(Refusal::NotAPath(at as u32));
     }
     if nodes[at - 1] as u32 != goal {
-        return NodeList::Fault(at as u32);
+        return Err(Refusal::NotAPath(at as u32));
     }
-    NodeList::Path
+    Ok(())
 }

@@ -4,7 +4,7 @@ use native.Mathlib.Omega.{arith}
 use mathlib.Core.Path.{◌≡◌, sym, ◌∙◌, ap, subst}
 use lib.ListN.{length}
 use Rattle.terms.specs.Network.{Admitted}
-use Rattle.image.specs.Outcome.{gives, sound, after}
+use Rattle.image.specs.Outcome.{sound, after}
 use Rattle.image.specs.Layout.{edition, net_of}
 use Rattle.closures.specs.Map.{without}
 use Rattle.loading.specs.Accepted.{Ends}
@@ -48,4 +48,4 @@ returns c =
     let inside : c.args.task.column ≤ c.args.network.now.sizes.k = omega (arith, c.requires.asked.in_column.upto, c.args.network.now.accepted.columns_are) in
     let bests_long : length c.price.new.bests ≡ c.args.network.now.sizes.k = c.price.auto.bests ∙ c.requires.bests_len.0 in
     let e = search_robust ready columns c.requires.shared nodes ends c.price.ensures c.requires.asked.in_column.from inside bests_long c.args.task.wanted c.requires.bests_len.1.wanted_from in
-    record { result_value = c.choose_priced.ensures.result_value ∙ ap (λ a. gives (robust_values a)) e; path_after = c.choose_priced.ensures.path_after ∙ ap (λ a. after sound (chosen a) c.args.path.now) e; work_after = c.choose_priced.ensures.work_after }
+    record { result_value = c.choose_priced.ensures.result_value ∙ ap robust_values e; path_after = c.choose_priced.ensures.path_after ∙ ap (λ a. after sound (chosen a) c.args.path.now) e; work_after = c.choose_priced.ensures.work_after }

@@ -4,6 +4,7 @@ use native.Mathlib.Omega.{arith}
 use mathlib.Core.Path.{◌≡◌, sym, ◌∙◌, ap, subst}
 use lib.ListN.{length, take, drop}
 use Rattle.terms.specs.Network.{Admitted}
+use Rattle.image.specs.Outcome.{gives}
 use Rattle.image.specs.Layout.{edition, net_of}
 use Rattle.closures.specs.Map.{without}
 use Rattle.star.specs.Layout.{Network}
@@ -47,7 +48,7 @@ returns c =
     let labels_long : length c.label_nodes.new.overall ≡ c.args.task.n + 1 = c.label_nodes.auto.overall ∙ c.requires.overall_len.0 ∙ ap (λ (x : ℕ). x + 1) (c.args.network.now.accepted.nodes_are ∙ sym c.requires.asked.nodes_are) in
     let labelled : Labelled c.args.task.n c.args.m c.args.star.now c.args.costs.now c.args.task.goal c.args.task.column c.label_nodes.new.overall = labelled_part labels_long c.label_nodes.ensures in
     let e = reached_row ready columns c.requires.shared (c.requires.asked.nodes_are ∙ rest_nodes c.args.network.now.accepted c.args.closed.now) (rest_ends c.args.network.now.accepted c.args.closed.now c.requires.asked.ends) c.requires.asked.in_column.from inside labelled c.if-overall-start.false in
-    record { result_value = values_in _ e c.choose_reached.ensures.result_value; path_after = path_in _ e c.args.path.now c.choose_reached.ensures.path_after; work_after = c.choose_reached.ensures.work_after ∙ cleared_is c.args.work.now ∙ ap (λ f. cleared f c.args.work.now) (sym e) }
+    record { result_value = values_in _ e (ap gives c.choose_reached.ensures.result_value); path_after = path_in _ e c.args.path.now c.choose_reached.ensures.path_after; work_after = c.choose_reached.ensures.work_after ∙ cleared_is c.args.work.now ∙ ap (λ f. cleared f c.args.work.now) (sym e) }
 
 pub overflow_mul-from : goal.overflow_mul-from
 overflow_mul-from c =
