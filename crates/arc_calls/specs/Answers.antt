@@ -1,12 +1,12 @@
--- What Find's answer says: the values, or the refusal's number and place. Assumes nothing.
-use Rattle.std.specs.Prelude.{[], ◌∷◌}
-use Rattle.image.specs.Outcome.{Outcome, gives}
-use Rattle.image.specs.Answers.{refused}
+-- What Find's answer says. Assumes nothing.
+use Rattle.std.specs.Prelude.{List, [], ◌∷◌, ℕ}
+use Rattle.std.proofs.Math.Option.{Option, none, some}
 use Rattle.arc_calls.specs.declared.find.Found.{Found}
-use Rattle.arc_calls.specs.declared.find.Found.TheVariants as find
 
 -- found or not, 1 or 0; the index, 0 if there is none; the number of records looked at
-abbrev pub found : Found → Outcome
-found (find.At index looks) = gives (1 ∷ index ∷ looks ∷ [])
-found (find.Nothing looks) = gives (0 ∷ 0 ∷ looks ∷ [])
-found (find.Refused r) = refused r
+abbrev pub sought_numbers : Option ℕ → ℕ → List ℕ
+sought_numbers (some index) looks = 1 ∷ index ∷ looks ∷ []
+sought_numbers none looks = 0 ∷ 0 ∷ looks ∷ []
+
+abbrev pub found_numbers : Found → List ℕ
+found_numbers f = sought_numbers f.index f.looks

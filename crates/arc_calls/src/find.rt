@@ -3,21 +3,21 @@ ghost use Rattle.std.specs.Prelude.{◌≡◌, length};
 ghost use Rattle.image.specs.Outcome.{sound};
 ghost use Rattle.image.specs.Layout.{net_of};
 ghost use Rattle.image.specs.Calls.{image_fault};
+ghost use Rattle.image.specs.Answers.{answer};
 ghost use Rattle.star.specs.Found.{sought};
 ghost use Rattle.arc_calls.specs.Calls.{FindsArc, find_of, find_outcome};
-ghost use Rattle.arc_calls.specs.Answers.{found};
+ghost use Rattle.arc_calls.specs.Answers.{found_numbers};
 
 use image::check::check;
-use image::{Checked, Refusal};
+use image::Refusal;
 use loading::{Network, number_arcs, read_arcs};
 use star::{Sought, find_arc};
 
-// Find's answer: the arc's index, or that there is none; and at how many records it looked.
-#[derive(Clone, Copy)]
-pub enum Found {
-    At(u32, u32),
-    Nothing(u32),
-    Refused(Refusal),
+// What Find gives: the arc's index, if there is one, and at how many records it looked.
+#[derive(Clone, Copy, Debug, PartialEq, Eq)]
+pub struct Found {
+    pub index: Option<u32>,
+    pub looks: u32,
 }
 
 // The arc from tail to head in an accepted image, with room for the indices, tails and heads of its arcs.
@@ -58,18 +58,21 @@ fn seek_arc(network: &Network<'_>, tail: u32, head: u32) -> Sought
 }
 
 // REFERENCE, section 4.9.
-pub fn find(image: &[u8], tail: u32, head: u32) -> Found
-    ensures result_value { found result ≡ find_outcome image.now tail head }
+pub fn find(image: &[u8], tail: u32, head: u32) -> Result<Found, Refusal>
+    ensures result_value { answer found_numbers result ≡ find_outcome image.now tail head }
     ensures finds_arc { image_fault image.now ≡ sound → FindsArc (net_of image.now).arcs (tail, head) (find_of image.now tail head) }
 {
-    let answer = check(image);
-    let Checked::Network(sizes) = answer else {
-        return Found::Refused(answer.refusal());
-    };
+    let sizes = check(image)?;
     let network = Network { image, sizes };
     let sought = seek_arc(&network, tail, head);
     match sought.arc {
-        Some(index) => Found::At(index as u32, sought.looks),
-        None => Found::Nothing(sought.looks),
+        Some(index) => Ok(Found {
+            index: Some(index as u32),
+            looks: sought.looks,
+        }),
+        None => Ok(Found {
+            index: None,
+            looks: sought.looks,
+        }),
     }
 }

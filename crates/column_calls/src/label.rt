@@ -2,43 +2,32 @@
 ghost use Rattle.std.specs.Prelude.{◌≡◌, ◌++◌, ◌+◌, ◌≤◌, ◌<◌, length, drop};
 ghost use Rattle.image.specs.Outcome.{after, outcome};
 ghost use Rattle.image.specs.Calls.{sizes};
-ghost use Rattle.image.specs.Answers.{checked};
-ghost use Rattle.column_calls.specs.Answers.{labelled};
+ghost use Rattle.image.specs.Answers.{answer, no_values, size_list};
 ghost use Rattle.outcomes.specs.Calls.{label_fault, label_outcome, labels_of};
 ghost use Rattle.loading.specs.Networks.{net};
 ghost use Rattle.loading.specs.Accepted.{Node, InColumn};
 ghost use Rattle.loading.specs.Loaded.{Room};
 
 use image::check::check;
-use image::{Checked, Refusal, is_node};
+use image::{Refusal, Sizes, is_node};
 use loading::{Network, load};
 use outcomes::{is_column, write_narrow};
 
-// Label's answer.
-#[derive(Clone, Copy)]
-pub enum Labelled {
-    Written,
-    Refused(Refusal),
-}
-
 // Label's rows for a slice of `room` places.
-fn check_label(image: &[u8], column: u32, goal: u32, room: usize) -> Checked
-    ensures { checked result ≡ outcome (label_fault image.now column goal room) (sizes image.now) }
+fn check_label(image: &[u8], column: u32, goal: u32, room: usize) -> Result<Sizes, Refusal>
+    ensures { answer size_list result ≡ outcome (label_fault image.now column goal room) (sizes image.now) }
 {
-    let answer = check(image);
-    let Checked::Network(sizes) = answer else {
-        return answer;
-    };
+    let sizes = check(image)?;
     if !is_node(sizes.n, goal) {
-        return Checked::Refused(Refusal::WrongEnds);
+        return Err(Refusal::WrongEnds);
     }
     if !is_column(sizes.k, column) {
-        return Checked::Refused(Refusal::WrongColumn);
+        return Err(Refusal::WrongColumn);
     }
     if room < sizes.n as usize {
-        return Checked::Refused(Refusal::SliceTooShort);
+        return Err(Refusal::SliceTooShort);
     }
-    answer
+    Ok(sizes)
 }
 
 // Writes the labels of the column, with room for its graph and the exact labels.
@@ -64,7 +53,7 @@ fn write_labels_in(
 fn write_labels(network: &Network<'_>, column: u32, goal: u32, labels: &mut [u32])
     requires column { InColumn network.now.image.now column }
     requires goal { Node (net network.now).nodes goal }
-    requires image_in_bounds { (net network.now).nodes ≤ length labels.old }
+    requires room { (net network.now).nodes ≤ length labels.old }
     ensures { labels.new ≡ labels_of network.now.image.now column goal ++ drop (net network.now).nodes labels.old }
 {
     let mut star = [0u16; 3403];
@@ -85,15 +74,12 @@ fn write_labels(network: &Network<'_>, column: u32, goal: u32, labels: &mut [u32
 }
 
 // REFERENCE, section 4.2.
-pub fn label(image: &[u8], column: u32, goal: u32, labels: &mut [u32]) -> Labelled
-    ensures result_value { labelled result ≡ label_outcome image.now column goal (length labels.old) }
+pub fn label(image: &[u8], column: u32, goal: u32, labels: &mut [u32]) -> Result<(), Refusal>
+    ensures result_value { answer no_values result ≡ label_outcome image.now column goal (length labels.old) }
     ensures labels_after { labels.new ≡ after (label_fault image.now column goal (length labels.old)) (labels_of image.now column goal) labels.old }
 {
-    let answer = check_label(image, column, goal, labels.len());
-    let Checked::Network(sizes) = answer else {
-        return Labelled::Refused(answer.refusal());
-    };
+    let sizes = check_label(image, column, goal, labels.len())?;
     let network = Network { image, sizes };
     write_labels(&network, column, goal, labels);
-    Labelled::Written
+    Ok(())
 }

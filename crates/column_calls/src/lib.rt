@@ -7,6 +7,4 @@ pub mod label;
 pub mod rank;
 pub mod shortest;
 
-pub use label::Labelled;
-pub use rank::Listed;
-pub use shortest::Routed;
+pub use shortest::Path;

@@ -2,8 +2,7 @@
 ghost use Rattle.std.specs.Prelude.{◌≡◌, [], ◌∷◌, length};
 ghost use Rattle.image.specs.Outcome.{outcome, after};
 ghost use Rattle.image.specs.Calls.{sizes};
-ghost use Rattle.image.specs.Answers.{checked};
-ghost use Rattle.column_calls.specs.Answers.{listed};
+ghost use Rattle.image.specs.Answers.{answer, one_number, size_list};
 ghost use Rattle.outcomes.specs.Calls.{path_row, rank_rows, rank_fault, rank_of, rank_rows_of, rank_costs_of, rank_outcome, cleared};
 ghost use Rattle.loading.specs.Networks.{net};
 ghost use Rattle.loading.specs.Accepted.{InColumn, Ends};
@@ -11,17 +10,9 @@ ghost use Rattle.outcomes.specs.Demands.{Kept2};
 ghost use Rattle.column_calls.specs.Slices.{ListSlices};
 
 use super::first_paths::list;
-use image::{Checked, Refusal};
+use image::{Refusal, Sizes};
 use loading::Network;
 use outcomes::check_ranking;
-
-// Rank's answer.
-#[derive(Clone, Copy)]
-pub enum Listed {
-    // The number of paths.
-    Paths(u32),
-    Refused(Refusal),
-}
 
 // Rank's rows before 15, for slices of these lengths.
 fn check_rank(
@@ -33,22 +24,16 @@ fn check_rank(
     rows: usize,
     costs: usize,
     work: usize,
-) -> Checked
-    ensures { checked result ≡ outcome (rank_rows image.now column start goal wanted rows costs work) (sizes image.now) }
+) -> Result<Sizes, Refusal>
+    ensures { answer size_list result ≡ outcome (rank_rows image.now column start goal wanted rows costs work) (sizes image.now) }
 {
-    let answer = check_ranking(image, column, start, goal, wanted, work);
-    let Checked::Network(sizes) = answer else {
-        return answer;
-    };
+    let sizes = check_ranking(image, column, start, goal, wanted, work)?;
     let n = sizes.n as usize;
     let k = wanted as usize;
-    if rows < k * n {
-        return Checked::Refused(Refusal::SliceTooShort);
+    if rows < k * n || costs < k {
+        return Err(Refusal::SliceTooShort);
     }
-    if costs < k {
-        return Checked::Refused(Refusal::SliceTooShort);
-    }
-    answer
+    Ok(sizes)
 }
 
 // Row 15, and the paths. Whether there is one is decided before anything is written.
@@ -61,23 +46,24 @@ fn write_ranked(
     rows: &mut [u16],
     costs: &mut [u32],
     work: &mut [u32],
-) -> Listed
+) -> Result<u32, Refusal>
     requires column { InColumn network.now.image.now column }
     requires ends { Ends (net network.now).nodes start goal }
     requires list_slices { ListSlices (net network.now).nodes wanted rows.old costs.old work.old }
-    ensures result_value { listed result ≡ outcome (path_row network.now.image.now column start goal) (length (rank_of network.now.image.now column start goal wanted) ∷ []) }
+    ensures result_value { answer one_number result ≡ outcome (path_row network.now.image.now column start goal) (length (rank_of network.now.image.now column start goal wanted) ∷ []) }
     ensures rows_after { rows.new ≡ after (path_row network.now.image.now column start goal) (rank_rows_of network.now.image.now column start goal wanted) rows.old }
     ensures costs_after { costs.new ≡ after (path_row network.now.image.now column start goal) (rank_costs_of network.now.image.now column start goal wanted) costs.old }
     ensures work_after { work.new ≡ cleared (path_row network.now.image.now column start goal) work.old }
 {
     let count = list(network, column, start, goal, wanted, rows, costs, work);
     if count == 0 {
-        return Listed::Refused(Refusal::NoPath);
+        return Err(Refusal::NoPath);
     }
-    Listed::Paths(count as u32)
+    Ok(count as u32)
 }
 
-// REFERENCE, section 4.5. The first four promises say what is given and written; the last one is demand 2.
+// REFERENCE, section 4.5. The first four promises say what is given, which is the number of paths, and written;
+// the last one is demand 2.
 pub fn rank(
     image: &[u8],
     column: u32,
@@ -87,14 +73,14 @@ pub fn rank(
     rows: &mut [u16],
     costs: &mut [u32],
     work: &mut [u32],
-) -> Listed
-    ensures result_value { listed result ≡ rank_outcome image.now column start goal wanted (length rows.old) (length costs.old) (length work.old) }
+) -> Result<u32, Refusal>
+    ensures result_value { answer one_number result ≡ rank_outcome image.now column start goal wanted (length rows.old) (length costs.old) (length work.old) }
     ensures rows_after { rows.new ≡ after (rank_fault image.now column start goal wanted (length rows.old) (length costs.old) (length work.old)) (rank_rows_of image.now column start goal wanted) rows.old }
     ensures costs_after { costs.new ≡ after (rank_fault image.now column start goal wanted (length rows.old) (length costs.old) (length work.old)) (rank_costs_of image.now column start goal wanted) costs.old }
     ensures work_after { work.new ≡ cleared (rank_fault image.now column start goal wanted (length rows.old) (length costs.old) (length work.old)) work.old }
     ensures kept2 { Kept2 image.now column start goal wanted (length rows.old) (length costs.old) (length work.old) }
 {
-    let answer = check_rank(
+    let sizes = check_rank(
         image,
         column,
         start,
@@ -103,10 +89,7 @@ pub fn rank(
         rows.len(),
         costs.len(),
         work.len(),
-    );
-    let Checked::Network(sizes) = answer else {
-        return Listed::Refused(answer.refusal());
-    };
+    )?;
     let network = Network { image, sizes };
     write_ranked(&network, column, start, goal, wanted, rows, costs, work)
 }

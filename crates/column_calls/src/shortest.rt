@@ -3,38 +3,40 @@ ghost use Rattle.std.specs.Prelude.{◌≡◌, ◌≤◌, length};
 ghost use Rattle.terms.specs.Network.{column};
 ghost use Rattle.image.specs.Outcome.{outcome, after};
 ghost use Rattle.image.specs.Calls.{sizes};
-ghost use Rattle.image.specs.Answers.{checked};
-ghost use Rattle.column_calls.specs.Answers.{routed};
+ghost use Rattle.image.specs.Answers.{answer, size_list};
+ghost use Rattle.column_calls.specs.Answers.{path_numbers};
 ghost use Rattle.outcomes.specs.Calls.{shortest_rows, path_row, shortest_fault, shortest_of, shortest_values, shortest_outcome};
 ghost use Rattle.loading.specs.Networks.{net};
 ghost use Rattle.loading.specs.Accepted.{InColumn, Ends};
 
 use super::first_path::find;
 use branching::Found;
-use image::{Checked, Refusal};
+use image::{Refusal, Sizes};
 use loading::Network;
 use outcomes::{check_search, write_path};
 
-// Shortest's answer.
-#[derive(Clone, Copy)]
-pub enum Routed {
-    // The length and the cost of the path.
-    Path(u32, u32),
-    Refused(Refusal),
+// What Shortest gives: the length and the cost of the path.
+#[derive(Clone, Copy, Debug, PartialEq, Eq)]
+pub struct Path {
+    pub length: u32,
+    pub cost: u32,
 }
 
 // Shortest's rows before 15, for a slice of `room` places.
-fn check_shortest(image: &[u8], column: u32, start: u32, goal: u32, room: usize) -> Checked
-    ensures { checked result ≡ outcome (shortest_rows image.now column start goal room) (sizes image.now) }
+fn check_shortest(
+    image: &[u8],
+    column: u32,
+    start: u32,
+    goal: u32,
+    room: usize,
+) -> Result<Sizes, Refusal>
+    ensures { answer size_list result ≡ outcome (shortest_rows image.now column start goal room) (sizes image.now) }
 {
-    let answer = check_search(image, column, start, goal);
-    let Checked::Network(sizes) = answer else {
-        return answer;
-    };
+    let sizes = check_search(image, column, start, goal)?;
     if room < sizes.n as usize {
-        return Checked::Refused(Refusal::SliceTooShort);
+        return Err(Refusal::SliceTooShort);
     }
-    answer
+    Ok(sizes)
 }
 
 // Row 15, and the path, with room to lay it out before it is written.
@@ -45,19 +47,23 @@ fn write_first(
     goal: u32,
     route: &mut [u16],
     path: &mut [u16],
-) -> Routed
+) -> Result<Path, Refusal>
     requires column { InColumn network.now.image.now column }
     requires ends { Ends (net network.now).nodes start goal }
-    requires route_len { (length route.old ≡ (net network.now).nodes) × ((net network.now).nodes ≤ length path.old) }
-    ensures result_value { routed result ≡ outcome (path_row network.now.image.now column start goal) (shortest_values network.now.image.now column start goal) }
+    requires route_len { length route.old ≡ (net network.now).nodes }
+    requires room { (net network.now).nodes ≤ length path.old }
+    ensures result_value { answer path_numbers result ≡ outcome (path_row network.now.image.now column start goal) (shortest_values network.now.image.now column start goal) }
     ensures path_after { path.new ≡ after (path_row network.now.image.now column start goal) (shortest_of network.now.image.now column start goal) path.old }
 {
     let found = find(network, column, start, goal, route);
     let Found::Tail(len, cost) = found else {
-        return Routed::Refused(Refusal::NoPath);
+        return Err(Refusal::NoPath);
     };
     write_path(route, len, path);
-    Routed::Path(len as u32, cost as u32)
+    Ok(Path {
+        length: len as u32,
+        cost: cost as u32,
+    })
 }
 
 // The same, with room made for the path.
@@ -67,11 +73,11 @@ fn write_shortest(
     start: u32,
     goal: u32,
     path: &mut [u16],
-) -> Routed
+) -> Result<Path, Refusal>
     requires column { InColumn network.now.image.now column }
     requires ends { Ends (net network.now).nodes start goal }
-    requires image_in_bounds { (net network.now).nodes ≤ length path.old }
-    ensures result_value { routed result ≡ outcome (path_row network.now.image.now column start goal) (shortest_values network.now.image.now column start goal) }
+    requires room { (net network.now).nodes ≤ length path.old }
+    ensures result_value { answer path_numbers result ≡ outcome (path_row network.now.image.now column start goal) (shortest_values network.now.image.now column start goal) }
     ensures path_after { path.new ≡ after (path_row network.now.image.now column start goal) (shortest_of network.now.image.now column start goal) path.old }
 {
     let mut route = [0u16; 200];
@@ -80,14 +86,17 @@ fn write_shortest(
 }
 
 // REFERENCE, section 4.3.
-pub fn shortest(image: &[u8], column: u32, start: u32, goal: u32, path: &mut [u16]) -> Routed
-    ensures result_value { routed result ≡ shortest_outcome image.now column start goal (length path.old) }
+pub fn shortest(
+    image: &[u8],
+    column: u32,
+    start: u32,
+    goal: u32,
+    path: &mut [u16],
+) -> Result<Path, Refusal>
+    ensures result_value { answer path_numbers result ≡ shortest_outcome image.now column start goal (length path.old) }
     ensures path_after { path.new ≡ after (shortest_fault image.now column start goal (length path.old)) (shortest_of image.now column start goal) path.old }
 {
-    let answer = check_shortest(image, column, start, goal, path.len());
-    let Checked::Network(sizes) = answer else {
-        return Routed::Refused(answer.refusal());
-    };
+    let sizes = check_shortest(image, column, start, goal, path.len())?;
     let network = Network { image, sizes };
     write_shortest(&network, column, start, goal, path)
 }

@@ -6,7 +6,7 @@ use Rattle.column_calls.proofs.label.write_labels.Goals as goal
 
 pub write_labels_in-requires : goal.write_labels_in-requires
 write_labels_in-requires c =
-    record { column = c.requires.column; goal = c.requires.goal; room = (local_room c.args.network.now.accepted, c.requires.image_in_bounds) }
+    record { column = c.requires.column; goal = c.requires.goal; room = (local_room c.args.network.now.accepted, c.requires.room) }
 
 pub slice_bounds-star-end : goal.slice_bounds-star-end
 slice_bounds-star-end c = star_fits c.args.network.now.accepted

@@ -23,7 +23,7 @@ returns-in_default c =
 pub write_path-requires : goal.write_path-requires
 write_path-requires c =
     let reach : (1 < c.in-Tail.len) × (c.in-Tail.len ≤ length c.find-found.new.route) = extent_tail c.find-found.ensures.extent c.in-Tail.is in
-    (reach.1, omega (arith, reach.1, c.find-found.auto, c.requires.route_len))
+    (reach.1, omega (arith, reach.1, c.find-found.auto, c.requires.route_len, c.requires.room))
 
 pub returns : goal.returns
 returns c =
@@ -41,4 +41,4 @@ overflow_cast-result-2 c =
 pub overflow_cast-result : goal.overflow_cast-result
 overflow_cast-result c =
     let reach : (1 < c.in-Tail.len) × (c.in-Tail.len ≤ length c.find-found.new.route) = extent_tail c.find-found.ensures.extent c.in-Tail.is in
-    omega (arith, c.find-found.auto.route, c.requires.route_len.0, c.args.network.now.accepted.nodes_are, few_nodes c.args.network.now.accepted)
+    omega (arith, c.find-found.auto.route, c.requires.route_len, c.args.network.now.accepted.nodes_are, few_nodes c.args.network.now.accepted)
