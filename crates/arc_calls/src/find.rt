@@ -8,8 +8,8 @@ ghost use Rattle.star.specs.Found.{sought};
 ghost use Rattle.arc_calls.specs.Calls.{FindsArc, find_of, find_outcome};
 ghost use Rattle.arc_calls.specs.Answers.{found_numbers};
 
-use image::check::check;
 use image::Refusal;
+use image::check::check;
 use loading::{Network, number_arcs, read_arcs};
 use star::{Sought, find_arc};
 
