@@ -1,7 +1,7 @@
 -- A call's outcome as the numbers of a Reply or of a WeekReply. Assumes nothing.
 use Rattle.std.specs.Prelude.{ℕ, ◌-◌, Bool, not, List, [], ◌∷◌, ◌++◌, eqb, length, replicate}
 use Rattle.image.specs.Outcome.{Outcome, gives, refuses}
-use Rattle.c_replies.specs.declared.answers.Reply.{Reply}
+use Rattle.c_replies.specs.declared.reply.Reply.{Reply}
 use Rattle.c_replies.specs.declared.weeks.WeekReply.{WeekReply}
 
 -- the first number is 0 for a result, which has at most as many values as there is room; what is not used is 0

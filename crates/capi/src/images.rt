@@ -10,7 +10,7 @@ ghost use Rattle.record_calls.specs.Calls.{update_fault, update_outcome};
 ghost use Rattle.record_calls.specs.Updates.{Updates};
 ghost use Rattle.c_replies.specs.Replies.{numbers, reply_of};
 
-use c_replies::{Reply, of_built, of_checked, of_unpacked, of_updated};
+use c_replies::Reply;
 use image::check::check;
 use packing::build::build;
 use packing::unpack::unpack;
@@ -22,7 +22,7 @@ pub extern "C" fn vihrolom_check(image: &[u8]) -> Reply
     ensures { numbers result ≡ reply_of (check_outcome image.now) }
 {
     let answer = check(image);
-    of_checked(answer)
+    Reply::from(answer)
 }
 
 // REFERENCE, section 4.7. v0: the image's length.
@@ -40,7 +40,7 @@ pub extern "C" fn vihrolom_build(
     ensures reads_back { build_fault edition n k nodes.now costs.now (length image.old) ≡ sound → ReadsBack edition n k nodes.now costs.now }
 {
     let answer = build(edition, n, k, nodes, costs, image);
-    of_built(answer)
+    Reply::from(answer)
 }
 
 // REFERENCE, section 4.8. v0 to v3: n, m, k and the edition.
@@ -52,7 +52,7 @@ pub extern "C" fn vihrolom_unpack(image: &[u8], nodes: &mut [u16], costs: &mut [
     ensures writes_again { unpack_fault image.now (length nodes.old) (length costs.old) ≡ sound → WritesAgain image.now }
 {
     let answer = unpack(image, nodes, costs);
-    of_unpacked(answer)
+    Reply::from(answer)
 }
 
 // REFERENCE, section 4.10. No values.
@@ -63,5 +63,5 @@ pub extern "C" fn vihrolom_update(image: &mut [u8], records: &[u32]) -> Reply
     ensures updates { update_fault image.old records.now ≡ sound → Updates image.old (record_list records.now) }
 {
     let answer = update(image, records);
-    of_updated(answer)
+    Reply::from(answer)
 }

@@ -11,9 +11,7 @@ ghost use Rattle.search_calls.specs.Demands.{KeptSearch};
 ghost use Rattle.c_replies.specs.Replies.{numbers, reply_of};
 
 use arc_calls::find::find;
-use c_replies::{
-    Reply, of_decided, of_found, of_labelled, of_listed, of_regretted, of_routed, of_searched,
-};
+use c_replies::Reply;
 use column_calls::label::label;
 use column_calls::rank::rank;
 use column_calls::shortest::shortest;
@@ -28,7 +26,7 @@ pub extern "C" fn vihrolom_label(image: &[u8], column: u32, goal: u32, labels: &
     ensures labels_after { labels.new ≡ after (label_fault image.now column goal (length labels.old)) (labels_of image.now column goal) labels.old }
 {
     let answer = label(image, column, goal, labels);
-    of_labelled(answer)
+    Reply::from(answer)
 }
 
 // REFERENCE, section 4.3. v0: the path's length; v1: its cost.
@@ -44,7 +42,7 @@ pub extern "C" fn vihrolom_shortest(
     ensures path_after { path.new ≡ after (shortest_fault image.now column start goal (length path.old)) (shortest_of image.now column start goal) path.old }
 {
     let answer = shortest(image, column, start, goal, path);
-    of_routed(answer)
+    Reply::from(answer)
 }
 
 // REFERENCE, section 4.4. v0: the figure; v1: the worst column.
@@ -53,7 +51,7 @@ pub extern "C" fn vihrolom_regret(image: &[u8], start: u32, goal: u32, nodes: &[
     ensures { numbers result ≡ reply_of (regret_outcome image.now start goal nodes.now) }
 {
     let answer = regret(image, start, goal, nodes);
-    of_regretted(answer)
+    Reply::from(answer)
 }
 
 // REFERENCE, section 4.5. v0: the number of paths.
@@ -75,7 +73,7 @@ pub extern "C" fn vihrolom_rank(
     ensures kept2 { Kept2 image.now column start goal wanted (length rows.old) (length costs.old) (length work.old) }
 {
     let answer = rank(image, column, start, goal, wanted, rows, costs, work);
-    of_listed(answer)
+    Reply::from(answer)
 }
 
 // REFERENCE, section 4.6. v0: the path's length; v1: its figure; v2: its worst column; v3: the count;
@@ -96,7 +94,7 @@ pub extern "C" fn vihrolom_robust(
     ensures kept3 { Kept3 image.now column start goal wanted (length path.old) (length work.old) }
 {
     let answer = robust(image, column, start, goal, wanted, path, work);
-    of_decided(answer)
+    Reply::from(answer)
 }
 
 // REFERENCE, section 4.9. v0: 1 if the arc is found, 0 if not; v1: its index, 0 if not; v2: the number of
@@ -107,7 +105,7 @@ pub extern "C" fn vihrolom_find(image: &[u8], tail: u32, head: u32) -> Reply
     ensures finds_arc { image_fault image.now ≡ sound → FindsArc (net_of image.now).arcs (tail, head) (find_of image.now tail head) }
 {
     let answer = find(image, tail, head);
-    of_found(answer)
+    Reply::from(answer)
 }
 
 // REFERENCE, section 4.11. v0: the path's length; v1: its figure; v2: its worst column; v3: the arcs tried.
@@ -124,5 +122,5 @@ pub extern "C" fn vihrolom_search(
     ensures kept_search { KeptSearch image.now start goal limit (length path.old) }
 {
     let answer = search(image, start, goal, limit, path);
-    of_searched(answer)
+    Reply::from(answer)
 }

@@ -5,7 +5,7 @@ ghost use Rattle.week_calls.specs.Weeks.{fresh_fault, fresh_week, fresh_outcome,
 ghost use Rattle.week_calls.specs.Promise.{KeptWeek};
 ghost use Rattle.c_replies.specs.Replies.{week_numbers, week_reply_of, closes};
 
-use c_replies::{WeekReply, of_weekly};
+use c_replies::WeekReply;
 use week_calls::Week;
 use week_calls::event::event;
 use week_calls::fresh::fresh;
@@ -26,7 +26,7 @@ pub extern "C" fn vihrolom_week_fresh(
     ensures kept_week { KeptWeek image.now column start goal wanted (length work.old) }
 {
     let answer = fresh(image, column, start, goal, wanted, work);
-    of_weekly(answer)
+    WeekReply::from(answer)
 }
 
 // REFERENCE, section 4.13: a road that closes or opens. `close` is 0 to open it, and any other number to close it.
@@ -57,5 +57,5 @@ pub extern "C" fn vihrolom_week_event(
         close != 0,
         work,
     );
-    of_weekly(answer)
+    WeekReply::from(answer)
 }

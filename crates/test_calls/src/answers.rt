@@ -1,16 +1,12 @@
 // The answer of a call as numbers: its values, or the refusal's number and place.
-use arc_calls::Found;
-use column_calls::{Labelled, Listed, Routed};
-use image::{Checked, Refusal, Sizes, number, place};
-use network_calls::{Decided, Decision, Regretted};
-use packing::{Built, Unpacked};
-use search_calls::Searched;
+use column_calls::Path;
+use image::{Refusal, Sizes};
+use network_calls::{Decision, Measure};
 use test_fixtures::plain_image::Header;
-use test_fixtures::slices::holds_numbers;
 
 // A refusal's number and place; or the number 0, the place 0 and the values that the call gave,
 // filled up with 0.
-#[derive(Clone, Copy)]
+#[derive(Clone, Copy, PartialEq, Eq)]
 pub struct Answer {
     pub number: u32,
     pub place: u32,
@@ -76,11 +72,6 @@ pub fn written() -> Answer {
     pair(0, 0)
 }
 
-// The number of a row of the refusal table, and the place that it names.
-pub fn of_refusal(row: Refusal) -> Answer {
-    refusal(number(row), place(row))
-}
-
 // The edition, n and k of an image that was taken.
 pub fn header_of(given: Sizes) -> Header {
     Header {
@@ -90,72 +81,47 @@ pub fn header_of(given: Sizes) -> Header {
     }
 }
 
-fn of_sizes(given: Sizes) -> Answer {
-    sizes(header_of(given), given.m)
+// The result of a call as an answer.
+pub trait Values {
+    fn answer(self) -> Answer;
 }
 
-pub fn of_check(answer: Checked) -> Answer {
-    match answer {
-        Checked::Network(given) => of_sizes(given),
-        Checked::Refused(row) => of_refusal(row),
+impl Values for () {
+    fn answer(self) -> Answer {
+        written()
     }
 }
 
-pub fn of_build(answer: Built) -> Answer {
-    match answer {
-        Built::Image(bytes) => single(bytes),
-        Built::Refused(row) => of_refusal(row),
+impl Values for u32 {
+    fn answer(self) -> Answer {
+        single(self)
     }
 }
 
-pub fn of_unpack(answer: Unpacked) -> Answer {
-    match answer {
-        Unpacked::Lists(given) => of_sizes(given),
-        Unpacked::Refused(row) => of_refusal(row),
+impl Values for Sizes {
+    fn answer(self) -> Answer {
+        sizes(header_of(self), self.m)
     }
 }
 
-pub fn of_label(answer: Labelled) -> Answer {
-    match answer {
-        Labelled::Written => written(),
-        Labelled::Refused(row) => of_refusal(row),
+impl Values for Path {
+    fn answer(self) -> Answer {
+        pair(self.length, self.cost)
     }
 }
 
-pub fn of_shortest(answer: Routed) -> Answer {
-    match answer {
-        Routed::Path(length, cost) => pair(length, cost),
-        Routed::Refused(row) => of_refusal(row),
+impl Values for Measure {
+    fn answer(self) -> Answer {
+        pair(self.figure, self.worst)
     }
 }
 
-pub fn of_regret(answer: Regretted) -> Answer {
-    match answer {
-        Regretted::Measured(given) => pair(given.figure, given.worst),
-        Regretted::Refused(row) => of_refusal(row),
-    }
-}
-
-pub fn of_rank(answer: Listed) -> Answer {
-    match answer {
-        Listed::Paths(count) => single(count),
-        Listed::Refused(row) => of_refusal(row),
-    }
-}
-
-fn of_settled(given: Decision) -> Answer {
-    settled(given.length, given.figure, given.worst, given.count)
-}
-
-fn of_open(given: Decision, floor: u32) -> Answer {
-    left_open(given.length, given.figure, given.worst, given.count, floor)
-}
-
-pub fn of_robust(answer: Decided) -> Answer {
-    match answer {
-        Decided::Settled(given) => of_settled(given),
-        Decided::Open(given, floor) => of_open(given, floor),
-        Decided::Refused(row) => of_refusal(row),
+impl Values for Decision {
+    fn answer(self) -> Answer {
+        match self.floor {
+            None => settled(self.length, self.figure, self.worst, self.count),
+            Some(floor) => left_open(self.length, self.figure, self.worst, self.count, floor),
+        }
     }
 }
 
@@ -168,29 +134,26 @@ pub fn found(is_found: u32, index: u32, looks: u32) -> Answer {
     }
 }
 
-pub fn of_find(answer: Found) -> Answer {
-    match answer {
-        Found::At(index, looks) => found(1, index, looks),
-        Found::Nothing(looks) => found(0, 0, looks),
-        Found::Refused(row) => of_refusal(row),
+impl Values for arc_calls::Found {
+    fn answer(self) -> Answer {
+        match self.index {
+            Some(index) => found(1, index, self.looks),
+            None => found(0, 0, self.looks),
+        }
     }
 }
 
-pub fn of_search(answer: Searched) -> Answer {
-    match answer {
-        Searched::Found(given) => settled(given.length, given.figure, given.worst, given.tried),
-        Searched::Refused(row) => of_refusal(row),
+impl Values for search_calls::Found {
+    fn answer(self) -> Answer {
+        settled(self.length, self.figure, self.worst, self.tried)
     }
 }
 
-pub fn same_answer(a: Answer, b: Answer) -> bool {
-    if a.number != b.number {
-        return false;
+impl<T: Values> From<Result<T, Refusal>> for Answer {
+    fn from(given: Result<T, Refusal>) -> Answer {
+        match given {
+            Ok(result) => result.answer(),
+            Err(row) => refusal(row.number(), row.place()),
+        }
     }
-    if a.place != b.place {
-        return false;
-    }
-    let given = a.values;
-    let expected = b.values;
-    holds_numbers(&given, &expected)
 }

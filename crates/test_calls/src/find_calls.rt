@@ -1,8 +1,8 @@
 // Find held to the answer that it should give.
-use super::answers::{Answer, of_find, same_answer};
+use super::answers::Answer;
 use arc_calls::find::find;
 
 // Whether Find gives the answer.
 pub fn find_agrees(image: &[u8], tail: u32, head: u32, expected: Answer) -> bool {
-    same_answer(of_find(find(image, tail, head)), expected)
+    Answer::from(find(image, tail, head)) == expected
 }

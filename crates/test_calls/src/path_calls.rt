@@ -1,8 +1,6 @@
 // The calls of the path layer, each held to the answer that it should give and to what the slice
 // that is lent to it should hold after it.
-use super::answers::{
-    Answer, of_label, of_regret, of_shortest, pair, refusal, same_answer, written,
-};
+use super::answers::{Answer, pair, refusal, written};
 use test_fixtures::numbers::count;
 use test_fixtures::report::{LABEL, Report, SHORTEST};
 use test_fixtures::slices::{NODE_PATTERN, NUMBER_PATTERN, holds_nodes, holds_numbers};
@@ -19,8 +17,8 @@ fn label_into(
     expected: Answer,
     written: &[u32],
 ) -> bool {
-    let answer = of_label(column_calls::label::label(image, column, goal, labels));
-    if !same_answer(answer, expected) {
+    let answer = Answer::from(column_calls::label::label(image, column, goal, labels));
+    if answer != expected {
         return false;
     }
     holds_numbers(labels, written)
@@ -72,8 +70,8 @@ fn shortest_into(
     expected: Answer,
     written: &[u16],
 ) -> bool {
-    let answer = of_shortest(column_calls::shortest::shortest(image, column, start, goal, path));
-    if !same_answer(answer, expected) {
+    let answer = Answer::from(column_calls::shortest::shortest(image, column, start, goal, path));
+    if answer != expected {
         return false;
     }
     holds_nodes(path, written)
@@ -136,6 +134,6 @@ pub fn note_shortest(
 
 // Whether Regret gives the answer.
 pub fn regret_agrees(image: &[u8], start: u32, goal: u32, nodes: &[u16], expected: Answer) -> bool {
-    let answer = of_regret(network_calls::regret::regret(image, start, goal, nodes));
-    same_answer(answer, expected)
+    let answer = Answer::from(network_calls::regret::regret(image, start, goal, nodes));
+    answer == expected
 }

@@ -1,6 +1,6 @@
 // Rank, held to the answer that it should give and to what the slices that are lent to it should
 // hold after it.
-use super::answers::{Answer, of_rank, refusal, same_answer, single};
+use super::answers::{Answer, refusal, single};
 use test_fixtures::numbers::{count, places};
 use test_fixtures::report::{RANK, Report};
 use test_fixtures::slices::{NODE_PATTERN, NUMBER_PATTERN, holds_nodes, holds_numbers, is_filled};
@@ -70,7 +70,7 @@ pub fn rank_into(
     written_rows: &[u16],
     written_costs: &[u32],
 ) -> bool {
-    let answer = of_rank(column_calls::rank::rank(
+    let answer = Answer::from(column_calls::rank::rank(
         image,
         request.column,
         request.start,
@@ -80,7 +80,7 @@ pub fn rank_into(
         costs,
         work,
     ));
-    if !same_answer(answer, expected) {
+    if answer != expected {
         return false;
     }
     if !holds_nodes(rows, written_rows) {

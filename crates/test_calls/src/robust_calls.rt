@@ -1,6 +1,6 @@
 // Robust, held to the answer that it should give and to what the slices that are lent to it should
 // hold after it.
-use super::answers::{Answer, of_robust, refusal, same_answer};
+use super::answers::{Answer, refusal};
 use super::rank_calls::{Request, WORK_PLACES, less, needed_rooms, work_after};
 use test_fixtures::numbers::count;
 use test_fixtures::report::{ROBUST, Report};
@@ -34,7 +34,7 @@ pub fn longer_rooms(given: RouteRooms) -> RouteRooms {
 
 // Robust's answer to a request.
 pub fn robust_answer(image: &[u8], request: Request, path: &mut [u16], work: &mut [u32]) -> Answer {
-    of_robust(network_calls::robust::robust(
+    Answer::from(network_calls::robust::robust(
         image,
         request.column,
         request.start,
@@ -56,7 +56,7 @@ pub fn robust_into(
     written: &[u16],
 ) -> bool {
     let answer = robust_answer(image, request, path, work);
-    if !same_answer(answer, expected) {
+    if answer != expected {
         return false;
     }
     if !holds_nodes(path, written) {

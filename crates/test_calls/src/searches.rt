@@ -1,6 +1,6 @@
 // Search, held to the answer that it should give and to what the slice that is lent to it should hold after
 // it.
-use super::answers::{Answer, of_search, refusal, same_answer, settled};
+use super::answers::{Answer, refusal, settled};
 use search_calls::search::search;
 use test_fixtures::numbers::count;
 use test_fixtures::report::{Report, SEARCH};
@@ -25,8 +25,8 @@ fn search_into(
     expected: Answer,
     written: &[u16],
 ) -> bool {
-    let answer = of_search(search(image, quest.start, quest.goal, quest.limit, path));
-    if !same_answer(answer, expected) {
+    let answer = Answer::from(search(image, quest.start, quest.goal, quest.limit, path));
+    if answer != expected {
         return false;
     }
     holds_nodes(path, written)

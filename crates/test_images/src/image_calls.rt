@@ -2,10 +2,9 @@
 // that are lent to it should hold after it.
 use super::plain_answers::check_answer;
 use image::check::check;
-use packing::Unpacked;
 use packing::build::build;
 use packing::unpack::unpack;
-use test_calls::answers::{Answer, header_of, of_build, of_check, of_unpack, same_answer, single};
+use test_calls::answers::{Answer, header_of, single};
 use test_calls::refused_images::note_refused_paths;
 use test_fixtures::numbers::{count, product};
 use test_fixtures::plain_image::Header;
@@ -23,7 +22,7 @@ const COST_PLACES: usize = 8020;
 
 // Whether Check gives the answer.
 pub fn check_agrees(image: &[u8], expected: Answer) -> bool {
-    same_answer(of_check(check(image)), expected)
+    Answer::from(check(image)) == expected
 }
 
 // Build into a slice that holds the pattern.
@@ -35,8 +34,8 @@ fn build_into(
     expected: Answer,
     written: &[u8],
 ) -> bool {
-    let answer = of_build(build(header.edition, header.n, header.k, nodes, costs, image));
-    if !same_answer(answer, expected) {
+    let answer = Answer::from(build(header.edition, header.n, header.k, nodes, costs, image));
+    if answer != expected {
         return false;
     }
     holds_bytes(image, written)
@@ -75,8 +74,8 @@ fn unpack_into(
     written_nodes: &[u16],
     written_costs: &[u32],
 ) -> bool {
-    let answer = of_unpack(unpack(image, nodes, costs));
-    if !same_answer(answer, expected) {
+    let answer = Answer::from(unpack(image, nodes, costs));
+    if answer != expected {
         return false;
     }
     if !holds_nodes(nodes, written_nodes) {
@@ -132,7 +131,7 @@ fn build_back(image: &[u8], header: Header, m: u32, nodes: &[u16], costs: &[u32]
 // Unpack into slices, and Build from what it wrote.
 fn rebuild_with(image: &[u8], nodes: &mut [u16], costs: &mut [u32]) -> bool {
     let answer = unpack(image, nodes, costs);
-    let Unpacked::Lists(sizes) = answer else {
+    let Ok(sizes) = answer else {
         return false;
     };
     build_back(image, header_of(sizes), sizes.m, nodes, costs)

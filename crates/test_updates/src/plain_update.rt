@@ -1,7 +1,6 @@
 // What Update does, written apart from the library: of each arc and column the greatest stamp is sought among
 // all records, and then the last record that has it.
-use image::{number, place};
-use record_calls::Updated;
+use image::Refusal;
 use record_calls::update::update;
 use test_fixtures::networks::number_at;
 use test_fixtures::numbers::count;
@@ -121,10 +120,10 @@ fn same_bytes(a: &[u8], b: &[u8]) -> bool {
     true
 }
 
-fn numbers_of(answer: Updated) -> [u32; 2] {
+fn numbers_of(answer: Result<(), Refusal>) -> [u32; 2] {
     match answer {
-        Updated::Written => [0, 0],
-        Updated::Refused(row) => [number(row), place(row)],
+        Ok(()) => [0, 0],
+        Err(row) => [row.number(), row.place()],
     }
 }
 

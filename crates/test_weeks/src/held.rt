@@ -1,11 +1,11 @@
 // Fresh and Event, held to the state and the answer that they should give, and the workspace to what it should hold
 // after them.
-use test_calls::answers::{Answer, of_refusal, same_answer, single};
+use test_calls::answers::Answer;
 use test_calls::rank_calls::{Request, WORK_PLACES, work_after};
 use test_fixtures::slices::{NUMBER_PATTERN, holds_nodes, holds_numbers, is_filled};
 use week_calls::event::event;
 use week_calls::fresh::fresh;
-use week_calls::{Tally, Week, Weekly};
+use week_calls::{Week, Weekly};
 
 // What is asked of Event beside an image and a state, and how many places of the workspace are lent.
 #[derive(Clone, Copy)]
@@ -50,17 +50,10 @@ pub fn same_week(a: Week, b: Week) -> bool {
     holds_nodes(&route, &other_route) && holds_numbers(&numbers, &other_numbers)
 }
 
-fn of_tally(tally: Tally) -> Answer {
-    match tally {
-        Tally::ClosedRoads(count) => single(count),
-        Tally::Refused(row) => of_refusal(row),
-    }
-}
-
 fn same_weekly(given: Weekly, expected: Week, answer: Answer) -> bool {
     let tally = given.tally;
     let week = given.week;
-    same_answer(of_tally(tally), answer) && same_week(week, expected)
+    Answer::from(tally) == answer && same_week(week, expected)
 }
 
 // Event with a workspace that holds the pattern. After a result the workspace is 0.

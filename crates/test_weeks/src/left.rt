@@ -1,8 +1,8 @@
 // What is left of a network without its closed arcs: its lists, Robust on their image, and each column's best.
 use super::map::read_digits;
 use network_calls::robust::robust;
-use network_calls::{Decided, Decision};
-use test_calls::answers::of_refusal;
+use image::Refusal;
+use network_calls::Decision;
 use test_calls::rank_calls::{Request, WORK_PLACES};
 use test_enumerate::{Costs, Row};
 use test_fixtures::networks::{number_at, push};
@@ -119,11 +119,13 @@ pub fn numbered(words: [u64; 16], state: u32) -> Week {
 
 // The state that Robust's answer makes: 1 if it is settled, 2 if it is open, and the number of the refusal, which is
 // to be 15.
-fn state_of(words: [u64; 16], route: [u16; 200], answer: Decided) -> Week {
+fn state_of(words: [u64; 16], route: [u16; 200], answer: Result<Decision, Refusal>) -> Week {
     match answer {
-        Decided::Settled(given) => decided(words, route, 1, given, 0),
-        Decided::Open(given, floor) => decided(words, route, 2, given, floor),
-        Decided::Refused(row) => numbered(words, of_refusal(row).number),
+        Ok(given) => match given.floor {
+            None => decided(words, route, 1, given, 0),
+            Some(floor) => decided(words, route, 2, given, floor),
+        },
+        Err(row) => numbered(words, row.number()),
     }
 }
 
