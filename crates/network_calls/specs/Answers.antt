@@ -1,6 +1,7 @@
 -- The values of Regret's and Robust's results. Assumes nothing.
 use Rattle.std.specs.Prelude.{ℕ, Option, Some, None, List, [], ◌∷◌}
-use Rattle.choosing.specs.declared.answering.Decision.{Decision}
+pub use Rattle.choosing.specs.declared.answering.Decision.{Decision}
+pub use Rattle.choosing.specs.Answers.{answer_of, answered}
 use Rattle.network_calls.specs.declared.measured.Measure.{Measure}
 
 -- figure and worst column

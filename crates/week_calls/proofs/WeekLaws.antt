@@ -4,6 +4,7 @@ use native.Mathlib.Omega.{arith}
 use mathlib.Core.Path.{◌≡◌, refl, sym, ◌∙◌, ap, ap₂}
 use mathlib.Core.Bool.{Bool, true, false, not, ◌&&◌, cond}
 use mathlib.Core.List.{List, [], ◌∷◌, ◌++◌, foldr}
+use Rattle.std.specs.Prelude.{Result, Ok, Err}
 use lib.ListN.{length, get_or, drop, replicate, length-replicate}
 use borrow.Author.Tests.{eqb-true, eq-eqb, ne_eqb, leb-false, le-leb, lt-leb}
 use Rattle.terms.specs.Network.{Net, column, common}
@@ -26,9 +27,9 @@ use Rattle.loading.proofs.DecodeLaws.{admitted, arc_count_is}
 use Rattle.outcomes.proofs.RowLaws.{ranking_sound}
 use Rattle.outcomes.proofs.WorkLaws.{slots_fit}
 use Rattle.network_calls.specs.Held.{no_open_path, ChoiceSlices}
-use Rattle.network_calls.specs.Answers.{decided}
-use Rattle.network_calls.specs.declared.chosen.Decided.{Decided}
-use Rattle.network_calls.specs.declared.chosen.Decided.TheVariants as given
+use Rattle.network_calls.specs.Answers.{Decision, state_of, floor_of, decision_list}
+use Rattle.image.specs.Answers as image
+use Rattle.image.specs.declared.refusal.Refusal.{Refusal}
 use Rattle.week_calls.specs.Weeks.{week_of, run_week, with_map, route_of, stands, turns, changed, next_week, fresh_fault, event_row, if_sound}
 use Rattle.week_calls.specs.Asked.{Asked}
 use Rattle.week_calls.specs.declared.week.Question.{Question}
@@ -63,47 +64,38 @@ none_found net r s t K e =
     ap (λ l. answer (λ p. deviation net s t p r) (figure net s t) (worst net s t) (foldr (insert (column (common net) r)) [] l) K) none
 
 -- ---- what Robust gave and wrote is its answer's state
-gave_settled : (words : List ℕ) (d : Decided) (p : Route) (f w n : ℕ) → decided d ≡ gives (length p ∷ f ∷ w ∷ n ∷ 1 ∷ 0 ∷ []) → made words (padded 200 p) d ≡ week_of words (settled p f w n)
+module _ (words : List ℕ) (d : Decision) where
+  -- the state, from the values of its answer
+  listed : (a : Answer) → decision_list d ≡ robust_values a → made words (padded 200 (chosen a)) (Ok d) ≡ week_of words a
+  unfolding robust_values chosen week_of
+  listed (settled p f w n) e =
+      let el : d.length ≡ length p = cc in
+      let ef : d.figure ≡ f = cc in
+      let ew : d.worst ≡ w = cc in
+      let en : d.count ≡ n = cc in
+      let es : state_of d.floor ≡ 1 = cc in
+      let eb : floor_of d.floor ≡ 0 = cc in
+      λ i. record { closed = words; route = padded 200 p; state = es i; length = el i; figure = ef i; worst = ew i; count = en i; floor = eb i }
+  listed (left_open p f w n b) e =
+      let el : d.length ≡ length p = cc in
+      let ef : d.figure ≡ f = cc in
+      let ew : d.worst ≡ w = cc in
+      let en : d.count ≡ n = cc in
+      let es : state_of d.floor ≡ 2 = cc in
+      let eb : floor_of d.floor ≡ b = cc in
+      λ i. record { closed = words; route = padded 200 p; state = es i; length = el i; figure = ef i; worst = ew i; count = en i; floor = eb i }
+  listed no_path e = let z : ◌≡◌ {A = ℕ} 0 1 = cc in absurd (omega arith)
+
+gave : (words : List ℕ) (r : Result Decision Refusal) (a : Answer) → image.answer decision_list r ≡ gives (robust_values a) → made words (padded 200 (chosen a)) r ≡ week_of words a
+gave words (Ok d) a e = listed words d a cc
+gave words (Err r) a e = let z : ◌≡◌ {A = ℕ} 0 1 = cc in absurd (omega arith)
+
+gave_none : (words : List ℕ) (r : Result Decision Refusal) {number place : ℕ} → image.answer decision_list r ≡ refuses number place → made words (replicate 200 0) r ≡ week_of words no_path
 unfolding week_of
-gave_settled words (given.Settled d) p f w n e =
-    let el : d.length ≡ length p = cc in
-    let ef : d.figure ≡ f = cc in
-    let ew : d.worst ≡ w = cc in
-    let en : d.count ≡ n = cc in
-    λ i. record { closed = words; route = padded 200 p; state = 1; length = el i; figure = ef i; worst = ew i; count = en i; floor = 0 }
-gave_settled words (given.Open d b) p f w n e = let z : ◌≡◌ {A = ℕ} 2 1 = cc in absurd (omega arith)
-gave_settled words (given.Refused r) p f w n e = let z : ◌≡◌ {A = ℕ} 0 1 = cc in absurd (omega arith)
+gave_none words (Ok d) e = let z : ◌≡◌ {A = ℕ} 0 1 = cc in absurd (omega arith)
+gave_none words (Err r) e = refl
 
-gave_open : (words : List ℕ) (d : Decided) (p : Route) (f w n b : ℕ) → decided d ≡ gives (length p ∷ f ∷ w ∷ n ∷ 2 ∷ b ∷ []) → made words (padded 200 p) d ≡ week_of words (left_open p f w n b)
-unfolding week_of
-gave_open words (given.Settled d) p f w n b e = let z : ◌≡◌ {A = ℕ} 1 2 = cc in absurd (omega arith)
-gave_open words (given.Open d b') p f w n b e =
-    let el : d.length ≡ length p = cc in
-    let ef : d.figure ≡ f = cc in
-    let ew : d.worst ≡ w = cc in
-    let en : d.count ≡ n = cc in
-    let eb : b' ≡ b = cc in
-    λ i. record { closed = words; route = padded 200 p; state = 2; length = el i; figure = ef i; worst = ew i; count = en i; floor = eb i }
-gave_open words (given.Refused r) p f w n b e = let z : ◌≡◌ {A = ℕ} 0 1 = cc in absurd (omega arith)
-
-gave_none : (words : List ℕ) (d : Decided) {number place : ℕ} → decided d ≡ refuses number place → made words (replicate 200 0) d ≡ week_of words no_path
-unfolding week_of
-gave_none words (given.Settled d) e = let z : ◌≡◌ {A = ℕ} 0 1 = cc in absurd (omega arith)
-gave_none words (given.Open d b) e = let z : ◌≡◌ {A = ℕ} 0 1 = cc in absurd (omega arith)
-gave_none words (given.Refused r) e = refl
-
-never_empty : {A : Type 0} (d : Decided) → decided d ≡ gives [] → A
-never_empty (given.Settled d) e = let z : ◌≡◌ {A = ℕ} 0 1 = cc in absurd (omega arith)
-never_empty (given.Open d b) e = let z : ◌≡◌ {A = ℕ} 0 1 = cc in absurd (omega arith)
-never_empty (given.Refused r) e = let z : ◌≡◌ {A = ℕ} 0 1 = cc in absurd (omega arith)
-
-gave : (words : List ℕ) (d : Decided) (a : Answer) → decided d ≡ gives (robust_values a) → made words (padded 200 (chosen a)) d ≡ week_of words a
-unfolding robust_values chosen
-gave words d (settled p f w n) e = gave_settled words d p f w n e
-gave words d (left_open p f w n b) e = gave_open words d p f w n b e
-gave words d no_path e = never_empty d e
-
-pub made_is : (words : List ℕ) (d : Decided) (a : Answer) (f : Fault) (route : List ℕ) → ((number place : ℕ) → f ≡ fault number place → a ≡ no_path) → decided d ≡ outcome f (robust_values a) → route ≡ after f (chosen a) (replicate 200 0) → made words route d ≡ week_of words a
+pub made_is : (words : List ℕ) (d : Result Decision Refusal) (a : Answer) (f : Fault) (route : List ℕ) → ((number place : ℕ) → f ≡ fault number place → a ≡ no_path) → image.answer decision_list d ≡ outcome f (robust_values a) → route ≡ after f (chosen a) (replicate 200 0) → made words route d ≡ week_of words a
 made_is words d a sound route none e w = ap (λ l. made words l d) (w ∙ written (chosen a)) ∙ gave words d a (e ∙ outcome_sound _ refl)
 made_is words d a (fault number place) route none e w = ap (λ l. made words l d) (w ∙ after_fault _ _ refl) ∙ gave_none words d (e ∙ outcome_fault _ refl) ∙ ap (week_of words) (sym (none number place refl))
 

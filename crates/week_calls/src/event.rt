@@ -3,34 +3,17 @@ ghost use Rattle.std.specs.Prelude.{◌≡◌, not, cond, ◌<◌, length, repli
 ghost use Rattle.outcomes.specs.Calls.{cleared};
 ghost use Rattle.loading.specs.Networks.{net};
 ghost use Rattle.week_calls.specs.Asked.{Asked};
-ghost use Rattle.week_calls.specs.Weeks.{with_map, changed, next_week, event_fault, event_week, event_outcome};
-ghost use Rattle.week_calls.specs.Answers.{given};
+ghost use Rattle.week_calls.specs.Weeks.{changed, next_week, event_fault, event_week, event_outcome};
+ghost use Rattle.image.specs.Answers.{answer, one_number};
 
 use super::running::run;
 use super::standing::stands;
-use super::week::{Question, Tally, Week, Weekly};
+use super::week::{Question, Week, Weekly};
 use closures::{closed_roads, is_closed, turn};
-use image::{Checked, Refusal};
+use image::Refusal;
 use listing::clear;
 use loading::Network;
 use outcomes::check_ranking;
-
-// The state with another map, and all else as it was.
-fn moved(week: Week, closed: [u64; 16]) -> Week
-    ensures { result ≡ with_map week closed }
-{
-    let route = week.route;
-    Week {
-        closed,
-        route,
-        state: week.state,
-        length: week.length,
-        figure: week.figure,
-        worst: week.worst,
-        count: week.count,
-        floor: week.floor,
-    }
-}
 
 // The state after an event that turns over the bit of an arc: the answer stands, or it is found anew.
 fn change(
@@ -53,7 +36,10 @@ fn change(
         let goal = asked.goal as usize;
         if stands(network, start, goal, week, next, arc) {
             clear(work);
-            return moved(week, next);
+            return Week {
+                closed: next,
+                ..week
+            };
         }
     }
     run(network, asked, next, work)
@@ -63,10 +49,7 @@ fn change(
 fn turns(was_closed: bool, close: bool) -> bool
     ensures { result ≡ cond close (not was_closed) was_closed }
 {
-    if close {
-        return !was_closed;
-    }
-    was_closed
+    close != was_closed
 }
 
 // The state after an event. One that closes a closed arc or opens an open one changes nothing.
@@ -105,20 +88,22 @@ pub fn event(
     work: &mut [u32],
 ) -> Weekly
     ensures week_value { result.week ≡ event_week image.now column start goal wanted (length work.old) week arc close }
-    ensures tally_value { given result.tally ≡ event_outcome image.now column start goal wanted (length work.old) week arc close }
+    ensures tally_value { answer one_number result.tally ≡ event_outcome image.now column start goal wanted (length work.old) week arc close }
     ensures work_after { work.new ≡ cleared (event_fault image.now column start goal wanted (length work.old) arc) work.old }
 {
-    let answer = check_ranking(image, column, start, goal, wanted, work.len());
-    let Checked::Network(sizes) = answer else {
-        return Weekly {
-            week,
-            tally: Tally::Refused(answer.refusal()),
-        };
+    let sizes = match check_ranking(image, column, start, goal, wanted, work.len()) {
+        Ok(sizes) => sizes,
+        Err(refusal) => {
+            return Weekly {
+                week,
+                tally: Err(refusal),
+            };
+        }
     };
     if sizes.m <= arc {
         return Weekly {
             week,
-            tally: Tally::Refused(Refusal::WrongEventArc(arc)),
+            tally: Err(Refusal::WrongEventArc(arc)),
         };
     }
     let asked = Question {
@@ -133,6 +118,6 @@ pub fn event(
     let roads = closed_roads(&words, sizes.m as usize);
     Weekly {
         week: after,
-        tally: Tally::ClosedRoads(roads),
+        tally: Ok(roads),
     }
 }

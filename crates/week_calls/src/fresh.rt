@@ -2,12 +2,11 @@
 ghost use Rattle.std.specs.Prelude.{◌≡◌, length};
 ghost use Rattle.outcomes.specs.Calls.{cleared};
 ghost use Rattle.week_calls.specs.Weeks.{no_week, fresh_fault, fresh_week, fresh_outcome};
-ghost use Rattle.week_calls.specs.Answers.{given};
+ghost use Rattle.image.specs.Answers.{answer, one_number};
 ghost use Rattle.week_calls.specs.Promise.{KeptWeek};
 
 use super::running::run;
-use super::week::{Question, Tally, Week, Weekly};
-use image::Checked;
+use super::week::{Question, Week, Weekly};
 use loading::Network;
 use outcomes::check_ranking;
 
@@ -38,16 +37,18 @@ pub fn fresh(
     work: &mut [u32],
 ) -> Weekly
     ensures week_value { result.week ≡ fresh_week image.now column start goal wanted (length work.old) }
-    ensures tally_value { given result.tally ≡ fresh_outcome image.now column start goal wanted (length work.old) }
+    ensures tally_value { answer one_number result.tally ≡ fresh_outcome image.now column start goal wanted (length work.old) }
     ensures work_after { work.new ≡ cleared (fresh_fault image.now column start goal wanted (length work.old)) work.old }
     ensures kept_week { KeptWeek image.now column start goal wanted (length work.old) }
 {
-    let answer = check_ranking(image, column, start, goal, wanted, work.len());
-    let Checked::Network(sizes) = answer else {
-        return Weekly {
-            week: blank(),
-            tally: Tally::Refused(answer.refusal()),
-        };
+    let sizes = match check_ranking(image, column, start, goal, wanted, work.len()) {
+        Ok(sizes) => sizes,
+        Err(refusal) => {
+            return Weekly {
+                week: blank(),
+                tally: Err(refusal),
+            };
+        }
     };
     let asked = Question {
         column,
@@ -57,8 +58,5 @@ pub fn fresh(
     };
     let network = Network { image, sizes };
     let week = run(&network, asked, [0u64; 16], work);
-    Weekly {
-        week,
-        tally: Tally::ClosedRoads(0),
-    }
+    Weekly { week, tally: Ok(0) }
 }

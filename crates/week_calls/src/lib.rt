@@ -7,4 +7,4 @@ mod running;
 mod standing;
 mod week;
 
-pub use week::{Tally, Week, Weekly};
+pub use week::{Week, Weekly};

@@ -6,36 +6,27 @@ ghost use Rattle.week_calls.specs.Asked.{Asked};
 ghost use Rattle.week_calls.specs.Answers.{made};
 
 use super::week::{Question, Week};
+use image::Refusal;
 use listing::clear;
 use loading::Network;
-use network_calls::{Decided, choose_left};
+use network_calls::{Decision, choose_left};
 
 // Robust's answer as a state, with the route that it has written.
-fn hold(closed: [u64; 16], route: [u16; 200], answer: Decided) -> Week
+fn hold(closed: [u64; 16], route: [u16; 200], answer: Result<Decision, Refusal>) -> Week
     ensures { result ≡ made closed route answer }
 {
     match answer {
-        Decided::Settled(d) => Week {
+        Ok(found) => Week {
             closed,
             route,
-            state: 1,
-            length: d.length,
-            figure: d.figure,
-            worst: d.worst,
-            count: d.count,
-            floor: 0,
+            state: if found.floor.is_some() { 2 } else { 1 },
+            length: found.length,
+            figure: found.figure,
+            worst: found.worst,
+            count: found.count,
+            floor: found.floor.unwrap_or(0),
         },
-        Decided::Open(d, floor) => Week {
-            closed,
-            route,
-            state: 2,
-            length: d.length,
-            figure: d.figure,
-            worst: d.worst,
-            count: d.count,
-            floor,
-        },
-        Decided::Refused(_) => Week {
+        Err(_) => Week {
             closed,
             route,
             state: 15,

@@ -1,5 +1,5 @@
 // Whether the current answer stands when an arc is closed.
-ghost use Rattle.std.specs.Prelude.{◌≡◌, ◌<◌, min, length, get_or};
+ghost use Rattle.std.specs.Prelude.{◌≡◌, ◌<◌, length, get_or};
 ghost use Rattle.terms.specs.Regret as terms;
 ghost use Rattle.closures.specs.Map.{without};
 ghost use Rattle.closures.specs.Standing as standing;
@@ -51,16 +51,6 @@ fn same_bests(network: &Network<'_>, old: &[u64], new: &[u64], start: usize, goa
     )
 }
 
-// How much of a route is read: its length, but no more than its places.
-fn capped(length: u32) -> usize
-    ensures { result ≡ min length 200 }
-{
-    if length < 200 {
-        return length as usize;
-    }
-    200
-}
-
 // Whether a route goes by the arc at an index.
 fn touched(network: &Network<'_>, arc: usize, route: &[u16]) -> bool
     requires { arc < network.now.sizes.m }
@@ -87,7 +77,8 @@ pub fn stands(
     if week.state != 1 {
         return false;
     }
-    let count = capped(week.length);
+    // how much of the route is read: its length, but no more than its places
+    let count = week.length.min(200) as usize;
     let route = week.route;
     if touched(network, arc, &route[..count]) {
         return false;

@@ -16,20 +16,12 @@ pub struct Week {
     pub floor: u32,
 }
 
-// What is given beside the state.
-#[derive(Clone, Copy)]
-pub enum Tally {
-    // How many roads the map closes.
-    ClosedRoads(u32),
-    Refused(Refusal),
-}
-
-// The state after a call, and what is given beside it. A refused event leaves the state as it was, and a refused
-// fresh one is all 0.
+// The state after a call, and how many roads its map closes. A refused event leaves the state as it was, and a
+// refused fresh one is all 0.
 #[derive(Clone, Copy)]
 pub struct Weekly {
     pub week: Week,
-    pub tally: Tally,
+    pub tally: Result<u32, Refusal>,
 }
 
 // What is asked all week: Robust's question.

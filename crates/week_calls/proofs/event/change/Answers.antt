@@ -15,10 +15,11 @@ pub turn-next-requires : goal.turn-next-requires
 turn-next-requires c = omega (arith, c.requires.arc, few_arcs c.args.network.now.accepted)
 
 pub returns-then-stands : goal.returns-then-stands
+unfolding with_map
 returns-then-stands c =
     let net = net_of c.args.network.now.image.now in
     let kept = sym (ap (λ l. stands net c.args.asked.start c.args.asked.goal c.args.week l c.args.arc) c.turn-next.ensures) ∙ sym c.stands.ensures ∙ c.if-stands.true in
-    record { value = c.moved.ensures ∙ ap (with_map c.args.week) c.turn-next.ensures ∙ sym (change_stands net c.args.asked.column c.args.asked.start c.args.asked.goal c.args.asked.wanted c.args.week c.args.arc c.args.close c.if-close.true kept); work_after = c.clear.ensures }
+    record { value = ap (with_map c.args.week) c.turn-next.ensures ∙ sym (change_stands net c.args.asked.column c.args.asked.start c.args.asked.goal c.args.asked.wanted c.args.week c.args.arc c.args.close c.if-close.true kept); work_after = c.clear.ensures }
 
 pub returns : goal.returns
 returns c =

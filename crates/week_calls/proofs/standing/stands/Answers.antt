@@ -13,11 +13,11 @@ returns-then-week-ne1 c = sym (unsettled (net_of c.args.network.now.image.now) c
 pub returns-then-touched : goal.returns-then-touched
 unfolding route_of
 returns-then-touched c =
-    let went : c.touched.result ≡ touches (get_or (net_of c.args.network.now.image.now).arcs c.args.arc (0, 0)) (route_of c.args.week) = c.touched.ensures ∙ ap (λ k. touches (get_or (net_of c.args.network.now.image.now).arcs c.args.arc (0, 0)) (take k c.args.week.route)) c.capped-count.ensures in
+    let went : c.touched.result ≡ touches (get_or (net_of c.args.network.now.image.now).arcs c.args.arc (0, 0)) (route_of c.args.week) = c.touched.ensures ∙ ap (λ k. touches (get_or (net_of c.args.network.now.image.now).arcs c.args.arc (0, 0)) (take k c.args.week.route)) c.min-count.ensures in
     sym (went_by (net_of c.args.network.now.image.now) c.args.start c.args.goal c.args.week c.args.next c.args.arc c.if-week-ne1.false (sym went ∙ c.if-touched.true))
 
 pub returns : goal.returns
 unfolding route_of
 returns c =
-    let went : c.touched.result ≡ touches (get_or (net_of c.args.network.now.image.now).arcs c.args.arc (0, 0)) (route_of c.args.week) = c.touched.ensures ∙ ap (λ k. touches (get_or (net_of c.args.network.now.image.now).arcs c.args.arc (0, 0)) (take k c.args.week.route)) c.capped-count.ensures in
+    let went : c.touched.result ≡ touches (get_or (net_of c.args.network.now.image.now).arcs c.args.arc (0, 0)) (route_of c.args.week) = c.touched.ensures ∙ ap (λ k. touches (get_or (net_of c.args.network.now.image.now).arcs c.args.arc (0, 0)) (take k c.args.week.route)) c.min-count.ensures in
     c.same_bests.ensures ∙ sym (by_bests (net_of c.args.network.now.image.now) c.args.start c.args.goal c.args.week c.args.next c.args.arc c.if-week-ne1.false (sym went ∙ c.if-touched.false))
