@@ -41,14 +41,19 @@ module _ (b l : List ℕ) where
   unfolding both_fault row
   fours h = rw (eq-eqb (length l % 4) 0 h) (lower_sound (image_fault b))
 
+  early : (t : Bool) {n p : ℕ} → n ≤ 4 → lower (fault n p) (row 4 0 t) ≡ fault n p
+  unfolding row lower
+  early true {n} h = rw (le-leb n 4 h)
+  early false h = refl
+
+  pub image_first : {n p : ℕ} → image_fault b ≡ fault n p → n ≤ 4 → both_fault b l ≡ fault n p
+  unfolding both_fault
+  image_first e h = rw e (early _ h)
+
   module _ (odd : length l % 4 ≡ 0 → ⊥) where
     pub only_list : image_fault b ≡ sound → both_fault b l ≡ fault 4 0
     unfolding both_fault row lower
     only_list e = rw (ne_eqb (length l % 4) 0 odd, e)
-
-    pub image_first : {n p : ℕ} → image_fault b ≡ fault n p → n ≤ 4 → both_fault b l ≡ fault n p
-    unfolding both_fault row lower
-    image_first {n} e h = rw (ne_eqb (length l % 4) 0 odd, e, le-leb n 4 h)
 
     pub list_first : {n p : ℕ} → image_fault b ≡ fault n p → 4 < n → both_fault b l ≡ fault 4 0
     unfolding both_fault row lower

@@ -1,4 +1,3 @@
 pub mod Records
 pub mod Calls
-pub mod Answers
 pub mod Updates

@@ -3,5 +3,3 @@
 #![tactic(auto)]
 
 pub mod update;
-
-pub use update::Updated;

@@ -5,62 +5,46 @@ ghost use Rattle.image.specs.Outcome.{sound, outcome, after};
 ghost use Rattle.image.specs.Refusals.{verdict};
 ghost use Rattle.image.specs.Layout.{costs_start, total};
 ghost use Rattle.image.specs.Calls.{sizes};
-ghost use Rattle.image.specs.Answers.{checked};
+ghost use Rattle.image.specs.Answers.{answer, no_values, size_list};
 ghost use Rattle.record_calls.specs.Records.{record_of, record_list, costs_after, image_after};
 ghost use Rattle.record_calls.specs.Calls.{record_fault, records_fault, both_fault, update_fault, update_outcome};
-ghost use Rattle.record_calls.specs.Answers.{updated};
 ghost use Rattle.record_calls.specs.Updates.{Updates};
+ghost use Rattle.image.proofs.ByteLaws.{AllBytes};
 
 use image::check::check;
-use image::{Checked, Refusal, Sizes, Verdict, cost_count, costs_start, is_cost, number, write32};
-
-// Update's answer.
-#[derive(Clone, Copy)]
-pub enum Updated {
-    Written,
-    Refused(Refusal),
-}
+use image::{Refusal, Sizes, cost_count, costs_start, is_cost, write32};
 
 // Rows 17, 18 and 9 for the record at an index, in an image of these sizes.
-fn check_record(sizes: Sizes, index: usize, arc: u32, column: u32, cost: u32) -> Verdict
+fn check_record(sizes: Sizes, index: usize, arc: u32, column: u32, cost: u32) -> Result<(), Refusal>
     ensures { (stamp : ℕ) → verdict result ≡ record_fault sizes.edition sizes.m sizes.k index (record_of arc column cost stamp) }
 {
     let place = (index % 4294967296) as u32;
     if sizes.m <= arc {
-        return Verdict::Refused(Refusal::WrongRecordArc(place));
+        return Err(Refusal::WrongRecordArc(place));
     }
-    if column < 1 {
-        return Verdict::Refused(Refusal::WrongRecordColumn(place));
-    }
-    if sizes.k < column {
-        return Verdict::Refused(Refusal::WrongRecordColumn(place));
+    if !(1..=sizes.k).contains(&column) {
+        return Err(Refusal::WrongRecordColumn(place));
     }
     if !is_cost(sizes.edition, cost) {
-        return Verdict::Refused(Refusal::CostTooLarge(place));
+        return Err(Refusal::CostTooLarge(place));
     }
-    Verdict::Sound
+    Ok(())
 }
 
 // The same for all records of a list.
-fn check_records(sizes: Sizes, records: &[u32]) -> Verdict
+fn check_records(sizes: Sizes, records: &[u32]) -> Result<(), Refusal>
     ensures { verdict result ≡ records_fault sizes.edition sizes.m sizes.k 0 (record_list records.now) }
 {
-    let count = records.len() / 4;
-    let mut i = 0;
-    while i < count {
-        let verdict = check_record(
+    for i in 0..records.len() / 4 {
+        check_record(
             sizes,
             i,
             records[4 * i],
             records[4 * i + 1],
             records[4 * i + 2],
-        );
-        let Verdict::Sound = verdict else {
-            return verdict;
-        };
-        i += 1;
+        )?;
     }
-    Verdict::Sound
+    Ok(())
 }
 
 // Writes a cost at a place of the list of costs, which begins at `start`, unless a greater stamp stands there.
@@ -117,37 +101,27 @@ fn write_records(image: &mut [u8], sizes: Sizes, records: &[u32])
     write_records_in(image, sizes, records, &mut stamps[..count]);
 }
 
-// The image's own rows, and among them row 4 for the length of the list.
-fn check_both(image: &[u8], records: &[u32]) -> Checked
-    ensures { checked result ≡ outcome (both_fault image.now records.now) (sizes image.now) }
+// The image's own rows, and among them row 4 for the length of the list, which is due only if no row up to 4 of
+// the image is.
+fn check_both(image: &[u8], records: &[u32]) -> Result<Sizes, Refusal>
+    ensures answer { answer size_list result ≡ outcome (both_fault image.now records.now) (sizes image.now) }
+    ensures bytes { AllBytes image.now }
 {
-    let answer = check(image);
-    if records.len() % 4 == 0 {
-        return answer;
+    match check(image) {
+        Err(refusal) if refusal.number() <= 4 => Err(refusal),
+        _ if records.len() % 4 != 0 => Err(Refusal::WrongField),
+        answer => answer,
     }
-    let Checked::Refused(refusal) = answer else {
-        return Checked::Refused(Refusal::WrongField);
-    };
-    if number(refusal) <= 4 {
-        return answer;
-    }
-    Checked::Refused(Refusal::WrongField)
 }
 
 // REFERENCE, section 4.10.
-pub fn update(image: &mut [u8], records: &[u32]) -> Updated
-    ensures result_value { updated result ≡ update_outcome image.old records.now }
+pub fn update(image: &mut [u8], records: &[u32]) -> Result<(), Refusal>
+    ensures result_value { answer no_values result ≡ update_outcome image.old records.now }
     ensures image_after { image.new ≡ after (update_fault image.old records.now) (image_after image.old (record_list records.now)) image.old }
     ensures updates { update_fault image.old records.now ≡ sound → Updates image.old (record_list records.now) }
 {
-    let answer = check_both(image, records);
-    let Checked::Network(sizes) = answer else {
-        return Updated::Refused(answer.refusal());
-    };
-    let list = check_records(sizes, records);
-    if let Verdict::Refused(refusal) = list {
-        return Updated::Refused(refusal);
-    }
+    let sizes = check_both(image, records)?;
+    check_records(sizes, records)?;
     write_records(image, sizes, records);
-    Updated::Written
+    Ok(())
 }
