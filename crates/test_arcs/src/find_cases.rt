@@ -1,11 +1,13 @@
 // Find on networks of 0 to 3 and of 1,000 arcs, and between nodes for which the answer is written down.
 use super::pairs::note_network;
+use arrayvec::ArrayVec;
 use std::io;
 use test_calls::answers::found;
 use test_calls::find_calls::find_agrees;
+use test_fixtures::case_images::network_s;
 use test_fixtures::networks::{S_COSTS, S_NODES, largest_nodes};
-use test_fixtures::plain_image::first_edition;
-use test_fixtures::report::{FIND, Report};
+use test_fixtures::plain_image::{Network, first_edition};
+use test_fixtures::report::{Call, Report};
 
 // Each row: tail and head on network S; 1 or 0, the index and the looks.
 const S_FOUND: [[u32; 5]; 9] = [
@@ -20,61 +22,30 @@ const S_FOUND: [[u32; 5]; 9] = [
     [3, 2, 0, 0, 3],
 ];
 
-fn note_row(report: Report, image: &[u8], row: [u32; 5]) -> Report {
-    let expected = found(row[2], row[3], row[4]);
-    report.note(FIND, find_agrees(image, row[0], row[1], expected))
-}
-
+// Find on an image gives what the rows say.
 fn note_rows(mut report: Report, image: &[u8], rows: &[[u32; 5]]) -> Report {
-    for i in 0..rows.len() {
-        report = note_row(report, image, rows[i]);
+    for &[tail, head, is_found, index, looks] in rows {
+        let expected = found(is_found, index, looks);
+        report = report.note(Call::Find, find_agrees(image, tail, head, expected));
     }
     report
 }
 
-fn note_s(image: &mut [u8]) -> Report {
-    let report = note_network(
-        Report::new(),
-        first_edition(4, 2),
-        &S_NODES,
-        &S_COSTS,
-        image,
-    );
-    note_rows(report, image, &S_FOUND)
-}
-
-fn network_s(rt: &impl Print) -> io::Result<()> {
-    let mut image = [0u8; 84];
-    note_s(&mut image).print(rt, b"network S")
+fn note_s() -> Report {
+    let network = Network::new(first_edition(4, 2), &S_NODES, &S_COSTS);
+    note_rows(note_network(Report::new(), network), &network_s(), &S_FOUND)
 }
 
 // n = 4, k = 1: the first arcs of the line 1 2 3 4.
-fn note_lines(nodes: &[u16], costs: &[u32], image: &mut [u8]) -> Report {
-    let mut report = Report::new();
-    for m in 0..4usize {
-        let ends = 2 * m;
-        if nodes.len() < ends {
-            return report.note(FIND, false);
-        }
-        if costs.len() < m {
-            return report.note(FIND, false);
-        }
-        report = note_network(
-            report,
-            first_edition(4, 1),
-            &nodes[0..ends],
-            &costs[0..m],
-            image,
-        );
-    }
-    report
-}
-
-fn short_lines(rt: &impl Print) -> io::Result<()> {
+fn note_lines() -> Report {
     let nodes = [1u16, 2, 2, 3, 3, 4];
     let costs = [7u32; 3];
-    let mut image = [0u8; 48];
-    note_lines(&nodes, &costs, &mut image).print(rt, b"0 to 3 arcs")
+    let mut report = Report::new();
+    for m in 0..4usize {
+        let network = Network::new(first_edition(4, 1), &nodes[..2 * m], &costs[..m]);
+        report = note_network(report, network);
+    }
+    report
 }
 
 // On the largest network: the last record, and what stands behind it, take 10 looks.
@@ -85,22 +56,18 @@ const LARGEST_FOUND: [[u32; 5]; 4] = [
     [1, 2, 1, 0, 9],
 ];
 
-fn note_largest(nodes: &mut [u16], costs: &[u32], image: &mut [u8]) -> Report {
-    largest_nodes(nodes);
-    let report = note_network(Report::new(), first_edition(200, 1), nodes, costs, image);
-    note_rows(report, image, &LARGEST_FOUND)
-}
-
 // n = 200, m = 1,000, k = 1.
-fn largest_network(rt: &impl Print) -> io::Result<()> {
+fn note_largest() -> Report {
     let mut nodes = [0u16; 2000];
-    let costs = [7u32; 1000];
-    let mut image = [0u8; 8024];
-    note_largest(&mut nodes, &costs, &mut image).print(rt, b"1,000 arcs")
+    largest_nodes(&mut nodes);
+    let network = Network::new(first_edition(200, 1), &nodes, &[7; 1000]);
+    let image: ArrayVec<u8, 8024> = network.image();
+    let report = note_network(Report::new(), network);
+    note_rows(report, image.as_slice(), &LARGEST_FOUND)
 }
 
 pub fn run(rt: &impl Print) -> io::Result<()> {
-    network_s(rt)?;
-    short_lines(rt)?;
-    largest_network(rt)
+    note_s().print(rt, "network S")?;
+    note_lines().print(rt, "0 to 3 arcs")?;
+    note_largest().print(rt, "1,000 arcs")
 }

@@ -21,50 +21,39 @@ pub fn refusal(number: u32, place: u32) -> Answer {
     }
 }
 
-// Build's result, a length in bytes, Rank's, a number of paths, or an event's, a number of closed roads.
-pub fn single(value: u32) -> Answer {
+// These values, filled up with 0.
+fn given(values: [u32; 6]) -> Answer {
     Answer {
         number: 0,
         place: 0,
-        values: [value, 0, 0, 0, 0, 0],
+        values,
     }
+}
+
+// Build's result, a length in bytes, Rank's, a number of paths, or an event's, a number of closed roads.
+pub fn single(value: u32) -> Answer {
+    given([value, 0, 0, 0, 0, 0])
 }
 
 // Check's and Unpack's result: n, m, k and the edition.
 pub fn sizes(header: Header, m: u32) -> Answer {
-    Answer {
-        number: 0,
-        place: 0,
-        values: [header.n, m, header.k, header.edition, 0, 0],
-    }
+    given([header.n, m, header.k, header.edition, 0, 0])
 }
 
 // Shortest's result, a length and a cost, or Regret's, a figure and a worst column.
 pub fn pair(first: u32, second: u32) -> Answer {
-    Answer {
-        number: 0,
-        place: 0,
-        values: [first, second, 0, 0, 0, 0],
-    }
+    given([first, second, 0, 0, 0, 0])
 }
 
 // Robust's result where it is settled, or Search's: the length, the figure, the worst column, and the count of
 // paths or of arcs tried.
 pub fn settled(length: u32, figure: u32, worst: u32, count: u32) -> Answer {
-    Answer {
-        number: 0,
-        place: 0,
-        values: [length, figure, worst, count, 0, 0],
-    }
+    given([length, figure, worst, count, 0, 0])
 }
 
 // Robust's result where it is open: the same, a mark and the floor.
 pub fn left_open(length: u32, figure: u32, worst: u32, count: u32, floor: u32) -> Answer {
-    Answer {
-        number: 0,
-        place: 0,
-        values: [length, figure, worst, count, 1, floor],
-    }
+    given([length, figure, worst, count, 1, floor])
 }
 
 // Label's result, which has no values.
@@ -127,11 +116,7 @@ impl Values for Decision {
 
 // Find's result: 1 or 0, the index, and the number of looks.
 pub fn found(is_found: u32, index: u32, looks: u32) -> Answer {
-    Answer {
-        number: 0,
-        place: 0,
-        values: [is_found, index, looks, 0, 0, 0],
-    }
+    given([is_found, index, looks, 0, 0, 0])
 }
 
 impl Values for arc_calls::Found {

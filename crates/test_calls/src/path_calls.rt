@@ -2,8 +2,8 @@
 // that is lent to it should hold after it.
 use super::answers::{Answer, pair, refusal, written};
 use test_fixtures::numbers::count;
-use test_fixtures::report::{LABEL, Report, SHORTEST};
-use test_fixtures::slices::{NODE_PATTERN, NUMBER_PATTERN, holds_nodes, holds_numbers};
+use test_fixtures::report::{Call, Report};
+use test_fixtures::slices::{Pattern, holds};
 
 // Places for 200 nodes, and some more.
 const PLACES: usize = 210;
@@ -18,10 +18,7 @@ fn label_into(
     written: &[u32],
 ) -> bool {
     let answer = Answer::from(column_calls::label::label(image, column, goal, labels));
-    if answer != expected {
-        return false;
-    }
-    holds_numbers(labels, written)
+    answer == expected && holds(labels, written)
 }
 
 // Whether Label into a slice of `room` places gives the answer, and writes these labels and no
@@ -34,30 +31,24 @@ pub fn label_agrees(
     expected: Answer,
     written: &[u32],
 ) -> bool {
-    let mut places = [NUMBER_PATTERN; PLACES];
-    if PLACES < room {
-        return false;
-    }
-    label_into(image, column, goal, &mut places[0..room], expected, written)
+    let mut places = [u32::PATTERN; PLACES];
+    room <= PLACES && label_into(image, column, goal, &mut places[..room], expected, written)
 }
 
 // Label of a network with as many nodes as labels, into a slice that is exactly long enough, into a
 // longer one and into one a place too short.
 pub fn note_label(report: Report, image: &[u8], column: u32, goal: u32, labels: &[u32]) -> Report {
     let n = labels.len();
-    if n == 0 {
-        return report.note(LABEL, false);
-    }
-    if 200 < n {
-        return report.note(LABEL, false);
+    if n == 0 || 200 < n {
+        return report.note(Call::Label, false);
     }
     let exact = label_agrees(image, column, goal, n, written(), labels);
     let longer = label_agrees(image, column, goal, n + 9, written(), labels);
     let shorter = label_agrees(image, column, goal, n - 1, refusal(13, 0), &[]);
     report
-        .note(LABEL, exact)
-        .note(LABEL, longer)
-        .note(LABEL, shorter)
+        .note(Call::Label, exact)
+        .note(Call::Label, longer)
+        .note(Call::Label, shorter)
 }
 
 // Shortest into a slice that holds the pattern.
@@ -71,10 +62,7 @@ fn shortest_into(
     written: &[u16],
 ) -> bool {
     let answer = Answer::from(column_calls::shortest::shortest(image, column, start, goal, path));
-    if answer != expected {
-        return false;
-    }
-    holds_nodes(path, written)
+    answer == expected && holds(path, written)
 }
 
 // Whether Shortest into a slice of `room` places gives the answer, and writes these nodes and no
@@ -88,19 +76,17 @@ pub fn shortest_agrees(
     expected: Answer,
     written: &[u16],
 ) -> bool {
-    let mut places = [NODE_PATTERN; PLACES];
-    if PLACES < room {
-        return false;
-    }
-    shortest_into(
-        image,
-        column,
-        start,
-        goal,
-        &mut places[0..room],
-        expected,
-        written,
-    )
+    let mut places = [u16::PATTERN; PLACES];
+    room <= PLACES
+        && shortest_into(
+            image,
+            column,
+            start,
+            goal,
+            &mut places[..room],
+            expected,
+            written,
+        )
 }
 
 // Shortest of a network of n nodes, into a slice that is exactly long enough, into a longer one and
@@ -115,11 +101,8 @@ pub fn note_shortest(
     nodes: &[u16],
     cost: u32,
 ) -> Report {
-    if n == 0 {
-        return report.note(SHORTEST, false);
-    }
-    if 200 < n {
-        return report.note(SHORTEST, false);
+    if n == 0 || 200 < n {
+        return report.note(Call::Shortest, false);
     }
     let found = pair(count(nodes.len()), cost);
     let short = refusal(13, 0);
@@ -127,9 +110,9 @@ pub fn note_shortest(
     let longer = shortest_agrees(image, column, start, goal, n + 9, found, nodes);
     let shorter = shortest_agrees(image, column, start, goal, n - 1, short, &[]);
     report
-        .note(SHORTEST, exact)
-        .note(SHORTEST, longer)
-        .note(SHORTEST, shorter)
+        .note(Call::Shortest, exact)
+        .note(Call::Shortest, longer)
+        .note(Call::Shortest, shorter)
 }
 
 // Whether Regret gives the answer.

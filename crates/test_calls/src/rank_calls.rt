@@ -2,8 +2,8 @@
 // hold after it.
 use super::answers::{Answer, refusal, single};
 use test_fixtures::numbers::{count, places};
-use test_fixtures::report::{RANK, Report};
-use test_fixtures::slices::{NODE_PATTERN, NUMBER_PATTERN, holds_nodes, holds_numbers, is_filled};
+use test_fixtures::report::{Call, Report};
+use test_fixtures::slices::{Pattern, holds, is_filled};
 
 // Places for 256 paths of eight nodes and the workspace for them, and some more.
 const ROW_PLACES: usize = 2060;
@@ -49,13 +49,13 @@ pub fn longer(given: Rooms) -> Rooms {
 
 // A place less, where there is one.
 pub fn less(room: usize) -> usize {
-    if room == 0 { 0 } else { room - 1 }
+    room.saturating_sub(1)
 }
 
 // What the workspace holds after a call with this number: nothing was written if it is a refusal,
 // and all of it is 0 if not.
 pub fn work_after(number: u32) -> u32 {
-    if number == 0 { 0 } else { NUMBER_PATTERN }
+    if number == 0 { 0 } else { u32::PATTERN }
 }
 
 // Whether Rank gives the answer, and writes these rows and costs and no others, with slices that
@@ -80,16 +80,10 @@ pub fn rank_into(
         costs,
         work,
     ));
-    if answer != expected {
-        return false;
-    }
-    if !holds_nodes(rows, written_rows) {
-        return false;
-    }
-    if !holds_numbers(costs, written_costs) {
-        return false;
-    }
-    is_filled(work, work_after(expected.number))
+    answer == expected
+        && holds(rows, written_rows)
+        && holds(costs, written_costs)
+        && is_filled(work, work_after(expected.number))
 }
 
 // The same, with slices made for it: enough for networks of up to eight nodes.
@@ -101,27 +95,21 @@ pub fn rank_agrees(
     written_rows: &[u16],
     written_costs: &[u32],
 ) -> bool {
-    let mut rows = [NODE_PATTERN; ROW_PLACES];
-    let mut costs = [NUMBER_PATTERN; COST_PLACES];
-    let mut work = [NUMBER_PATTERN; WORK_PLACES];
+    let mut rows = [u16::PATTERN; ROW_PLACES];
+    let mut costs = [u32::PATTERN; COST_PLACES];
+    let mut work = [u32::PATTERN; WORK_PLACES];
     let row_room = lent.rows;
     let cost_room = lent.costs;
     let work_room = lent.work;
-    if ROW_PLACES < row_room {
-        return false;
-    }
-    if COST_PLACES < cost_room {
-        return false;
-    }
-    if WORK_PLACES < work_room {
+    if ROW_PLACES < row_room || COST_PLACES < cost_room || WORK_PLACES < work_room {
         return false;
     }
     rank_into(
         image,
         request,
-        &mut rows[0..row_room],
-        &mut costs[0..cost_room],
-        &mut work[0..work_room],
+        &mut rows[..row_room],
+        &mut costs[..cost_room],
+        &mut work[..work_room],
         expected,
         written_rows,
         written_costs,
@@ -133,26 +121,23 @@ pub fn note_short_ranks(report: Report, image: &[u8], request: Request, needed: 
     let short = refusal(13, 0);
     let short_rows = Rooms {
         rows: less(needed.rows),
-        costs: needed.costs,
-        work: needed.work,
+        ..needed
     };
     let short_costs = Rooms {
-        rows: needed.rows,
         costs: less(needed.costs),
-        work: needed.work,
+        ..needed
     };
     let short_work = Rooms {
-        rows: needed.rows,
-        costs: needed.costs,
         work: less(needed.work),
+        ..needed
     };
     let by_rows = rank_agrees(image, request, short_rows, short, &[], &[]);
     let by_costs = rank_agrees(image, request, short_costs, short, &[], &[]);
     let by_work = rank_agrees(image, request, short_work, short, &[], &[]);
     report
-        .note(RANK, by_rows)
-        .note(RANK, by_costs)
-        .note(RANK, by_work)
+        .note(Call::Rank, by_rows)
+        .note(Call::Rank, by_costs)
+        .note(Call::Rank, by_work)
 }
 
 // Rank of a network of n nodes with these rows and costs as its result, with slices that are exactly
@@ -170,7 +155,7 @@ pub fn note_rank(
     let exact = rank_agrees(image, request, needed, found, rows, costs);
     let more = rank_agrees(image, request, longer(needed), found, rows, costs);
     note_short_ranks(
-        report.note(RANK, exact).note(RANK, more),
+        report.note(Call::Rank, exact).note(Call::Rank, more),
         image,
         request,
         needed,

@@ -5,7 +5,7 @@ use super::path_calls::{label_agrees, regret_agrees, shortest_agrees};
 use super::rank_calls::{Request, Rooms, needed_rooms, rank_agrees};
 use super::robust_calls::{RouteRooms, needed_route_rooms, robust_agrees};
 use super::searches::{Quest, note_refused};
-use test_fixtures::report::{FIND, LABEL, RANK, REGRET, ROBUST, Report, SHORTEST};
+use test_fixtures::report::{Call, Report};
 
 // A request that network S admits.
 fn admitted() -> Request {
@@ -35,14 +35,16 @@ fn note_refused_ranks(report: Report, image: &[u8], expected: Answer) -> Report 
     };
     let asked = rank_agrees(image, admitted(), needed_rooms(4, 5), expected, &[], &[]);
     let not_asked = rank_agrees(image, nothing(), empty, expected, &[], &[]);
-    report.note(RANK, asked).note(RANK, not_asked)
+    report.note(Call::Rank, asked).note(Call::Rank, not_asked)
 }
 
 fn note_refused_robusts(report: Report, image: &[u8], expected: Answer) -> Report {
     let empty = RouteRooms { path: 0, work: 0 };
     let asked = robust_agrees(image, admitted(), needed_route_rooms(4, 5), expected, &[]);
     let not_asked = robust_agrees(image, nothing(), empty, expected, &[]);
-    report.note(ROBUST, asked).note(ROBUST, not_asked)
+    report
+        .note(Call::Robust, asked)
+        .note(Call::Robust, not_asked)
 }
 
 fn note_refused_searches(report: Report, image: &[u8], expected: Answer) -> Report {
@@ -65,14 +67,23 @@ fn note_refused_searches(report: Report, image: &[u8], expected: Answer) -> Repo
 // Every call of the path layer refuses the image with this answer and writes nothing, whatever else
 // it is given.
 pub fn note_refused_paths(mut report: Report, image: &[u8], expected: Answer) -> Report {
-    report = report.note(LABEL, label_agrees(image, 1, 4, 12, expected, &[]));
-    report = report.note(LABEL, label_agrees(image, 0, 0, 0, expected, &[]));
-    report = report.note(SHORTEST, shortest_agrees(image, 1, 1, 4, 12, expected, &[]));
-    report = report.note(SHORTEST, shortest_agrees(image, 0, 0, 0, 0, expected, &[]));
-    report = report.note(REGRET, regret_agrees(image, 1, 4, &[1, 3, 4], expected));
-    report = report.note(REGRET, regret_agrees(image, 0, 0, &[], expected));
-    report = report.note(FIND, find_agrees(image, 1, 2, expected));
-    report = report.note(FIND, find_agrees(image, 0, 0, expected));
+    report = report.note(Call::Label, label_agrees(image, 1, 4, 12, expected, &[]));
+    report = report.note(Call::Label, label_agrees(image, 0, 0, 0, expected, &[]));
+    report = report.note(
+        Call::Shortest,
+        shortest_agrees(image, 1, 1, 4, 12, expected, &[]),
+    );
+    report = report.note(
+        Call::Shortest,
+        shortest_agrees(image, 0, 0, 0, 0, expected, &[]),
+    );
+    report = report.note(
+        Call::Regret,
+        regret_agrees(image, 1, 4, &[1, 3, 4], expected),
+    );
+    report = report.note(Call::Regret, regret_agrees(image, 0, 0, &[], expected));
+    report = report.note(Call::Find, find_agrees(image, 1, 2, expected));
+    report = report.note(Call::Find, find_agrees(image, 0, 0, expected));
     report = note_refused_searches(report, image, expected);
     report = note_refused_ranks(report, image, expected);
     note_refused_robusts(report, image, expected)

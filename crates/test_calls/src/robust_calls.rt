@@ -3,8 +3,8 @@
 use super::answers::{Answer, refusal};
 use super::rank_calls::{Request, WORK_PLACES, less, needed_rooms, work_after};
 use test_fixtures::numbers::count;
-use test_fixtures::report::{ROBUST, Report};
-use test_fixtures::slices::{NODE_PATTERN, NUMBER_PATTERN, holds_nodes, is_filled};
+use test_fixtures::report::{Call, Report};
+use test_fixtures::slices::{Pattern, holds, is_filled};
 
 // Places for a path of eight nodes, and some more.
 const PATH_PLACES: usize = 20;
@@ -56,13 +56,7 @@ pub fn robust_into(
     written: &[u16],
 ) -> bool {
     let answer = robust_answer(image, request, path, work);
-    if answer != expected {
-        return false;
-    }
-    if !holds_nodes(path, written) {
-        return false;
-    }
-    is_filled(work, work_after(expected.number))
+    answer == expected && holds(path, written) && is_filled(work, work_after(expected.number))
 }
 
 // The same, with slices made for it: enough for networks of up to eight nodes.
@@ -73,21 +67,18 @@ pub fn robust_agrees(
     expected: Answer,
     written: &[u16],
 ) -> bool {
-    let mut path = [NODE_PATTERN; PATH_PLACES];
-    let mut work = [NUMBER_PATTERN; WORK_PLACES];
+    let mut path = [u16::PATTERN; PATH_PLACES];
+    let mut work = [u32::PATTERN; WORK_PLACES];
     let path_room = lent.path;
     let work_room = lent.work;
-    if PATH_PLACES < path_room {
-        return false;
-    }
-    if WORK_PLACES < work_room {
+    if PATH_PLACES < path_room || WORK_PLACES < work_room {
         return false;
     }
     robust_into(
         image,
         request,
-        &mut path[0..path_room],
-        &mut work[0..work_room],
+        &mut path[..path_room],
+        &mut work[..work_room],
         expected,
         written,
     )
@@ -103,15 +94,17 @@ pub fn note_short_robusts(
     let short = refusal(13, 0);
     let short_path = RouteRooms {
         path: less(needed.path),
-        work: needed.work,
+        ..needed
     };
     let short_work = RouteRooms {
-        path: needed.path,
         work: less(needed.work),
+        ..needed
     };
     let by_path = robust_agrees(image, request, short_path, short, &[]);
     let by_work = robust_agrees(image, request, short_work, short, &[]);
-    report.note(ROBUST, by_path).note(ROBUST, by_work)
+    report
+        .note(Call::Robust, by_path)
+        .note(Call::Robust, by_work)
 }
 
 // Robust of a network of n nodes with this answer and these nodes as its result, with slices that are
@@ -128,7 +121,7 @@ pub fn note_robust(
     let exact = robust_agrees(image, request, needed, found, nodes);
     let more = robust_agrees(image, request, longer_rooms(needed), found, nodes);
     note_short_robusts(
-        report.note(ROBUST, exact).note(ROBUST, more),
+        report.note(Call::Robust, exact).note(Call::Robust, more),
         image,
         request,
         needed,

@@ -3,8 +3,8 @@
 use super::answers::{Answer, refusal, settled};
 use search_calls::search::search;
 use test_fixtures::numbers::count;
-use test_fixtures::report::{Report, SEARCH};
-use test_fixtures::slices::{NODE_PATTERN, holds_nodes};
+use test_fixtures::report::{Call, Report};
+use test_fixtures::slices::{Pattern, holds};
 
 // Places for 200 nodes, and some more.
 const PLACES: usize = 210;
@@ -26,10 +26,7 @@ fn search_into(
     written: &[u16],
 ) -> bool {
     let answer = Answer::from(search(image, quest.start, quest.goal, quest.limit, path));
-    if answer != expected {
-        return false;
-    }
-    holds_nodes(path, written)
+    answer == expected && holds(path, written)
 }
 
 // Whether Search into a slice of `room` places gives the answer, and writes these nodes and no others.
@@ -40,11 +37,8 @@ pub fn search_agrees(
     expected: Answer,
     written: &[u16],
 ) -> bool {
-    let mut places = [NODE_PATTERN; PLACES];
-    if PLACES < room {
-        return false;
-    }
-    search_into(image, quest, &mut places[0..room], expected, written)
+    let mut places = [u16::PATTERN; PLACES];
+    room <= PLACES && search_into(image, quest, &mut places[..room], expected, written)
 }
 
 // Search with a limit gives the answer.
@@ -56,7 +50,10 @@ fn note_given(
     expected: Answer,
     nodes: &[u16],
 ) -> Report {
-    report.note(SEARCH, search_agrees(image, quest, room, expected, nodes))
+    report.note(
+        Call::Search,
+        search_agrees(image, quest, room, expected, nodes),
+    )
 }
 
 // Search with a limit gives this refusal, at its place.
@@ -73,11 +70,7 @@ pub fn note_refused(
 
 // The same ends with another limit.
 fn within(quest: Quest, limit: u32) -> Quest {
-    Quest {
-        start: quest.start,
-        goal: quest.goal,
-        limit,
-    }
+    Quest { limit, ..quest }
 }
 
 // What Search finds: a path's figure and worst column.
@@ -99,24 +92,15 @@ pub fn note_search(
     nodes: &[u16],
 ) -> Report {
     let tried = quest.limit;
-    if n == 0 {
-        return report.note(SEARCH, false);
-    }
-    if 200 < n {
-        return report.note(SEARCH, false);
-    }
-    if tried == 0 {
-        return report.note(SEARCH, false);
-    }
-    if tried == 4294967295 {
-        return report.note(SEARCH, false);
+    if n == 0 || 200 < n || tried == 0 || tried == u32::MAX {
+        return report.note(Call::Search, false);
     }
     let below = tried - 1;
     let above = tried + 1;
     let shorter = n - 1;
     let longer = n + 9;
     let found = settled(count(nodes.len()), choice.figure, choice.worst, tried);
-    let most = within(quest, 4294967295);
+    let most = within(quest, u32::MAX);
     report = note_given(report, image, quest, n, found, nodes);
     report = note_given(report, image, within(quest, above), longer, found, nodes);
     report = note_given(report, image, most, n, found, nodes);
@@ -127,11 +111,8 @@ pub fn note_search(
 
 // Search in a network of n nodes with no path that is open in every column, whatever the limit.
 pub fn note_no_path(mut report: Report, image: &[u8], n: usize, quest: Quest) -> Report {
-    if n == 0 {
-        return report.note(SEARCH, false);
-    }
-    if 200 < n {
-        return report.note(SEARCH, false);
+    if n == 0 || 200 < n {
+        return report.note(Call::Search, false);
     }
     let shorter = n - 1;
     let longer = n + 9;

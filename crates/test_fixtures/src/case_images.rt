@@ -1,7 +1,7 @@
 // The images of the cases of REFERENCE, section 8, and of those with closed arcs.
 use super::closing::CLOSED;
 use super::networks::{S_COSTS, S_NODES, lay_out_s, line_arcs, line_nodes};
-use super::plain_image::{encode, first_edition, second_edition};
+use super::plain_image::{Network, first_edition, second_edition};
 
 // Network S.
 pub fn network_s() -> [u8; 84] {
@@ -18,7 +18,7 @@ pub fn second_s() -> [u8; 84] {
 // n = 4, m = 5, k = 2, in edition 2.
 fn closed_network(nodes: [u16; 10], costs: [u32; 10]) -> [u8; 84] {
     let mut image = [0u8; 84];
-    encode(second_edition(4, 2), &nodes, &costs, &mut image);
+    Network::new(second_edition(4, 2), &nodes, &costs).encode(&mut image);
     image
 }
 
@@ -59,25 +59,21 @@ pub fn detour() -> [u8; 84] {
 // n = 4, k = 1, arcs 1→3, 2→3, 2→4, 3→2, 3→4, all cost 0.
 pub fn zero_costs() -> [u8; 64] {
     let mut image = [0u8; 64];
-    encode(
-        first_edition(4, 1),
-        &[1, 3, 2, 3, 2, 4, 3, 2, 3, 4],
-        &[0, 0, 0, 0, 0],
-        &mut image,
-    );
+    let nodes = [1, 3, 2, 3, 2, 4, 3, 2, 3, 4];
+    Network::new(first_edition(4, 1), &nodes, &[0; 5]).encode(&mut image);
     image
 }
 
 // n = 2, m = 0, k = 1.
 pub fn no_arcs() -> [u8; 24] {
     let mut image = [0u8; 24];
-    encode(first_edition(2, 1), &[], &[], &mut image);
+    Network::new(first_edition(2, 1), &[], &[]).encode(&mut image);
     image
 }
 
 fn lay_out_line(arcs: &mut [u16], image: &mut [u8]) {
     line_arcs(arcs);
-    encode(first_edition(200, 1), arcs, &[1000000; 199], image);
+    Network::new(first_edition(200, 1), arcs, &[1000000; 199]).encode(image);
 }
 
 // 200 nodes in a line, arcs from each to the next, each cost 1,000,000.

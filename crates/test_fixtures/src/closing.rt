@@ -1,11 +1,10 @@
 // Arcs that are closed in columns, for the networks of edition 2.
-use super::networks::number_at;
 
 // In the place of a cost: the arc is closed in that column.
 pub const CLOSED: u32 = 4294967295;
 
 // The mark, if the number drawn for a cost says so: for `share` of 100 numbers it does.
-fn closed_or(cost: u32, share: u32, number: u32) -> u32 {
+pub fn closed_or(cost: u32, share: u32, number: u32) -> u32 {
     if number / 4096 % 100 < share {
         CLOSED
     } else {
@@ -16,11 +15,4 @@ fn closed_or(cost: u32, share: u32, number: u32) -> u32 {
 // How many of 100 costs are marks: 0 to 60 in edition 2, and none in edition 1.
 pub fn share_of(edition: u32, number: u32) -> u32 {
     if edition == 2 { number % 61 } else { 0 }
-}
-
-// Puts the mark in the place of so many of 100 costs, by the numbers from index 72 on.
-pub fn close_some(share: u32, numbers: &[u32], costs: &mut [u32]) {
-    for i in 0..costs.len() {
-        costs[i] = closed_or(costs[i], share, number_at(numbers, 72 + i));
-    }
 }

@@ -7,25 +7,7 @@
 // In column 1 the higher node costs 1, 2, 4 .. 128 at the last eight steps, from step 58 on, and
 // 1,000 at every other; all other arcs cost 0. So the first 256 paths cost 0 to 255, and the path
 // that costs c takes the higher node at step 58 + b exactly if the number c has the bit b.
-ghost use Rattle.std.specs.Prelude.{◌≤◌};
-
-use super::plain_image::{encode, first_edition};
-
-// Two to the power b, for b up to 7.
-fn power(b: usize) -> usize
-    ensures { (1 ≤ result) × (result ≤ 128) }
-{
-    match b {
-        0 => 1,
-        1 => 2,
-        2 => 4,
-        3 => 8,
-        4 => 16,
-        5 => 32,
-        6 => 64,
-        _ => 128,
-    }
-}
+use super::plain_image::{Network, first_edition};
 
 // The node list, four arcs to a step: to the lower node and to the higher, and from each to the next
 // step.
@@ -52,7 +34,7 @@ fn arc_cost(arc: usize) -> usize {
     if step < 58 {
         return 1000;
     }
-    power(step - 58)
+    1 << (step - 58) % 8
 }
 
 // The cost of an arc in the column 2 that Robust is tested with: of the arc to the higher node up to
@@ -66,7 +48,7 @@ fn other_cost(arc: usize) -> usize {
     if way != 0 {
         return 0;
     }
-    power(step - 58)
+    1 << (step - 58) % 8
 }
 
 // The costs of both columns, 264 each. In the column 2 that Rank is tested with every arc costs 1.
@@ -81,21 +63,21 @@ fn cost(for_robust: bool, at: usize) -> usize {
 }
 
 fn lay_out_arcs(arcs: &mut [u16]) {
-    for at in 0..arcs.len() {
-        arcs[at] = (arc_node(at) % 65536) as u16;
+    for (at, node) in arcs.iter_mut().enumerate() {
+        *node = (arc_node(at) % 65536) as u16;
     }
 }
 
 fn lay_out_costs(for_robust: bool, costs: &mut [u32]) {
-    for at in 0..costs.len() {
-        costs[at] = (cost(for_robust, at) % 4294967296) as u32;
+    for (at, place) in costs.iter_mut().enumerate() {
+        *place = (cost(for_robust, at) % 4294967296) as u32;
     }
 }
 
 fn lay_out_ladder(for_robust: bool, arcs: &mut [u16], costs: &mut [u32], image: &mut [u8]) {
     lay_out_arcs(arcs);
     lay_out_costs(for_robust, costs);
-    encode(first_edition(199, 2), arcs, costs, image);
+    Network::new(first_edition(199, 2), arcs, costs).encode(image);
 }
 
 // 264 arcs and two columns: 24 + 4 * 264 + 8 * 264 bytes.
@@ -107,20 +89,14 @@ pub fn ladder(for_robust: bool) -> [u8; 3192] {
     image
 }
 
-// Whether path c of a column takes the higher node at a step: 1 if it does, else 0.
-fn higher(column: u32, c: usize, step: usize) -> usize
-    ensures { result ≤ 1 }
-{
-    if step < 58 {
-        return 0;
+// Whether path c of a column takes the higher node at a step. The bit of step 58 is the lowest in column 1,
+// and the highest in column 2.
+fn is_higher(column: u32, c: usize, step: usize) -> bool {
+    if step < 58 || 65 < step {
+        return false;
     }
-    if 65 < step {
-        return 0;
-    }
-    if column == 1 {
-        return c / power(step - 58) % 2;
-    }
-    c / power(65 - step) % 2
+    let bit = if column == 1 { step - 58 } else { 65 - step };
+    (c >> bit) % 2 == 1
 }
 
 // The node of path c at a place of its row.
@@ -132,13 +108,13 @@ fn path_node(column: u32, c: usize, place: usize) -> usize {
     if place % 2 == 0 {
         return 3 * step + 1;
     }
-    3 * step + 2 + higher(column, c, step)
+    3 * step + 2 + usize::from(is_higher(column, c, step))
 }
 
 // Rows of 199 places: the path `first` of a column, and those behind it. The tests have no path behind
 // path 255.
 pub fn lay_out_rows(column: u32, first: usize, rows: &mut [u16]) {
-    for at in 0..rows.len() {
-        rows[at] = (path_node(column, first % 256 + at / 199, at % 199) % 65536) as u16;
+    for (at, node) in rows.iter_mut().enumerate() {
+        *node = (path_node(column, first % 256 + at / 199, at % 199) % 65536) as u16;
     }
 }

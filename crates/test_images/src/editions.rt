@@ -8,44 +8,42 @@ use std::io;
 use test_calls::answers::refusal;
 use test_fixtures::closing::CLOSED;
 use test_fixtures::networks::{S_COSTS, S_NODES};
-use test_fixtures::plain_image::{Header, encode, second_edition};
-use test_fixtures::report::{CHECK, Report};
+use test_fixtures::plain_image::{Header, Network, second_edition};
+use test_fixtures::report::{Call, Report};
 
 // Network S with 1→3 closed in column 1, and 1→2 and 3→4 in column 2.
 const CLOSED_COSTS: [u32; 10] = [2, CLOSED, 1, 6, 2, CLOSED, 1, 2, 1, CLOSED];
 
-// Writes the image of network S in edition 2 with these costs over a slice, with zeros behind it.
-fn lay_out(costs: &[u32], image: &mut [u8]) {
-    encode(second_edition(4, 2), &S_NODES, costs, image);
+// Network S in edition 2 with these costs.
+fn second_s(costs: &[u32]) -> Network<'_> {
+    Network::new(second_edition(4, 2), &S_NODES, costs)
 }
 
 fn s_image(costs: &[u32]) -> [u8; 84] {
     let mut image = [0u8; 84];
-    lay_out(costs, &mut image);
+    second_s(costs).encode(&mut image);
     image
 }
 
 // All calls of the image layer on network S in edition 2, with these costs.
 fn note_s(costs: &[u32]) -> Report {
-    note_network(
-        Report::new(),
-        second_edition(4, 2),
-        &S_NODES,
-        costs,
-        &s_image(costs),
-    )
+    note_network(Report::new(), second_s(costs), &s_image(costs))
 }
 
 fn network_without_arcs() -> Report {
     let image = b"\x02\0\x02\0\0\0\x01\0\x18\0\0\0\x18\0\0\0\x18\0\0\0\0\0\0\0";
-    note_network(Report::new(), second_edition(2, 1), &[], &[], image)
+    note_network(
+        Report::new(),
+        Network::new(second_edition(2, 1), &[], &[]),
+        image,
+    )
 }
 
 fn accepted(rt: &impl Print) -> io::Result<()> {
-    note_s(&S_COSTS).print(rt, b"network S in edition 2")?;
-    note_s(&CLOSED_COSTS).print(rt, b"network S with closed arcs")?;
-    network_without_arcs().print(rt, b"network without arcs in edition 2")?;
-    note_largest(2, CLOSED).print(rt, b"largest network, all closed")
+    note_s(&S_COSTS).print(rt, "network S in edition 2")?;
+    note_s(&CLOSED_COSTS).print(rt, "network S with closed arcs")?;
+    network_without_arcs().print(rt, "network without arcs in edition 2")?;
+    note_largest(2, CLOSED).print(rt, "largest network, all closed")
 }
 
 // Network S's image with fields changed, in rows like those of image_changes.rt.
@@ -77,18 +75,15 @@ const CHANGED_FIELDS: [[u16; 7]; 24] = [
 ];
 
 // Row 1 before row 2: 23 bytes of an image of edition 3.
-fn note_cut(report: Report, image: &mut [u8]) -> Report {
+fn note_cut(report: Report, image: &mut [u8; 84]) -> Report {
     change_s(3, [2, 1, 2, 1], image);
-    if image.len() < 23 {
-        return report.note(CHECK, false);
-    }
-    note_refused_image(report, &image[0..23], refusal(1, 0))
+    note_refused_image(report, &image[..23], refusal(1, 0))
 }
 
 fn changed_fields(rt: &impl Print) -> io::Result<()> {
     let mut image = [0u8; 84];
     let report = note_changed_rows(&CHANGED_FIELDS, &mut image);
-    note_cut(report, &mut image).print(rt, b"changed editions")
+    note_cut(report, &mut image).print(rt, "changed editions")
 }
 
 // Numbers that are no edition, some of which have 1 or 2 as their low bytes.
@@ -98,13 +93,7 @@ const WRONG_EDITIONS: [u32; 9] = [
 
 // Build refuses an edition, by row 2: also where n is out of its range, the costs are too few or the
 // slice is too short.
-fn edition_refused(
-    mut report: Report,
-    edition: u32,
-    nodes: &[u16],
-    costs: &[u32],
-    closed: &[u32],
-) -> Report {
+fn edition_refused(mut report: Report, edition: u32) -> Report {
     let sound = Header {
         edition,
         n: 4,
@@ -115,17 +104,24 @@ fn edition_refused(
         n: 1,
         k: 2,
     };
-    report = build_refuses(report, sound, nodes, costs, 84, 2, 0);
-    report = build_refuses(report, sound, nodes, closed, 84, 2, 0);
-    report = build_refuses(report, one_node, nodes, costs, 84, 2, 0);
-    report = build_refuses(report, sound, nodes, &[], 84, 2, 0);
-    build_refuses(report, sound, nodes, costs, 0, 2, 0)
+    let network = Network::new(sound, &S_NODES, &S_COSTS);
+    report = build_refuses(report, network, 84, 2, 0);
+    report = build_refuses(
+        report,
+        Network::new(sound, &S_NODES, &CLOSED_COSTS),
+        84,
+        2,
+        0,
+    );
+    report = build_refuses(report, Network::new(one_node, &S_NODES, &S_COSTS), 84, 2, 0);
+    report = build_refuses(report, Network::new(sound, &S_NODES, &[]), 84, 2, 0);
+    build_refuses(report, network, 0, 2, 0)
 }
 
-fn editions_refused(editions: &[u32], nodes: &[u16], costs: &[u32], closed: &[u32]) -> Report {
+fn editions_refused() -> Report {
     let mut report = Report::new();
-    for i in 0..editions.len() {
-        report = edition_refused(report, editions[i], nodes, costs, closed);
+    for edition in WRONG_EDITIONS {
+        report = edition_refused(report, edition);
     }
     report
 }
@@ -144,28 +140,28 @@ const WRONG_COSTS: [[u32; 6]; 8] = [
 ];
 
 fn put_cost(costs: &mut [u32], index: u32, cost: u32) {
-    let at = index as usize;
-    if at < costs.len() {
-        costs[at] = cost;
+    if let Some(place) = costs.get_mut(index as usize) {
+        *place = cost;
     }
 }
 
-// Build, and all calls with the image of the lists, refuse costs.
-fn costs_refused(report: Report, row: [u32; 6], nodes: &[u16], costs: &mut [u32]) -> Report {
+// Build, and all calls with the image of the lists, refuse network S's costs with the two numbers of a row.
+fn costs_refused(report: Report, row: [u32; 6]) -> Report {
+    let [edition, index, cost, next_index, next_cost, place] = row;
+    let mut costs = S_COSTS;
+    put_cost(&mut costs, index, cost);
+    put_cost(&mut costs, next_index, next_cost);
     let header = Header {
-        edition: row[0],
+        edition,
         n: 4,
         k: 2,
     };
-    put_cost(costs, row[1], row[2]);
-    put_cost(costs, row[3], row[4]);
-    all_refuse(report, header, nodes, costs, 9, row[5])
+    all_refuse(report, Network::new(header, &S_NODES, &costs), 9, place)
 }
 
-fn note_wrong_costs(mut report: Report, rows: &[[u32; 6]], nodes: &[u16]) -> Report {
-    for i in 0..rows.len() {
-        let mut costs = S_COSTS;
-        report = costs_refused(report, rows[i], nodes, &mut costs);
+fn note_wrong_costs(mut report: Report) -> Report {
+    for row in WRONG_COSTS {
+        report = costs_refused(report, row);
     }
     report
 }
@@ -173,29 +169,49 @@ fn note_wrong_costs(mut report: Report, rows: &[[u32; 6]], nodes: &[u16]) -> Rep
 // Which row is given where several apply in edition 2.
 fn rows_in_order(mut report: Report) -> Report {
     let second = second_edition(4, 1);
-    report = all_refuse(report, second_edition(1, 1), &[1, 2], &[CLOSED - 1], 3, 0);
-    report = all_refuse(report, second, &[1, 2, 1, 2], &[CLOSED, CLOSED - 1], 8, 1);
-    report = build_refuses(report, second, &[1, 2, 3], &[CLOSED], 200, 4, 0);
-    report = build_refuses(report, second, &[1, 2], &[CLOSED - 1], 0, 9, 0);
-    build_refuses(report, second, &[1, 2], &[CLOSED], 31, 13, 0)
+    report = all_refuse(
+        report,
+        Network::new(second_edition(1, 1), &[1, 2], &[CLOSED - 1]),
+        3,
+        0,
+    );
+    report = all_refuse(
+        report,
+        Network::new(second, &[1, 2, 1, 2], &[CLOSED, CLOSED - 1]),
+        8,
+        1,
+    );
+    report = build_refuses(
+        report,
+        Network::new(second, &[1, 2, 3], &[CLOSED]),
+        200,
+        4,
+        0,
+    );
+    report = build_refuses(
+        report,
+        Network::new(second, &[1, 2], &[CLOSED - 1]),
+        0,
+        9,
+        0,
+    );
+    build_refuses(report, Network::new(second, &[1, 2], &[CLOSED]), 31, 13, 0)
 }
 
 fn refused_lists(rt: &impl Print) -> io::Result<()> {
-    let report = editions_refused(&WRONG_EDITIONS, &S_NODES, &S_COSTS, &CLOSED_COSTS);
-    rows_in_order(note_wrong_costs(report, &WRONG_COSTS, &S_NODES)).print(rt, b"refused editions")
+    rows_in_order(note_wrong_costs(editions_refused())).print(rt, "refused editions")
 }
 
 // The image of network S with closed arcs, cut short or made longer.
 fn other_lengths(rt: &impl Print) -> io::Result<()> {
     let mut image = [0u8; 120];
-    lay_out(&CLOSED_COSTS, &mut image);
-    note_lengths(&image).print(rt, b"other lengths in edition 2")
+    second_s(&CLOSED_COSTS).encode(&mut image);
+    note_lengths(&image).print(rt, "other lengths in edition 2")
 }
 
 // The same image with each byte changed.
 fn changed_bytes(rt: &impl Print) -> io::Result<()> {
-    let mut image = s_image(&CLOSED_COSTS);
-    note_changed_bytes(&mut image).print(rt, b"changed bytes in edition 2")
+    note_changed_bytes(&mut s_image(&CLOSED_COSTS)).print(rt, "changed bytes in edition 2")
 }
 
 pub fn run(rt: &impl Print) -> io::Result<()> {

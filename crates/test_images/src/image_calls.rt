@@ -7,11 +7,9 @@ use packing::unpack::unpack;
 use test_calls::answers::{Answer, header_of, single};
 use test_calls::refused_images::note_refused_paths;
 use test_fixtures::numbers::{count, product};
-use test_fixtures::plain_image::Header;
-use test_fixtures::report::{CHECK, REBUILD, Report, UNPACK};
-use test_fixtures::slices::{
-    BYTE_PATTERN, NODE_PATTERN, NUMBER_PATTERN, holds_bytes, holds_nodes, holds_numbers,
-};
+use test_fixtures::plain_image::{Header, Network};
+use test_fixtures::report::{Call, Report};
+use test_fixtures::slices::{Pattern, holds};
 
 // Places for the largest network's image and lists, and some more.
 const IMAGE_PLACES: usize = 36100;
@@ -25,44 +23,20 @@ pub fn check_agrees(image: &[u8], expected: Answer) -> bool {
     Answer::from(check(image)) == expected
 }
 
-// Build into a slice that holds the pattern.
-fn build_into(
-    header: Header,
-    nodes: &[u16],
-    costs: &[u32],
-    image: &mut [u8],
-    expected: Answer,
-    written: &[u8],
-) -> bool {
-    let answer = Answer::from(build(header.edition, header.n, header.k, nodes, costs, image));
-    if answer != expected {
-        return false;
+// Whether Build into a slice of `room` bytes that hold the pattern gives the answer, and writes these bytes and
+// no others.
+pub fn build_agrees(network: Network, room: usize, expected: Answer, written: &[u8]) -> bool {
+    let mut places = [u8::PATTERN; IMAGE_PLACES];
+    match places.get_mut(..room) {
+        Some(image) => build_into(network, image, expected, written),
+        None => false,
     }
-    holds_bytes(image, written)
 }
 
-// Whether Build into a slice of `room` bytes gives the answer, and writes these bytes and no
-// others.
-pub fn build_agrees(
-    header: Header,
-    nodes: &[u16],
-    costs: &[u32],
-    room: usize,
-    expected: Answer,
-    written: &[u8],
-) -> bool {
-    let mut places = [BYTE_PATTERN; IMAGE_PLACES];
-    if IMAGE_PLACES < room {
-        return false;
-    }
-    build_into(
-        header,
-        nodes,
-        costs,
-        &mut places[0..room],
-        expected,
-        written,
-    )
+fn build_into(network: Network, image: &mut [u8], expected: Answer, written: &[u8]) -> bool {
+    let Header { edition, n, k } = network.header;
+    let answer = Answer::from(build(edition, n, k, network.nodes, network.costs, image));
+    answer == expected && holds(image, written)
 }
 
 // Unpack into slices that hold the pattern.
@@ -75,13 +49,7 @@ fn unpack_into(
     written_costs: &[u32],
 ) -> bool {
     let answer = Answer::from(unpack(image, nodes, costs));
-    if answer != expected {
-        return false;
-    }
-    if !holds_nodes(nodes, written_nodes) {
-        return false;
-    }
-    holds_numbers(costs, written_costs)
+    answer == expected && holds(nodes, written_nodes) && holds(costs, written_costs)
 }
 
 // Whether Unpack into slices of so many places gives the answer, and writes these lists and nothing
@@ -94,38 +62,30 @@ pub fn unpack_agrees(
     nodes: &[u16],
     costs: &[u32],
 ) -> bool {
-    let mut node_places = [NODE_PATTERN; NODE_PLACES];
-    let mut cost_places = [NUMBER_PATTERN; COST_PLACES];
-    if NODE_PLACES < node_room {
-        return false;
-    }
-    if COST_PLACES < cost_room {
-        return false;
-    }
-    unpack_into(
-        image,
-        &mut node_places[0..node_room],
-        &mut cost_places[0..cost_room],
-        expected,
-        nodes,
-        costs,
-    )
+    let mut node_places = [u16::PATTERN; NODE_PLACES];
+    let mut cost_places = [u32::PATTERN; COST_PLACES];
+    node_room <= NODE_PLACES
+        && cost_room <= COST_PLACES
+        && unpack_into(
+            image,
+            &mut node_places[..node_room],
+            &mut cost_places[..cost_room],
+            expected,
+            nodes,
+            costs,
+        )
 }
 
-// Whether Build gives an image back from the lists at the front of two slices.
+// Whether Build gives an image back from the lists of a header with m arcs, at the front of two slices.
 fn build_back(image: &[u8], header: Header, m: u32, nodes: &[u16], costs: &[u32]) -> bool {
     let node_count = 2 * (m as usize);
     let cost_count = product(m, header.k) as usize;
-    if nodes.len() < node_count {
+    if nodes.len() < node_count || costs.len() < cost_count {
         return false;
     }
-    if costs.len() < cost_count {
-        return false;
-    }
-    let node_list = &nodes[0..node_count];
-    let cost_list = &costs[0..cost_count];
+    let network = Network::new(header, &nodes[..node_count], &costs[..cost_count]);
     let bytes = single(count(image.len()));
-    build_agrees(header, node_list, cost_list, image.len(), bytes, image)
+    build_agrees(network, image.len(), bytes, image)
 }
 
 // Unpack into slices, and Build from what it wrote.
@@ -139,17 +99,20 @@ fn rebuild_with(image: &[u8], nodes: &mut [u16], costs: &mut [u32]) -> bool {
 
 // Whether Unpack, and Build from the lists that it wrote, give an image back byte for byte.
 pub fn rebuild_agrees(image: &[u8]) -> bool {
-    let mut nodes = [NODE_PATTERN; NODE_PLACES];
-    let mut costs = [NUMBER_PATTERN; COST_PLACES];
+    let mut nodes = [u16::PATTERN; NODE_PLACES];
+    let mut costs = [u32::PATTERN; COST_PLACES];
     rebuild_with(image, &mut nodes, &mut costs)
 }
 
 // Every call with an image refuses it with this answer and writes nothing, whatever else it is
 // given.
 pub fn note_refused_image(mut report: Report, image: &[u8], expected: Answer) -> Report {
-    report = report.note(CHECK, check_agrees(image, expected));
-    report = report.note(UNPACK, unpack_agrees(image, 12, 12, expected, &[], &[]));
-    report = report.note(UNPACK, unpack_agrees(image, 0, 0, expected, &[], &[]));
+    report = report.note(Call::Check, check_agrees(image, expected));
+    report = report.note(
+        Call::Unpack,
+        unpack_agrees(image, 12, 12, expected, &[], &[]),
+    );
+    report = report.note(Call::Unpack, unpack_agrees(image, 0, 0, expected, &[], &[]));
     note_refused_paths(report, image, expected)
 }
 
@@ -159,6 +122,6 @@ pub fn note_image(mut report: Report, image: &[u8]) -> Report {
     if expected.number != 0 {
         return note_refused_image(report, image, expected);
     }
-    report = report.note(CHECK, check_agrees(image, expected));
-    report.note(REBUILD, rebuild_agrees(image))
+    report = report.note(Call::Check, check_agrees(image, expected));
+    report.note(Call::Rebuild, rebuild_agrees(image))
 }

@@ -3,6 +3,7 @@
 use super::image_calls::{note_image, note_refused_image};
 use std::io;
 use test_calls::answers::refusal;
+use test_fixtures::case_images::network_s;
 use test_fixtures::networks::lay_out_s;
 use test_fixtures::report::Report;
 
@@ -47,15 +48,16 @@ const CHANGED_FIELDS: [[u16; 7]; 34] = [
 
 // Changes one byte.
 fn put(image: &mut [u8], at: usize, byte: u8) {
-    if at < image.len() {
-        image[at] = byte;
+    if let Some(place) = image.get_mut(at) {
+        *place = byte;
     }
 }
 
 // Changes a number of two bytes.
 fn put16(image: &mut [u8], at: u16, number: u16) {
-    put(image, at as usize, (number % 256) as u8);
-    put(image, at as usize + 1, (number / 256) as u8);
+    let [low, high] = number.to_le_bytes();
+    put(image, at as usize, low);
+    put(image, at as usize + 1, high);
 }
 
 // Network S's image of an edition, with two numbers of two bytes changed: offset and number of each.
@@ -67,37 +69,33 @@ pub fn change_s(edition: u16, changes: [u16; 4], image: &mut [u8]) {
 }
 
 fn note_changed_fields(report: Report, row: [u16; 7], image: &mut [u8]) -> Report {
-    change_s(row[0], [row[1], row[2], row[3], row[4]], image);
-    note_refused_image(report, image, refusal(row[5] as u32, row[6] as u32))
+    let [edition, at, content, next_at, next_content, number, place] = row;
+    change_s(edition, [at, content, next_at, next_content], image);
+    note_refused_image(report, image, refusal(u32::from(number), u32::from(place)))
 }
 
 // Each row of a table of changed fields.
 pub fn note_changed_rows(rows: &[[u16; 7]], image: &mut [u8]) -> Report {
     let mut report = Report::new();
-    for i in 0..rows.len() {
-        report = note_changed_fields(report, rows[i], image);
+    for row in rows {
+        report = note_changed_fields(report, *row, image);
     }
     report
 }
 
 fn changed_fields(rt: &impl Print) -> io::Result<()> {
     let mut image = [0u8; 84];
-    note_changed_rows(&CHANGED_FIELDS, &mut image).print(rt, b"changed fields")
+    note_changed_rows(&CHANGED_FIELDS, &mut image).print(rt, "changed fields")
 }
 
 // The first `length` bytes of the image, or the image with zeros behind it; but not the image
 // itself.
 fn note_length(report: Report, image: &[u8], length: usize) -> Report {
-    if image.len() < length {
+    if image.len() < length || length == 84 {
         return report;
     }
-    if length == 84 {
-        return report;
-    }
-    if length < 24 {
-        return note_refused_image(report, &image[0..length], refusal(1, 0));
-    }
-    note_refused_image(report, &image[0..length], refusal(5, 0))
+    let number = if length < 24 { 1 } else { 5 };
+    note_refused_image(report, &image[..length], refusal(number, 0))
 }
 
 // Each length up to that of the slice.
@@ -112,18 +110,14 @@ pub fn note_lengths(image: &[u8]) -> Report {
 fn other_lengths(rt: &impl Print) -> io::Result<()> {
     let mut image = [0u8; 120];
     lay_out_s(&mut image);
-    note_lengths(&image).print(rt, b"other lengths")
-}
-
-fn byte_at(image: &[u8], at: usize) -> u8 {
-    if at < image.len() { image[at] } else { 0 }
+    note_lengths(&image).print(rt, "other lengths")
 }
 
 // The byte at an offset changed to each other value.
 fn note_changed_byte(mut report: Report, image: &mut [u8], at: usize) -> Report {
-    let own = byte_at(image, at);
-    for step in 1..256u32 {
-        put(image, at, ((own as u32 + step) % 256) as u8);
+    let own = image.get(at).copied().unwrap_or(0);
+    for step in 1..=255u8 {
+        put(image, at, own.wrapping_add(step));
         report = note_image(report, image);
     }
     put(image, at, own);
@@ -140,9 +134,7 @@ pub fn note_changed_bytes(image: &mut [u8]) -> Report {
 }
 
 fn changed_bytes(rt: &impl Print) -> io::Result<()> {
-    let mut image = [0u8; 84];
-    lay_out_s(&mut image);
-    note_changed_bytes(&mut image).print(rt, b"changed bytes")
+    note_changed_bytes(&mut network_s()).print(rt, "changed bytes")
 }
 
 pub fn run(rt: &impl Print) -> io::Result<()> {

@@ -1,80 +1,42 @@
 // The refusal table on lists: what Build answers, and what Check and Unpack answer for the image of
 // the same lists. All are of edition 1; editions.rt has what differs in edition 2.
 use super::image_calls::{build_agrees, note_refused_image};
+use arrayvec::ArrayVec;
 use std::io;
 use test_calls::answers::refusal;
-use test_fixtures::plain_image::{Header, encode, first_edition, total};
-use test_fixtures::report::{BUILD, CHECK, Report};
+use test_fixtures::plain_image::{Network, first_edition};
+use test_fixtures::report::{Call, Report};
 
 // Build into a slice of `room` bytes refuses with this number and place, and writes nothing.
 pub fn build_refuses(
     report: Report,
-    header: Header,
-    nodes: &[u16],
-    costs: &[u32],
+    network: Network,
     room: usize,
     number: u32,
     place: u32,
 ) -> Report {
-    let agrees = build_agrees(header, nodes, costs, room, refusal(number, place), &[]);
-    report.note(BUILD, agrees)
+    let agrees = build_agrees(network, room, refusal(number, place), &[]);
+    report.note(Call::Build, agrees)
 }
 
-// All calls, with a slice for the image.
-fn all_refuse_with(
-    mut report: Report,
-    header: Header,
-    nodes: &[u16],
-    costs: &[u32],
-    image: &mut [u8],
-    number: u32,
-    place: u32,
-) -> Report {
-    report = build_refuses(report, header, nodes, costs, 200, number, place);
-    encode(header, nodes, costs, image);
-    note_refused_image(report, image, refusal(number, place))
-}
-
-// Build, and Check and Unpack on the image of the lists, refuse with this number and place.
-pub fn all_refuse(
-    report: Report,
-    header: Header,
-    nodes: &[u16],
-    costs: &[u32],
-    number: u32,
-    place: u32,
-) -> Report {
-    let mut image = [0u8; 200];
-    let bytes = total(nodes, costs) as usize;
-    if 200 < bytes {
-        return report.note(CHECK, false);
-    }
-    all_refuse_with(
-        report,
-        header,
-        nodes,
-        costs,
-        &mut image[0..bytes],
-        number,
-        place,
-    )
+// Build, and Check and Unpack on the image of the lists, refuse with this number and place. The image has at
+// most 200 bytes.
+pub fn all_refuse(report: Report, network: Network, number: u32, place: u32) -> Report {
+    let image: ArrayVec<u8, 200> = network.image();
+    let noted = build_refuses(report, network, 200, number, place);
+    note_refused_image(noted, image.as_slice(), refusal(number, place))
 }
 
 // All calls refuse, by row 3, the first so many of 1, 2 as nodes and of 5 as costs.
 fn sizes_refused(report: Report, n: u32, k: u32, node_count: usize, cost_count: usize) -> Report {
-    let nodes = [1u16, 2];
-    let costs = [5u32];
-    if 2 < node_count {
-        return report.note(CHECK, false);
+    if 2 < node_count || 1 < cost_count {
+        return report.note(Call::Check, false);
     }
-    if 1 < cost_count {
-        return report.note(CHECK, false);
-    }
+    let nodes = &[1, 2][..node_count];
+    let costs = &[5][..cost_count];
     all_refuse(
         report,
-        first_edition(n, k),
-        &nodes[0..node_count],
-        &costs[0..cost_count],
+        Network::new(first_edition(n, k), nodes, costs),
         3,
         0,
     )
@@ -90,58 +52,45 @@ fn lists_refused(
     room: usize,
     number: u32,
 ) -> Report {
-    let nodes = [1u16, 2, 3];
-    let costs = [5u32, 6, 7];
-    if 3 < node_count {
-        return report.note(BUILD, false);
+    if 3 < node_count || 3 < cost_count {
+        return report.note(Call::Build, false);
     }
-    if 3 < cost_count {
-        return report.note(BUILD, false);
-    }
-    build_refuses(
-        report,
-        first_edition(n, k),
-        &nodes[0..node_count],
-        &costs[0..cost_count],
-        room,
-        number,
-        0,
-    )
+    let nodes = &[1, 2, 3][..node_count];
+    let costs = &[5, 6, 7][..cost_count];
+    let network = Network::new(first_edition(n, k), nodes, costs);
+    build_refuses(report, network, room, number, 0)
 }
 
 // Build refuses lists of so many zeros.
 fn zeros_refused(report: Report, node_count: usize, cost_count: usize, number: u32) -> Report {
     let nodes = [0u16; 2003];
     let costs = [0u32; 1001];
-    if 2003 < node_count {
-        return report.note(BUILD, false);
+    if 2003 < node_count || 1001 < cost_count {
+        return report.note(Call::Build, false);
     }
-    if 1001 < cost_count {
-        return report.note(BUILD, false);
-    }
-    build_refuses(
-        report,
+    let lists = Network::new(
         first_edition(4, 1),
-        &nodes[0..node_count],
-        &costs[0..cost_count],
-        9000,
-        number,
-        0,
-    )
+        &nodes[..node_count],
+        &costs[..cost_count],
+    );
+    build_refuses(report, lists, 9000, number, 0)
 }
 
 // All calls refuse the only arc.
 fn arc_refused(report: Report, n: u32, tail: u16, head: u16, number: u32) -> Report {
-    all_refuse(report, first_edition(n, 1), &[tail, head], &[5], number, 0)
+    all_refuse(
+        report,
+        Network::new(first_edition(n, 1), &[tail, head], &[5]),
+        number,
+        0,
+    )
 }
 
 // All calls refuse the arc that stands second, behind 1→2.
 fn second_arc_refused(report: Report, tail: u16, head: u16, number: u32) -> Report {
     all_refuse(
         report,
-        first_edition(4, 1),
-        &[1, 2, tail, head],
-        &[5, 6],
+        Network::new(first_edition(4, 1), &[1, 2, tail, head], &[5, 6]),
         number,
         1,
     )
@@ -151,9 +100,7 @@ fn second_arc_refused(report: Report, tail: u16, head: u16, number: u32) -> Repo
 fn arcs_refused(report: Report, nodes: [u16; 6], number: u32, place: u32) -> Report {
     all_refuse(
         report,
-        first_edition(4, 1),
-        &nodes,
-        &[5, 6, 7],
+        Network::new(first_edition(4, 1), &nodes, &[5, 6, 7]),
         number,
         place,
     )
@@ -167,9 +114,7 @@ fn sizes_out_of_range(mut report: Report) -> Report {
     report = sizes_refused(report, 2, 0, 2, 0);
     report = all_refuse(
         report,
-        first_edition(2, 9),
-        &[1, 2],
-        &[1, 2, 3, 4, 5, 6, 7, 8, 9],
+        Network::new(first_edition(2, 9), &[1, 2], &[1, 2, 3, 4, 5, 6, 7, 8, 9]),
         3,
         0,
     );
@@ -192,7 +137,13 @@ fn lengths_wrong(mut report: Report) -> Report {
     report = lists_refused(report, 4, 2, 2, 1, 200, 4);
     report = lists_refused(report, 4, 2, 2, 3, 200, 4);
     report = lists_refused(report, 4, 1, 0, 1, 200, 4);
-    build_refuses(report, first_edition(4, 1), &[0, 2], &[], 200, 4, 0)
+    build_refuses(
+        report,
+        Network::new(first_edition(4, 1), &[0, 2], &[]),
+        200,
+        4,
+        0,
+    )
 }
 
 // Row 6, for the first arc and for a later one.
@@ -209,18 +160,33 @@ fn arcs_wrong(mut report: Report) -> Report {
     report = arc_refused(report, 4, 2, 2, 7);
     report = arcs_refused(report, [1, 2, 1, 3, 4, 4], 7, 2);
     report = second_arc_refused(report, 1, 2, 8);
-    report = all_refuse(report, first_edition(4, 1), &[1, 3, 1, 2], &[5, 6], 8, 1);
+    report = all_refuse(
+        report,
+        Network::new(first_edition(4, 1), &[1, 3, 1, 2], &[5, 6]),
+        8,
+        1,
+    );
     arcs_refused(report, [1, 2, 2, 3, 1, 4], 8, 2)
 }
 
 // All calls refuse the cost of the only arc.
 fn cost_refused(report: Report, cost: u32) -> Report {
-    all_refuse(report, first_edition(4, 1), &[1, 2], &[cost], 9, 0)
+    all_refuse(
+        report,
+        Network::new(first_edition(4, 1), &[1, 2], &[cost]),
+        9,
+        0,
+    )
 }
 
 // All calls refuse two columns of costs for two arcs.
 fn columns_refused(report: Report, costs: [u32; 4], place: u32) -> Report {
-    all_refuse(report, first_edition(4, 2), &[1, 2, 1, 3], &costs, 9, place)
+    all_refuse(
+        report,
+        Network::new(first_edition(4, 2), &[1, 2, 1, 3], &costs),
+        9,
+        place,
+    )
 }
 
 // Row 9, in the first column and in a later one, with the first such cost in front.
@@ -246,22 +212,43 @@ fn several_arc_rows(mut report: Report) -> Report {
 fn several_list_rows(mut report: Report) -> Report {
     report = all_refuse(
         report,
-        first_edition(4, 1),
-        &[1, 2, 1, 2],
-        &[1000001, 6],
+        Network::new(first_edition(4, 1), &[1, 2, 1, 2], &[1000001, 6]),
         8,
         1,
     );
-    report = all_refuse(report, first_edition(1, 1), &[1, 2], &[1000001], 3, 0);
-    build_refuses(report, first_edition(4, 1), &[0, 2, 1], &[5], 200, 4, 0)
+    report = all_refuse(
+        report,
+        Network::new(first_edition(1, 1), &[1, 2], &[1000001]),
+        3,
+        0,
+    );
+    build_refuses(
+        report,
+        Network::new(first_edition(4, 1), &[0, 2, 1], &[5]),
+        200,
+        4,
+        0,
+    )
 }
 
 // Which row is given where the slice is too short as well: the other row.
 fn slices_last(mut report: Report) -> Report {
     report = lists_refused(report, 1, 1, 2, 1, 0, 3);
     report = lists_refused(report, 4, 1, 2, 0, 0, 4);
-    report = build_refuses(report, first_edition(4, 1), &[2, 2], &[5], 0, 7, 0);
-    build_refuses(report, first_edition(4, 1), &[1, 2], &[1000001], 0, 9, 0)
+    report = build_refuses(
+        report,
+        Network::new(first_edition(4, 1), &[2, 2], &[5]),
+        0,
+        7,
+        0,
+    );
+    build_refuses(
+        report,
+        Network::new(first_edition(4, 1), &[1, 2], &[1000001]),
+        0,
+        9,
+        0,
+    )
 }
 
 // Row 13.
@@ -281,5 +268,5 @@ pub fn run(rt: &impl Print) -> io::Result<()> {
     report = several_arc_rows(report);
     report = several_list_rows(report);
     report = slices_last(report);
-    slices_too_short(report).print(rt, b"refused lists")
+    slices_too_short(report).print(rt, "refused lists")
 }

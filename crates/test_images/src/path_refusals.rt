@@ -4,8 +4,8 @@
 use std::io;
 use test_calls::answers::refusal;
 use test_calls::path_calls::{label_agrees, regret_agrees, shortest_agrees};
-use test_fixtures::networks::lay_out_s;
-use test_fixtures::report::{LABEL, REGRET, Report, SHORTEST};
+use test_fixtures::case_images::network_s;
+use test_fixtures::report::{Call, Report};
 
 // Each row: column, start, goal and the places of the lent slice; and the numbers of the refusals
 // by Label, Shortest and Regret, or 0 where the call is left out.
@@ -34,13 +34,8 @@ const REFUSED_NUMBERS: [[u32; 7]; 21] = [
 ];
 
 fn note_row(mut report: Report, image: &[u8], row: [u32; 7]) -> Report {
-    let column = row[0];
-    let start = row[1];
-    let goal = row[2];
-    let room = row[3] as usize;
-    let by_label = row[4];
-    let by_shortest = row[5];
-    let by_regret = row[6];
+    let [column, start, goal, room, by_label, by_shortest, by_regret] = row;
+    let room = room as usize;
     let label = label_agrees(image, column, goal, room, refusal(by_label, 0), &[]);
     let shortest = shortest_agrees(
         image,
@@ -53,27 +48,25 @@ fn note_row(mut report: Report, image: &[u8], row: [u32; 7]) -> Report {
     );
     let regret = regret_agrees(image, start, goal, &[1, 3, 4], refusal(by_regret, 0));
     if by_label != 0 {
-        report = report.note(LABEL, label);
+        report = report.note(Call::Label, label);
     }
     if by_shortest != 0 {
-        report = report.note(SHORTEST, shortest);
+        report = report.note(Call::Shortest, shortest);
     }
     if by_regret != 0 {
-        report = report.note(REGRET, regret);
+        report = report.note(Call::Regret, regret);
     }
     report
 }
 
 fn refused_numbers(image: &[u8], rows: &[[u32; 7]]) -> Report {
     let mut report = Report::new();
-    for i in 0..rows.len() {
-        report = note_row(report, image, rows[i]);
+    for row in rows {
+        report = note_row(report, image, *row);
     }
     report
 }
 
 pub fn run(rt: &impl Print) -> io::Result<()> {
-    let mut image = [0u8; 84];
-    lay_out_s(&mut image);
-    refused_numbers(&image, &REFUSED_NUMBERS).print(rt, b"refused numbers")
+    refused_numbers(&network_s(), &REFUSED_NUMBERS).print(rt, "refused numbers")
 }

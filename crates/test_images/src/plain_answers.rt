@@ -4,10 +4,8 @@ ghost use Rattle.std.specs.Prelude.{◌≤◌};
 
 use test_calls::answers::{Answer, refusal, single, sizes};
 use test_fixtures::closing::CLOSED;
-use test_fixtures::numbers::{count, product, wide16};
-use test_fixtures::plain_image::{
-    Header, arc_count, decode_costs, decode_nodes, number16, number32, total,
-};
+use test_fixtures::numbers::{count, product};
+use test_fixtures::plain_image::{Header, Network, decode_costs, decode_nodes, number16, number32};
 
 // Row 2.
 fn edition_is_wrong(edition: u32) -> bool {
@@ -20,93 +18,84 @@ fn size_out_of_range(n: u32, m: u32, k: u32) -> bool {
 }
 
 fn node_at(nodes: &[u16], i: usize) -> u32 {
-    if i < nodes.len() { wide16(nodes[i]) } else { 0 }
+    nodes.get(i).copied().map_or(0, u32::from)
 }
 
-// An arc as one number, which rises with the tail and then with the head.
-fn arc_at(nodes: &[u16], arc: u32) -> u64 {
+// An arc's tail and head.
+fn arc_at(nodes: &[u16], arc: u32) -> (u32, u32) {
     let at = 2 * (arc as usize);
-    (node_at(nodes, at) as u64) * 65536 + (node_at(nodes, at + 1) as u64)
+    (node_at(nodes, at), node_at(nodes, at + 1))
 }
 
 // The first of rows 6, 7 and 8 that applies to an arc, or 0.
 fn arc_row(n: u32, nodes: &[u16], arc: u32) -> u32 {
-    let tail = node_at(nodes, 2 * (arc as usize));
-    let head = node_at(nodes, 2 * (arc as usize) + 1);
+    let (tail, head) = arc_at(nodes, arc);
     if tail == 0 || n < tail || head == 0 || n < head {
         return 6;
     }
     if tail == head {
         return 7;
     }
-    if arc == 0 {
-        return 0;
-    }
-    if arc_at(nodes, arc) <= arc_at(nodes, arc - 1) {
+    if 0 < arc && (tail, head) <= arc_at(nodes, arc - 1) {
         return 8;
     }
     0
 }
 
-// The refusal for the first arc in error, or number 0.
-fn arcs_answer(n: u32, nodes: &[u16]) -> Answer {
-    for arc in 0..arc_count(nodes) {
-        let row = arc_row(n, nodes, arc);
+// The refusal for the first arc in error.
+fn arcs_fault(network: Network) -> Option<Answer> {
+    for arc in 0..network.arc_count() {
+        let row = arc_row(network.header.n, network.nodes, arc);
         if row != 0 {
-            return refusal(row, arc);
+            return Some(refusal(row, arc));
         }
     }
-    refusal(0, 0)
+    None
 }
 
 // Row 9 for a number: in edition 2 the mark may stand in the place of a cost.
 fn cost_is_wrong(edition: u32, cost: u32) -> bool {
-    if edition == 2 && cost == CLOSED {
-        return false;
-    }
-    1000000 < cost
+    1000000 < cost && !(edition == 2 && cost == CLOSED)
 }
 
-// The refusal for the first cost that is too large, or number 0.
-fn costs_answer(edition: u32, costs: &[u32]) -> Answer {
-    for i in 0..costs.len() {
-        if cost_is_wrong(edition, costs[i]) {
-            return refusal(9, count(i));
-        }
-    }
-    refusal(0, 0)
+// The refusal for the first cost that is too large.
+fn costs_fault(network: Network) -> Option<Answer> {
+    let edition = network.header.edition;
+    let place = network
+        .costs
+        .iter()
+        .position(|&cost| cost_is_wrong(edition, cost))?;
+    Some(refusal(9, count(place)))
 }
 
 // The refusal of two lists by rows 6 to 9, or else the answer given.
-fn lists_answer(header: Header, nodes: &[u16], costs: &[u32], otherwise: Answer) -> Answer {
-    let arcs = arcs_answer(header.n, nodes);
-    if arcs.number != 0 {
-        return arcs;
+fn lists_answer(network: Network, otherwise: Answer) -> Answer {
+    match arcs_fault(network) {
+        Some(answer) => answer,
+        None => costs_fault(network).unwrap_or(otherwise),
     }
-    let prices = costs_answer(header.edition, costs);
-    if prices.number != 0 {
-        return prices;
-    }
-    otherwise
 }
 
 // Build's answer with a slice of `room` bytes.
-pub fn build_answer(header: Header, nodes: &[u16], costs: &[u32], room: usize) -> Answer {
-    let m = arc_count(nodes);
-    if edition_is_wrong(header.edition) {
+pub fn build_answer(network: Network, room: usize) -> Answer {
+    let Header { edition, n, k } = network.header;
+    let m = network.arc_count();
+    if edition_is_wrong(edition) {
         return refusal(2, 0);
     }
-    if size_out_of_range(header.n, m, header.k) {
+    if size_out_of_range(n, m, k) {
         return refusal(3, 0);
     }
-    if nodes.len() % 2 == 1 || product(m, header.k) != costs.len() as u64 {
+    if network.nodes.len() % 2 == 1 || product(m, k) != network.costs.len() as u64 {
         return refusal(4, 0);
     }
-    let bytes = total(nodes, costs);
-    if room < bytes as usize {
-        return lists_answer(header, nodes, costs, refusal(13, 0));
-    }
-    lists_answer(header, nodes, costs, single(bytes))
+    let bytes = network.total();
+    let otherwise = if room < bytes as usize {
+        refusal(13, 0)
+    } else {
+        single(bytes)
+    };
+    lists_answer(network, otherwise)
 }
 
 // Row 4 for an image.
@@ -126,12 +115,12 @@ fn header_row(image: &[u8]) -> u32 {
     if image.len() < 24 {
         return 1;
     }
-    if edition_is_wrong(wide16(number16(image, 0))) {
+    if edition_is_wrong(u32::from(number16(image, 0))) {
         return 2;
     }
-    let n = wide16(number16(image, 2));
-    let m = wide16(number16(image, 4));
-    let k = wide16(number16(image, 6));
+    let n = u32::from(number16(image, 2));
+    let m = u32::from(number16(image, 4));
+    let k = u32::from(number16(image, 6));
     if size_out_of_range(n, m, k) {
         return 3;
     }
@@ -152,27 +141,20 @@ fn check_with(image: &[u8], nodes: &mut [u16], costs: &mut [u32]) -> Answer {
         return refusal(row, 0);
     }
     let header = Header {
-        edition: wide16(number16(image, 0)),
-        n: wide16(number16(image, 2)),
-        k: wide16(number16(image, 6)),
+        edition: u32::from(number16(image, 0)),
+        n: u32::from(number16(image, 2)),
+        k: u32::from(number16(image, 6)),
     };
-    let m = wide16(number16(image, 4));
+    let m = u32::from(number16(image, 4));
     let node_count = 2 * (m as usize);
     let cost_count = product(m, header.k) as usize;
-    if nodes.len() < node_count {
+    if nodes.len() < node_count || costs.len() < cost_count {
         return refusal(0, 0);
     }
-    if costs.len() < cost_count {
-        return refusal(0, 0);
-    }
-    decode_nodes(image, &mut nodes[0..node_count]);
-    decode_costs(image, 24 + 4 * m, &mut costs[0..cost_count]);
-    lists_answer(
-        header,
-        &nodes[0..node_count],
-        &costs[0..cost_count],
-        sizes(header, m),
-    )
+    decode_nodes(image, &mut nodes[..node_count]);
+    decode_costs(image, 24 + 4 * m, &mut costs[..cost_count]);
+    let network = Network::new(header, &nodes[..node_count], &costs[..cost_count]);
+    lists_answer(network, sizes(header, m))
 }
 
 pub fn check_answer(image: &[u8]) -> Answer {

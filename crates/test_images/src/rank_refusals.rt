@@ -2,8 +2,8 @@
 use std::io;
 use test_calls::answers::refusal;
 use test_calls::rank_calls::{Request, Rooms, rank_agrees};
-use test_fixtures::networks::lay_out_s;
-use test_fixtures::report::{RANK, Report};
+use test_fixtures::case_images::network_s;
+use test_fixtures::report::{Call, Report};
 
 // Each row: column, start, goal and K; the places of the rows, the costs and the workspace; and the
 // number of the refusal. K = 5 needs 20, 5 and 248 places, K = 1 needs 4, 1 and 168 and K = 256
@@ -51,31 +51,30 @@ const REFUSED_NUMBERS: [[u32; 8]; 39] = [
 ];
 
 fn note_row(report: Report, image: &[u8], row: [u32; 8]) -> Report {
+    let [column, start, goal, wanted, rows, costs, work, number] = row;
     let request = Request {
-        column: row[0],
-        start: row[1],
-        goal: row[2],
-        wanted: row[3],
+        column,
+        start,
+        goal,
+        wanted,
     };
     let lent = Rooms {
-        rows: row[4] as usize,
-        costs: row[5] as usize,
-        work: row[6] as usize,
+        rows: rows as usize,
+        costs: costs as usize,
+        work: work as usize,
     };
-    let agrees = rank_agrees(image, request, lent, refusal(row[7], 0), &[], &[]);
-    report.note(RANK, agrees)
+    let agrees = rank_agrees(image, request, lent, refusal(number, 0), &[], &[]);
+    report.note(Call::Rank, agrees)
 }
 
 fn refused_numbers(image: &[u8], rows: &[[u32; 8]]) -> Report {
     let mut report = Report::new();
-    for i in 0..rows.len() {
-        report = note_row(report, image, rows[i]);
+    for row in rows {
+        report = note_row(report, image, *row);
     }
     report
 }
 
 pub fn run(rt: &impl Print) -> io::Result<()> {
-    let mut image = [0u8; 84];
-    lay_out_s(&mut image);
-    refused_numbers(&image, &REFUSED_NUMBERS).print(rt, b"refused numbers")
+    refused_numbers(&network_s(), &REFUSED_NUMBERS).print(rt, "refused numbers")
 }

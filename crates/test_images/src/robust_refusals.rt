@@ -3,8 +3,8 @@ use std::io;
 use test_calls::answers::refusal;
 use test_calls::rank_calls::Request;
 use test_calls::robust_calls::{RouteRooms, robust_agrees};
-use test_fixtures::networks::lay_out_s;
-use test_fixtures::report::{ROBUST, Report};
+use test_fixtures::case_images::network_s;
+use test_fixtures::report::{Call, Report};
 
 // Each row: column, start, goal and K; the places of the path and the workspace; and the number of
 // the refusal. The path needs 4 places, and the workspace 168 with K = 1, 248 with K = 5 and 5,268
@@ -50,30 +50,29 @@ const REFUSED_NUMBERS: [[u32; 7]; 37] = [
 ];
 
 fn note_row(report: Report, image: &[u8], row: [u32; 7]) -> Report {
+    let [column, start, goal, wanted, path, work, number] = row;
     let request = Request {
-        column: row[0],
-        start: row[1],
-        goal: row[2],
-        wanted: row[3],
+        column,
+        start,
+        goal,
+        wanted,
     };
     let lent = RouteRooms {
-        path: row[4] as usize,
-        work: row[5] as usize,
+        path: path as usize,
+        work: work as usize,
     };
-    let agrees = robust_agrees(image, request, lent, refusal(row[6], 0), &[]);
-    report.note(ROBUST, agrees)
+    let agrees = robust_agrees(image, request, lent, refusal(number, 0), &[]);
+    report.note(Call::Robust, agrees)
 }
 
 fn refused_numbers(image: &[u8], rows: &[[u32; 7]]) -> Report {
     let mut report = Report::new();
-    for i in 0..rows.len() {
-        report = note_row(report, image, rows[i]);
+    for row in rows {
+        report = note_row(report, image, *row);
     }
     report
 }
 
 pub fn run(rt: &impl Print) -> io::Result<()> {
-    let mut image = [0u8; 84];
-    lay_out_s(&mut image);
-    refused_numbers(&image, &REFUSED_NUMBERS).print(rt, b"refused numbers")
+    refused_numbers(&network_s(), &REFUSED_NUMBERS).print(rt, "refused numbers")
 }

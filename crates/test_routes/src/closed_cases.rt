@@ -29,7 +29,7 @@ fn ferry_in_columns(mut report: Report, image: &[u8]) -> Report {
     report = note_shortest(report, image, 2, 1, 4, 4, &[1, 3, 4], 2);
     let rows = [1, 4, 0, 0, 1, 2, 4, 0, 1, 3, 4, 0];
     report = ranked(report, image, 1, 5, &rows, &[1, 5, 6]);
-    report = ranked(report, image, 1, 1, &rows[0..4], &[1]);
+    report = ranked(report, image, 1, 1, &rows[..4], &[1]);
     report = ranked(report, image, 2, 5, &[1, 3, 4, 0, 1, 2, 4, 0], &[2, 12]);
     ranked(report, image, 2, 2, &[1, 3, 4, 0, 1, 2, 4, 0], &[2, 12])
 }
@@ -135,9 +135,9 @@ fn note_detour() -> Report {
 }
 
 pub fn run(rt: &impl Print) -> io::Result<()> {
-    open_everywhere().print(rt, b"network S in edition 2")?;
-    note_ferry().print(rt, b"ferry closed in a column")?;
-    note_apart().print(rt, b"no path open in every column")?;
-    note_cut_off().print(rt, b"goal cut off in a column")?;
-    note_detour().print(rt, b"node cut off in a column")
+    open_everywhere().print(rt, "network S in edition 2")?;
+    note_ferry().print(rt, "ferry closed in a column")?;
+    note_apart().print(rt, "no path open in every column")?;
+    note_cut_off().print(rt, "goal cut off in a column")?;
+    note_detour().print(rt, "node cut off in a column")
 }

@@ -4,7 +4,7 @@ use std::io;
 use test_calls::answers::{pair, refusal};
 use test_calls::path_calls::{note_label, note_shortest, regret_agrees, shortest_agrees};
 use test_fixtures::case_images::{line, line_path, network_s, no_arcs, zero_costs};
-use test_fixtures::report::{REGRET, Report, SHORTEST};
+use test_fixtures::report::{Call, Report};
 
 // The label of a node that cannot reach the goal.
 const UNREACHED: u32 = 4294967295;
@@ -20,7 +20,7 @@ pub fn regret_is(
     worst: u32,
 ) -> Report {
     let agrees = regret_agrees(image, start, goal, nodes, pair(figure, worst));
-    report.note(REGRET, agrees)
+    report.note(Call::Regret, agrees)
 }
 
 // Regret of a list that is no path gives 14 at this place.
@@ -33,13 +33,13 @@ pub fn list_refused(
     place: u32,
 ) -> Report {
     let agrees = regret_agrees(image, start, goal, nodes, refusal(14, place));
-    report.note(REGRET, agrees)
+    report.note(Call::Regret, agrees)
 }
 
 // Shortest from a start from which the goal cannot be reached in a column.
 pub fn no_path(report: Report, image: &[u8], column: u32, start: u32, goal: u32) -> Report {
     let agrees = shortest_agrees(image, column, start, goal, 9, refusal(15, 0), &[]);
-    report.note(SHORTEST, agrees)
+    report.note(Call::Shortest, agrees)
 }
 
 fn labels_of_s(mut report: Report, image: &[u8]) -> Report {
@@ -105,31 +105,19 @@ fn note_no_arcs(mut report: Report, image: &[u8]) -> Report {
     list_refused(report, image, 1, 2, &[1, 2], 1)
 }
 
-fn line_label(i: usize) -> u32 {
-    if i < 200 {
-        (199000000 - 1000000 * i) as u32
-    } else {
-        0
-    }
-}
-
-fn lay_out_labels(labels: &mut [u32]) {
-    for i in 0..labels.len() {
-        labels[i] = line_label(i);
-    }
-}
-
 // The labels of the line's nodes to the last of 200.
 fn line_labels() -> [u32; 200] {
     let mut labels = [0u32; 200];
-    lay_out_labels(&mut labels);
+    for (i, label) in labels.iter_mut().enumerate() {
+        *label = 1000000 * (199 - i as u32);
+    }
     labels
 }
 
 fn note_line(image: &[u8], nodes: &[u16], labels: &[u32]) -> Report {
     let mut report = note_label(Report::new(), image, 1, 200, labels);
     if nodes.len() != 200 {
-        return report.note(REGRET, false);
+        return report.note(Call::Regret, false);
     }
     report = note_shortest(report, image, 1, 1, 200, 200, nodes, 199000000);
     report = regret_is(report, image, 1, 200, nodes, 0, 1);
@@ -138,19 +126,19 @@ fn note_line(image: &[u8], nodes: &[u16], labels: &[u32]) -> Report {
 }
 
 fn on_s(rt: &impl Print) -> io::Result<()> {
-    note_s(Report::new(), &network_s()).print(rt, b"network S")
+    note_s(Report::new(), &network_s()).print(rt, "network S")
 }
 
 fn on_zero_costs(rt: &impl Print) -> io::Result<()> {
-    note_zero_costs(Report::new(), &zero_costs()).print(rt, b"network of zero costs")
+    note_zero_costs(Report::new(), &zero_costs()).print(rt, "network of zero costs")
 }
 
 fn on_no_arcs(rt: &impl Print) -> io::Result<()> {
-    note_no_arcs(Report::new(), &no_arcs()).print(rt, b"network without arcs")
+    note_no_arcs(Report::new(), &no_arcs()).print(rt, "network without arcs")
 }
 
 fn on_line(rt: &impl Print) -> io::Result<()> {
-    note_line(&line(), &line_path(), &line_labels()).print(rt, b"line of 200 nodes")
+    note_line(&line(), &line_path(), &line_labels()).print(rt, "line of 200 nodes")
 }
 
 pub fn run(rt: &impl Print) -> io::Result<()> {

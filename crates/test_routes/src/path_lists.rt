@@ -4,7 +4,8 @@ use test_calls::path_calls::regret_agrees;
 use test_enumerate::{Costs, NodeList, Row};
 use test_fixtures::networks::number_at;
 use test_fixtures::numbers::{count, narrow, node};
-use test_fixtures::report::{REGRET, Report};
+use test_fixtures::plain_image::Network;
+use test_fixtures::report::{Call, Report};
 
 // The nodes between which a path is looked for, in a network of n nodes.
 #[derive(Clone, Copy)]
@@ -15,33 +16,22 @@ pub struct Trip {
 }
 
 // Regret's answer for a list of up to eight nodes, which is given as a row too.
-fn regret_answer(
-    trip: Trip,
-    arcs: &[u16],
-    costs: &[u32],
-    bests: Costs,
-    list: &[u16],
-    row: Row,
-) -> Answer {
+fn regret_answer(trip: Trip, network: Network, bests: Costs, list: &[u16], row: Row) -> Answer {
     let start = node(trip.start);
     let goal = node(trip.goal);
-    let kind = test_enumerate::check_list(arcs, costs, start, goal, list);
+    let kind = test_enumerate::check_list(network.nodes, network.costs, start, goal, list);
     if let NodeList::Wrong(place) = kind {
         return refusal(14, count(place));
     }
-    let own = test_enumerate::regret(test_enumerate::path_costs(arcs, costs, row), bests);
+    let prices = test_enumerate::path_costs(network.nodes, network.costs, row);
+    let own = test_enumerate::regret(prices, bests);
     pair(narrow(own.figure), own.worst)
-}
-
-// A row's node at i, if it is one of the first `size`.
-fn kept(node: u16, i: usize, size: usize) -> u16 {
-    if i < size { node } else { 0 }
 }
 
 // The row of the first `size` nodes.
 fn beginning(mut row: Row, size: usize) -> Row {
-    for i in 0..8usize {
-        row[i] = kept(row[i], i, size);
+    if size < 8 {
+        row[size..].fill(0);
     }
     row
 }
@@ -50,21 +40,20 @@ fn beginning(mut row: Row, size: usize) -> Row {
 fn note_list(
     report: Report,
     trip: Trip,
-    arcs: &[u16],
-    costs: &[u32],
+    network: Network,
     bests: Costs,
     row: Row,
     length: usize,
     image: &[u8],
 ) -> Report {
     if 8 < length {
-        return report.note(REGRET, false);
+        return report.note(Call::Regret, false);
     }
     let first = beginning(row, length);
-    let list = &row[0..length];
-    let expected = regret_answer(trip, arcs, costs, bests, list, first);
+    let list = &row[..length];
+    let expected = regret_answer(trip, network, bests, list, first);
     let agrees = regret_agrees(image, trip.start, trip.goal, list, expected);
-    report.note(REGRET, agrees)
+    report.note(Call::Regret, agrees)
 }
 
 // A node from 0 to n + 1.
@@ -78,8 +67,8 @@ fn drawn_node(n: u32, number: u32) -> u16 {
 // A row of nodes from 0 to n + 1, by the numbers from an index on, with the start in front.
 fn drawn_row(n: u32, start: u32, numbers: &[u32], from: u32) -> Row {
     let mut row = [0u16; 8];
-    for i in 0..8usize {
-        row[i] = drawn_node(n, number_at(numbers, from as usize + i));
+    for (i, place) in row.iter_mut().enumerate() {
+        *place = drawn_node(n, number_at(numbers, from as usize + i));
     }
     row[0] = node(start);
     row
@@ -135,8 +124,7 @@ fn drawn_list(kind: u32, n: u32, start: u32, path: Row, numbers: &[u32], from: u
 pub fn note_lists(
     mut report: Report,
     trip: Trip,
-    arcs: &[u16],
-    costs: &[u32],
+    network: Network,
     bests: Costs,
     path: Row,
     numbers: &[u32],
@@ -147,7 +135,7 @@ pub fn note_lists(
         let list = drawn_list(kind, trip.n, trip.start, path, numbers, from);
         let row = list.row;
         let length = list.length;
-        report = note_list(report, trip, arcs, costs, bests, row, length, image);
+        report = note_list(report, trip, network, bests, row, length, image);
     }
     report
 }

@@ -1,4 +1,6 @@
 // Random networks: the calls of the path layer, held to the plain enumeration of all paths.
+ghost use Rattle.std.specs.Prelude.{◌<◌};
+
 use super::path_lists::{Trip, drawn_path, note_lists};
 use super::rank_random::note_ranks;
 use test_calls::answers::{pair, refusal};
@@ -6,23 +8,17 @@ use test_calls::path_calls::{note_label, shortest_agrees};
 use test_enumerate::{Costs, Row};
 use test_fixtures::networks::number_at;
 use test_fixtures::numbers::{count, narrow, node};
-use test_fixtures::plain_image::Header;
-use test_fixtures::report::{LABEL, Report, SHORTEST};
-
-fn put_number(numbers: &mut [u32], i: usize, number: u32) {
-    if i < numbers.len() {
-        numbers[i] = number;
-    }
-}
+use test_fixtures::plain_image::{Header, Network};
+use test_fixtures::report::{Call, Report};
 
 // Puts the labels of a node into the table, which has eight places for each column.
-fn put_labels(labels: &mut [u32], start: u32, of_node: Costs) {
-    let at = (start % 9) as usize;
-    if at == 0 {
-        return;
-    }
-    for u in 0..8usize {
-        put_number(labels, 8 * u + at - 1, narrow(of_node[u]));
+fn put_labels(labels: &mut [u32], start: u32, of_node: Costs)
+    requires { 0 < start }
+{
+    for (u, label) in of_node.iter().enumerate() {
+        if let Some(place) = labels.get_mut(8 * u + start as usize - 1) {
+            *place = narrow(*label);
+        }
     }
 }
 
@@ -40,15 +36,15 @@ fn note_first(
     let room = n as usize + 9 * (u % 2) as usize;
     if test_enumerate::open_count(u, prices) == 0 {
         let none = shortest_agrees(image, u, start, goal, room, refusal(15, 0), &[]);
-        return report.note(SHORTEST, none);
+        return report.note(Call::Shortest, none);
     }
     let at = test_enumerate::first(u, rows, prices, 0);
     let cost = test_enumerate::in_column(test_enumerate::costs_at(prices, at), u);
     let row = test_enumerate::row_at(rows, at);
     let length = test_enumerate::length(row);
     let found = pair(count(length), narrow(cost));
-    let agrees = shortest_agrees(image, u, start, goal, room, found, &row[0..length]);
-    report.note(SHORTEST, agrees)
+    let agrees = shortest_agrees(image, u, start, goal, room, found, &row[..length]);
+    report.note(Call::Shortest, agrees)
 }
 
 // Shortest in each column, and into a slice that is a place too short.
@@ -63,10 +59,10 @@ fn note_firsts(
     prices: &[Costs],
 ) -> Report {
     if n == 0 {
-        return report.note(SHORTEST, false);
+        return report.note(Call::Shortest, false);
     }
     let short = shortest_agrees(image, 1, start, goal, n as usize - 1, refusal(13, 0), &[]);
-    report = report.note(SHORTEST, short);
+    report = report.note(Call::Shortest, short);
     for u in 1..=k {
         report = note_first(report, n, u, start, goal, image, rows, prices);
     }
@@ -79,9 +75,7 @@ fn note_firsts(
 fn note_pair(
     mut report: Report,
     code: u32,
-    header: Header,
-    arcs: &[u16],
-    costs: &[u32],
+    network: Network,
     numbers: &[u32],
     image: &[u8],
     bests: Costs,
@@ -93,23 +87,18 @@ fn note_pair(
     if start == goal {
         return report;
     }
-    report = note_firsts(report, header.n, header.k, start, goal, image, rows, prices);
-    let trip = Trip {
-        n: header.n,
-        start,
-        goal,
-    };
+    let Header { edition, n, k } = network.header;
+    report = note_firsts(report, n, k, start, goal, image, rows, prices);
+    let trip = Trip { n, start, goal };
     let open = test_enumerate::open_everywhere(rows, prices);
     let number = number_at(numbers, start as usize);
     let path = drawn_path(rows, open, number);
-    report = note_lists(report, trip, arcs, costs, bests, path, numbers, image);
-    if header.edition == 2 {
+    report = note_lists(report, trip, network, bests, path, numbers, image);
+    if edition == 2 {
         let other = drawn_path(rows, rows.len(), number);
-        report = note_lists(report, trip, arcs, costs, bests, other, numbers, image);
+        report = note_lists(report, trip, network, bests, other, numbers, image);
     }
-    note_ranks(
-        report, header.n, header.k, code, numbers, image, bests, rows, prices,
-    )
+    note_ranks(report, n, k, code, numbers, image, bests, rows, prices)
 }
 
 // Label with a goal, in each column, held to the table of labels.
@@ -125,7 +114,7 @@ fn note_columns(
         let from = 8 * (u % 8) as usize;
         let end = from + (n % 9) as usize;
         if labels.len() < end {
-            return report.note(LABEL, false);
+            return report.note(Call::Label, false);
         }
         report = note_label(report, image, u + 1, goal, &labels[from..end]);
     }
@@ -133,7 +122,8 @@ fn note_columns(
 }
 
 // Label with the goal of a pair, when its last start has filled the table.
-fn note_goal(report: Report, code: u32, n: u32, k: u32, image: &[u8], labels: &[u32]) -> Report {
+fn note_goal(report: Report, code: u32, header: Header, image: &[u8], labels: &[u32]) -> Report {
+    let Header { n, k, .. } = header;
     let start = code % 8 + 1;
     let goal = code / 8 + 1;
     if start != n || n < goal {
@@ -147,9 +137,7 @@ fn note_goal(report: Report, code: u32, n: u32, k: u32, image: &[u8], labels: &[
 fn note_code(
     report: Report,
     code: u32,
-    header: Header,
-    arcs: &[u16],
-    costs: &[u32],
+    network: Network,
     numbers: &[u32],
     image: &[u8],
     rows: &mut [Row],
@@ -158,30 +146,31 @@ fn note_code(
 ) -> Report {
     let start = code % 8 + 1;
     let goal = code / 8 + 1;
-    if header.n < start || header.n < goal {
+    let Header { n, k, .. } = network.header;
+    if n < start || n < goal {
         return report;
     }
-    let paths = test_enumerate::priced_paths(arcs, costs, node(start), node(goal), rows, prices);
-    if rows.len() < paths {
-        return report.note(LABEL, false);
+    let paths = test_enumerate::priced_paths(
+        network.nodes,
+        network.costs,
+        node(start),
+        node(goal),
+        rows,
+        prices,
+    );
+    if rows.len() < paths || prices.len() < paths {
+        return report.note(Call::Label, false);
     }
-    if prices.len() < paths {
-        return report.note(LABEL, false);
-    }
-    let all = &mut rows[0..paths];
-    let priced = &mut prices[0..paths];
-    let bests = test_enumerate::labels(header.k, node(start), node(goal), all, priced);
+    let all = &mut rows[..paths];
+    let priced = &mut prices[..paths];
+    let bests = test_enumerate::labels(k, node(start), node(goal), all, priced);
     put_labels(labels, start, bests);
-    note_pair(
-        report, code, header, arcs, costs, numbers, image, bests, all, priced,
-    )
+    note_pair(report, code, network, numbers, image, bests, all, priced)
 }
 
 fn note_codes(
     mut report: Report,
-    header: Header,
-    arcs: &[u16],
-    costs: &[u32],
+    network: Network,
     numbers: &[u32],
     image: &[u8],
     rows: &mut [Row],
@@ -189,24 +178,15 @@ fn note_codes(
     labels: &mut [u32],
 ) -> Report {
     for code in 0..64u32 {
-        report = note_code(
-            report, code, header, arcs, costs, numbers, image, rows, prices, labels,
-        );
-        report = note_goal(report, code, header.n, header.k, image, labels);
+        report = note_code(report, code, network, numbers, image, rows, prices, labels);
+        report = note_goal(report, code, network.header, image, labels);
     }
     report
 }
 
 // The calls of the path layer on a network of up to eight nodes, between all of them and in all
 // columns.
-pub fn note_paths(
-    report: Report,
-    header: Header,
-    arcs: &[u16],
-    costs: &[u32],
-    numbers: &[u32],
-    image: &[u8],
-) -> Report {
+pub fn note_paths(report: Report, network: Network, numbers: &[u32], image: &[u8]) -> Report {
     let row = [0u16; 8];
     let price = [0u64; 8];
     let mut rows = [row; 3914];
@@ -214,9 +194,7 @@ pub fn note_paths(
     let mut labels = [0u32; 64];
     note_codes(
         report,
-        header,
-        arcs,
-        costs,
+        network,
         numbers,
         image,
         &mut rows,

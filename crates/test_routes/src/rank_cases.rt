@@ -4,8 +4,8 @@ use std::io;
 use test_calls::answers::{refusal, single};
 use test_calls::rank_calls::{Request, Rooms, needed_rooms, note_rank, rank_agrees, rank_into};
 use test_fixtures::case_images::{line, line_path, network_s, no_arcs, zero_costs};
-use test_fixtures::report::{RANK, Report};
-use test_fixtures::slices::{NODE_PATTERN, NUMBER_PATTERN};
+use test_fixtures::report::{Call, Report};
+use test_fixtures::slices::Pattern;
 
 // Rank from 1 to 4, in a network of four nodes.
 pub fn ranked(
@@ -34,27 +34,24 @@ pub fn no_path(report: Report, image: &[u8], n: u32, column: u32, start: u32, go
         wanted: 5,
     };
     let agrees = rank_agrees(image, request, needed_rooms(n, 5), refusal(15, 0), &[], &[]);
-    report.note(RANK, agrees)
+    report.note(Call::Rank, agrees)
 }
 
 // Rank on network S by column 1 gives the first so many of three paths, in so many places.
 fn first_of_s(report: Report, image: &[u8], wanted: u32, places: usize, paths: usize) -> Report {
     let rows = [1u16, 2, 3, 4, 1, 3, 4, 0, 1, 2, 4, 0];
     let costs = [5u32, 7, 8];
-    if 12 < places {
-        return report.note(RANK, false);
+    if 12 < places || 3 < paths {
+        return report.note(Call::Rank, false);
     }
-    if 3 < paths {
-        return report.note(RANK, false);
-    }
-    ranked(report, image, 1, wanted, &rows[0..places], &costs[0..paths])
+    ranked(report, image, 1, wanted, &rows[..places], &costs[..paths])
 }
 
 // Network S by column 2.
 fn second_of_s(mut report: Report, image: &[u8]) -> Report {
     let rows = [1, 2, 4, 0, 1, 3, 4, 0, 1, 2, 3, 4];
     report = ranked(report, image, 2, 5, &rows, &[5, 8, 13]);
-    ranked(report, image, 2, 2, &rows[0..8], &[5, 8])
+    ranked(report, image, 2, 2, &rows[..8], &[5, 8])
 }
 
 // K below, at and above the number of paths.
@@ -72,25 +69,19 @@ pub fn note_s(mut report: Report, image: &[u8]) -> Report {
 fn note_zero_costs(mut report: Report, image: &[u8]) -> Report {
     let rows = [1, 3, 2, 4, 1, 3, 4, 0];
     report = ranked(report, image, 1, 5, &rows, &[0, 0]);
-    ranked(report, image, 1, 1, &rows[0..4], &[0])
+    ranked(report, image, 1, 1, &rows[..4], &[0])
 }
 
 // Rank on the line with K = 2, which needs 400 places for rows, 2 for costs and 3,912 for work. The
 // one path is all nodes.
 fn rank_line(image: &[u8], wanted: u32, lent: Rooms, nodes: &[u16]) -> bool {
-    let mut rows = [NODE_PATTERN; 51200];
-    let mut costs = [NUMBER_PATTERN; 256];
-    let mut work = [NUMBER_PATTERN; 58776];
+    let mut rows = [u16::PATTERN; 51200];
+    let mut costs = [u32::PATTERN; 256];
+    let mut work = [u32::PATTERN; 58776];
     let row_room = lent.rows;
     let cost_room = lent.costs;
     let work_room = lent.work;
-    if 51200 < row_room {
-        return false;
-    }
-    if 256 < cost_room {
-        return false;
-    }
-    if 58776 < work_room {
+    if 51200 < row_room || 256 < cost_room || 58776 < work_room {
         return false;
     }
     let request = Request {
@@ -102,9 +93,9 @@ fn rank_line(image: &[u8], wanted: u32, lent: Rooms, nodes: &[u16]) -> bool {
     rank_into(
         image,
         request,
-        &mut rows[0..row_room],
-        &mut costs[0..cost_room],
-        &mut work[0..work_room],
+        &mut rows[..row_room],
+        &mut costs[..cost_room],
+        &mut work[..work_room],
         single(1),
         nodes,
         &[199000000],
@@ -113,7 +104,7 @@ fn rank_line(image: &[u8], wanted: u32, lent: Rooms, nodes: &[u16]) -> bool {
 
 fn note_line(report: Report, image: &[u8], wanted: u32, nodes: &[u16]) -> Report {
     report.note(
-        RANK,
+        Call::Rank,
         rank_line(image, wanted, needed_rooms(200, wanted), nodes),
     )
 }
@@ -125,19 +116,19 @@ fn note_lines(mut report: Report, image: &[u8], nodes: &[u16]) -> Report {
 }
 
 fn on_s(rt: &impl Print) -> io::Result<()> {
-    note_s(Report::new(), &network_s()).print(rt, b"network S")
+    note_s(Report::new(), &network_s()).print(rt, "network S")
 }
 
 fn on_zero_costs(rt: &impl Print) -> io::Result<()> {
-    note_zero_costs(Report::new(), &zero_costs()).print(rt, b"network of zero costs")
+    note_zero_costs(Report::new(), &zero_costs()).print(rt, "network of zero costs")
 }
 
 fn on_no_arcs(rt: &impl Print) -> io::Result<()> {
-    no_path(Report::new(), &no_arcs(), 2, 1, 1, 2).print(rt, b"network without arcs")
+    no_path(Report::new(), &no_arcs(), 2, 1, 1, 2).print(rt, "network without arcs")
 }
 
 fn on_line(rt: &impl Print) -> io::Result<()> {
-    note_lines(Report::new(), &line(), &line_path()).print(rt, b"line of 200 nodes")
+    note_lines(Report::new(), &line(), &line_path()).print(rt, "line of 200 nodes")
 }
 
 pub fn run(rt: &impl Print) -> io::Result<()> {

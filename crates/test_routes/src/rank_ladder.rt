@@ -6,8 +6,8 @@ use std::io;
 use test_calls::answers::single;
 use test_calls::rank_calls::{Request, rank_into};
 use test_fixtures::ladder::{ladder, lay_out_rows};
-use test_fixtures::report::{RANK, Report};
-use test_fixtures::slices::{NODE_PATTERN, NUMBER_PATTERN};
+use test_fixtures::report::{Call, Report};
+use test_fixtures::slices::Pattern;
 
 // What path c costs.
 fn path_cost(column: u32, c: usize) -> usize {
@@ -15,17 +15,17 @@ fn path_cost(column: u32, c: usize) -> usize {
 }
 
 fn expect_costs(column: u32, costs: &mut [u32]) {
-    for c in 0..costs.len() {
-        costs[c] = (path_cost(column, c) % 4294967296) as u32;
+    for (c, cost) in costs.iter_mut().enumerate() {
+        *cost = (path_cost(column, c) % 4294967296) as u32;
     }
 }
 
 // Rank in a column, with slices as long as K = 256 needs: 256 rows of 199 places, 256 costs and
 // 257 * 215 + 16 * 199 + 64 = 58,503 numbers of work.
 fn rank_column(image: &[u8], column: u32, rows: &[u16], costs: &[u32]) -> bool {
-    let mut row_places = [NODE_PATTERN; 50944];
-    let mut cost_places = [NUMBER_PATTERN; 256];
-    let mut work = [NUMBER_PATTERN; 58503];
+    let mut row_places = [u16::PATTERN; 50944];
+    let mut cost_places = [u32::PATTERN; 256];
+    let mut work = [u32::PATTERN; 58503];
     let request = Request {
         column,
         start: 1,
@@ -49,7 +49,7 @@ fn note_column(report: Report, image: &[u8], column: u32) -> Report {
     let mut costs = [0u32; 256];
     lay_out_rows(column, 0, &mut rows);
     expect_costs(column, &mut costs);
-    report.note(RANK, rank_column(image, column, &rows, &costs))
+    report.note(Call::Rank, rank_column(image, column, &rows, &costs))
 }
 
 fn note_columns(mut report: Report, image: &[u8]) -> Report {
@@ -58,5 +58,5 @@ fn note_columns(mut report: Report, image: &[u8]) -> Report {
 }
 
 pub fn run(rt: &impl Print) -> io::Result<()> {
-    note_columns(Report::new(), &ladder(false)).print(rt, b"ladder of 199 nodes")
+    note_columns(Report::new(), &ladder(false)).print(rt, "ladder of 199 nodes")
 }

@@ -4,8 +4,8 @@ use test_calls::answers::{refusal, single};
 use test_calls::rank_calls::{Request, Rooms, longer, needed_rooms, note_short_ranks, rank_agrees};
 use test_enumerate::{Costs, Row};
 use test_fixtures::networks::number_at;
-use test_fixtures::numbers::{count, least, narrow, places};
-use test_fixtures::report::{RANK, Report};
+use test_fixtures::numbers::{count, narrow, places};
+use test_fixtures::report::{Call, Report};
 
 // The node at an index of the rows that Rank writes: n places for each path.
 fn node_at(n: usize, paths: &[Row], at: usize) -> u16 {
@@ -22,8 +22,8 @@ fn node_at(n: usize, paths: &[Row], at: usize) -> u16 {
 
 // Fills a list with the rows that Rank writes.
 fn expect_rows(n: usize, paths: &[Row], rows: &mut [u16]) {
-    for at in 0..rows.len() {
-        rows[at] = node_at(n, paths, at);
+    for (at, node) in rows.iter_mut().enumerate() {
+        *node = node_at(n, paths, at);
     }
 }
 
@@ -72,10 +72,7 @@ fn rank_gives(
     let mut costs = [0u32; 256];
     let row_count = places(given, n);
     let cost_count = given as usize;
-    if 2048 < row_count {
-        return false;
-    }
-    if 256 < cost_count {
+    if 2048 < row_count || 256 < cost_count {
         return false;
     }
     rank_is(
@@ -84,8 +81,8 @@ fn rank_gives(
         request,
         paths,
         prices,
-        &mut rows[0..row_count],
-        &mut costs[0..cost_count],
+        &mut rows[..row_count],
+        &mut costs[..cost_count],
     )
 }
 
@@ -102,7 +99,7 @@ fn rank_holds(
     if open == 0 {
         return rank_agrees(image, request, lent(n, request), refusal(15, 0), &[], &[]);
     }
-    let given = least(request.wanted, count(open));
+    let given = request.wanted.min(count(open));
     test_enumerate::rank(request.column, given as usize, paths, prices);
     rank_gives(image, n, request, given, paths, prices)
 }
@@ -125,7 +122,7 @@ fn note_rank(
     paths: &mut [Row],
     prices: &mut [Costs],
 ) -> Report {
-    let noted = report.note(RANK, rank_holds(image, n, request, paths, prices));
+    let noted = report.note(Call::Rank, rank_holds(image, n, request, paths, prices));
     if request.column != 1 {
         return noted;
     }

@@ -7,8 +7,8 @@ use test_calls::robust_calls::{
     RouteRooms, needed_route_rooms, note_robust, robust_agrees, robust_into,
 };
 use test_fixtures::case_images::{line, line_path, network_s, no_arcs, zero_costs};
-use test_fixtures::report::{ROBUST, Report};
-use test_fixtures::slices::{NODE_PATTERN, NUMBER_PATTERN};
+use test_fixtures::report::{Call, Report};
+use test_fixtures::slices::Pattern;
 
 // Robust from 1 to 4, in a network of four nodes.
 pub fn chosen(
@@ -43,7 +43,7 @@ pub fn no_path(report: Report, image: &[u8], n: u32, column: u32, start: u32, go
         refusal(15, 0),
         &[],
     );
-    report.note(ROBUST, agrees)
+    report.note(Call::Robust, agrees)
 }
 
 // K below, at and above the number of paths that the stopping rule needs: 2 in column 1, and 1 in
@@ -72,14 +72,11 @@ fn note_zero_costs(mut report: Report, image: &[u8]) -> Report {
 
 // Robust on the line, whose one path is all nodes. K = 256 needs 58,776 numbers of work.
 fn robust_line(image: &[u8], wanted: u32, lent: RouteRooms, nodes: &[u16]) -> bool {
-    let mut path = [NODE_PATTERN; 200];
-    let mut work = [NUMBER_PATTERN; 58776];
+    let mut path = [u16::PATTERN; 200];
+    let mut work = [u32::PATTERN; 58776];
     let path_room = lent.path;
     let work_room = lent.work;
-    if 200 < path_room {
-        return false;
-    }
-    if 58776 < work_room {
+    if 200 < path_room || 58776 < work_room {
         return false;
     }
     let request = Request {
@@ -91,8 +88,8 @@ fn robust_line(image: &[u8], wanted: u32, lent: RouteRooms, nodes: &[u16]) -> bo
     robust_into(
         image,
         request,
-        &mut path[0..path_room],
-        &mut work[0..work_room],
+        &mut path[..path_room],
+        &mut work[..work_room],
         settled(200, 0, 1, 1),
         nodes,
     )
@@ -100,7 +97,7 @@ fn robust_line(image: &[u8], wanted: u32, lent: RouteRooms, nodes: &[u16]) -> bo
 
 fn note_line(report: Report, image: &[u8], wanted: u32, nodes: &[u16]) -> Report {
     let needed = needed_route_rooms(200, wanted);
-    report.note(ROBUST, robust_line(image, wanted, needed, nodes))
+    report.note(Call::Robust, robust_line(image, wanted, needed, nodes))
 }
 
 fn note_lines(mut report: Report, image: &[u8], nodes: &[u16]) -> Report {
@@ -110,19 +107,19 @@ fn note_lines(mut report: Report, image: &[u8], nodes: &[u16]) -> Report {
 }
 
 fn on_s(rt: &impl Print) -> io::Result<()> {
-    note_s(Report::new(), &network_s()).print(rt, b"network S")
+    note_s(Report::new(), &network_s()).print(rt, "network S")
 }
 
 fn on_zero_costs(rt: &impl Print) -> io::Result<()> {
-    note_zero_costs(Report::new(), &zero_costs()).print(rt, b"network of zero costs")
+    note_zero_costs(Report::new(), &zero_costs()).print(rt, "network of zero costs")
 }
 
 fn on_no_arcs(rt: &impl Print) -> io::Result<()> {
-    no_path(Report::new(), &no_arcs(), 2, 1, 1, 2).print(rt, b"network without arcs")
+    no_path(Report::new(), &no_arcs(), 2, 1, 1, 2).print(rt, "network without arcs")
 }
 
 fn on_line(rt: &impl Print) -> io::Result<()> {
-    note_lines(Report::new(), &line(), &line_path()).print(rt, b"line of 200 nodes")
+    note_lines(Report::new(), &line(), &line_path()).print(rt, "line of 200 nodes")
 }
 
 pub fn run(rt: &impl Print) -> io::Result<()> {

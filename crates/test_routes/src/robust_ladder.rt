@@ -14,13 +14,13 @@ use test_calls::answers::{Answer, left_open, settled};
 use test_calls::rank_calls::Request;
 use test_calls::robust_calls::{needed_route_rooms, robust_into};
 use test_fixtures::ladder::{ladder, lay_out_rows};
-use test_fixtures::report::{ROBUST, Report};
-use test_fixtures::slices::{NODE_PATTERN, NUMBER_PATTERN};
+use test_fixtures::report::{Call, Report};
+use test_fixtures::slices::Pattern;
 
 // Robust with slices for K = 256, which needs 257 * 215 + 16 * 199 + 64 = 58,503 numbers of work.
 fn robust_column(image: &[u8], column: u32, wanted: u32, expected: Answer, nodes: &[u16]) -> bool {
-    let mut path = [NODE_PATTERN; 199];
-    let mut work = [NUMBER_PATTERN; 58503];
+    let mut path = [u16::PATTERN; 199];
+    let mut work = [u32::PATTERN; 58503];
     let work_room = needed_route_rooms(199, wanted).work;
     if 58503 < work_room {
         return false;
@@ -35,7 +35,7 @@ fn robust_column(image: &[u8], column: u32, wanted: u32, expected: Answer, nodes
         image,
         request,
         &mut path,
-        &mut work[0..work_room],
+        &mut work[..work_room],
         expected,
         nodes,
     )
@@ -53,7 +53,7 @@ fn chosen(
     let mut nodes = [0u16; 133];
     lay_out_rows(1, c, &mut nodes);
     report.note(
-        ROBUST,
+        Call::Robust,
         robust_column(image, column, wanted, expected, &nodes),
     )
 }
@@ -71,5 +71,5 @@ fn note_ladder(mut report: Report, image: &[u8]) -> Report {
 }
 
 pub fn run(rt: &impl Print) -> io::Result<()> {
-    note_ladder(Report::new(), &ladder(true)).print(rt, b"ladder of 199 nodes")
+    note_ladder(Report::new(), &ladder(true)).print(rt, "ladder of 199 nodes")
 }

@@ -5,8 +5,8 @@ use test_calls::robust_calls::{
     RouteRooms, longer_rooms, needed_route_rooms, note_short_robusts, robust_agrees,
 };
 use test_enumerate::{Choice, Costs, Row};
-use test_fixtures::numbers::{count, least, narrow};
-use test_fixtures::report::{ROBUST, Report};
+use test_fixtures::numbers::{count, narrow};
+use test_fixtures::report::{Call, Report};
 
 // Slices that are exactly long enough in even columns, and longer in odd ones.
 fn lent(n: u32, request: Request) -> RouteRooms {
@@ -41,7 +41,7 @@ fn robust_gives(
     let row = test_enumerate::row_at(paths, choice.route);
     let length = test_enumerate::length(row);
     let found = answer_of(choice, length);
-    robust_agrees(image, request, lent(n, request), found, &row[0..length])
+    robust_agrees(image, request, lent(n, request), found, &row[..length])
 }
 
 // Robust where these are the paths that are open in every column. Its answer says nothing of a path
@@ -55,12 +55,12 @@ fn robust_ranked(
     prices: &mut [Costs],
 ) -> bool {
     let looked_at = count(request.wanted as usize) + 1;
-    let ranked = least(looked_at, count(paths.len())) as usize;
+    let ranked = looked_at.min(count(paths.len())) as usize;
     test_enumerate::rank(request.column, ranked, paths, prices);
     if prices.len() < ranked {
         return false;
     }
-    robust_gives(image, n, request, bests, paths, &prices[0..ranked])
+    robust_gives(image, n, request, bests, paths, &prices[..ranked])
 }
 
 // Robust, by all paths with their costs. Those that are open in every column are put in front.
@@ -76,14 +76,11 @@ fn robust_holds(
     if open == 0 {
         return robust_agrees(image, request, lent(n, request), refusal(15, 0), &[]);
     }
-    if paths.len() < open {
+    if paths.len() < open || prices.len() < open {
         return false;
     }
-    if prices.len() < open {
-        return false;
-    }
-    let listed = &mut paths[0..open];
-    let priced = &mut prices[0..open];
+    let listed = &mut paths[..open];
+    let priced = &mut prices[..open];
     robust_ranked(image, n, request, bests, listed, priced)
 }
 
@@ -98,7 +95,7 @@ pub fn note_robusts(
     prices: &mut [Costs],
 ) -> Report {
     let agrees = robust_holds(image, n, request, bests, paths, prices);
-    let noted = report.note(ROBUST, agrees);
+    let noted = report.note(Call::Robust, agrees);
     if request.column != 1 {
         return noted;
     }

@@ -16,15 +16,10 @@ fn finds(
     nodes: &[u16],
     values: [u32; 3],
 ) -> Report {
-    let quest = Quest {
-        start: ends[0],
-        goal: ends[1],
-        limit: values[2],
-    };
-    let choice = Choice {
-        figure: values[0],
-        worst: values[1],
-    };
+    let [start, goal] = ends;
+    let [figure, worst, limit] = values;
+    let quest = Quest { start, goal, limit };
+    let choice = Choice { figure, worst };
     note_search(report, image, n, quest, choice, nodes)
 }
 
@@ -59,18 +54,10 @@ const REFUSED: [[u32; 6]; 18] = [
     [1, 4, 4, 4, 19, 4],
 ];
 
-fn note_row(report: Report, image: &[u8], row: [u32; 6]) -> Report {
-    let quest = Quest {
-        start: row[0],
-        goal: row[1],
-        limit: row[2],
-    };
-    note_refused(report, image, quest, row[3] as usize, row[4], row[5])
-}
-
 fn note_rows(mut report: Report, image: &[u8]) -> Report {
-    for i in 0..18usize {
-        report = note_row(report, image, REFUSED[i]);
+    for [start, goal, limit, room, number, place] in REFUSED {
+        let quest = Quest { start, goal, limit };
+        report = note_refused(report, image, quest, room as usize, number, place);
     }
     report
 }
@@ -86,16 +73,16 @@ fn note_s(mut report: Report, image: &[u8]) -> Report {
 }
 
 fn of_network_s(rt: &impl Print) -> io::Result<()> {
-    note_s(Report::new(), &network_s()).print(rt, b"network S")?;
-    note_s(Report::new(), &second_s()).print(rt, b"network S in edition 2")
+    note_s(Report::new(), &network_s()).print(rt, "network S")?;
+    note_s(Report::new(), &second_s()).print(rt, "network S in edition 2")
 }
 
 // All paths have the figure 0: the first in node order is found, and no later arc is followed.
 fn of_equal_figures(rt: &impl Print) -> io::Result<()> {
     let image = zero_costs();
     let report = finds(Report::new(), &image, 4, [1, 4], &[1, 3, 2, 4], [0, 1, 4]);
-    finds_none(report, &image, 4, [4, 1]).print(rt, b"network of zero costs")?;
-    finds_none(Report::new(), &no_arcs(), 2, [1, 2]).print(rt, b"network without arcs")
+    finds_none(report, &image, 4, [4, 1]).print(rt, "network of zero costs")?;
+    finds_none(Report::new(), &no_arcs(), 2, [1, 2]).print(rt, "network without arcs")
 }
 
 // An arc that is closed in a column, and one to a node that is cut off from the goal there, is tried and
@@ -103,13 +90,13 @@ fn of_equal_figures(rt: &impl Print) -> io::Result<()> {
 fn of_closed_arcs(rt: &impl Print) -> io::Result<()> {
     let by_ferry = ferry();
     let report = finds(Report::new(), &by_ferry, 4, [1, 4], &[1, 3, 4], [5, 1, 5]);
-    report.print(rt, b"ferry closed in a column")?;
+    report.print(rt, "ferry closed in a column")?;
     let parted = apart();
     let none = finds_none(Report::new(), &parted, 4, [1, 4]);
-    finds(none, &parted, 4, [2, 4], &[2, 4], [3, 2, 3]).print(rt, b"no path open in every column")?;
+    finds(none, &parted, 4, [2, 4], &[2, 4], [3, 2, 3]).print(rt, "no path open in every column")?;
     let cut = detour();
     let way = finds(Report::new(), &cut, 4, [1, 4], &[1, 3, 4], [2, 1, 3]);
-    finds_none(way, &cut, 4, [2, 4]).print(rt, b"node cut off in a column")
+    finds_none(way, &cut, 4, [2, 4]).print(rt, "node cut off in a column")
 }
 
 // The search goes down all 200 nodes, by one arc to each.
@@ -123,7 +110,7 @@ fn of_line(rt: &impl Print) -> io::Result<()> {
         &line_path(),
         [0, 1, 199],
     );
-    finds_none(report, &image, 200, [200, 1]).print(rt, b"line of 200 nodes")
+    finds_none(report, &image, 200, [200, 1]).print(rt, "line of 200 nodes")
 }
 
 // The ladder that Robust is tested on, of 133 nodes to a path. The paths with the numbers 127 and 128 have the
@@ -137,7 +124,7 @@ fn of_ladder(rt: &impl Print) -> io::Result<()> {
     let image = ladder(true);
     finds(Report::new(), &image, 199, [1, 199], &nodes, [128, 1, 940]).print(
         rt,
-        b"ladder of 199 nodes",
+        "ladder of 199 nodes",
     )
 }
 

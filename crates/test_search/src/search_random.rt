@@ -1,4 +1,5 @@
 // Random networks of 2 to 8 nodes: Descent from every node to one.
+use arrayvec::ArrayVec;
 use std::io;
 use test_calls::rank_calls::{Request, WORK_PLACES, needed_rooms};
 use test_calls::robust_calls::robust_answer;
@@ -6,9 +7,9 @@ use test_calls::searches::{Choice, Quest, note_no_path, note_search};
 use test_enumerate::{Costs, Descent, Row};
 use test_fixtures::networks::{draw_network, number_at};
 use test_fixtures::numbers::{count, narrow, node};
-use test_fixtures::plain_image::{Header, encode, total};
-use test_fixtures::random::{Random, draw};
-use test_fixtures::report::{Report, SEARCH};
+use test_fixtures::plain_image::{Header, Network};
+use test_fixtures::random::Random;
+use test_fixtures::report::{Call, Report};
 
 // Whether Robust shows this figure, if it is settled.
 fn robust_shows(image: &[u8], n: u32, request: Request, figure: u32) -> bool {
@@ -18,12 +19,9 @@ fn robust_shows(image: &[u8], n: u32, request: Request, figure: u32) -> bool {
     if WORK_PLACES < room {
         return false;
     }
-    let answer = robust_answer(image, request, &mut path, &mut work[0..room]);
+    let answer = robust_answer(image, request, &mut path, &mut work[..room]);
     let is_open = answer.values[4];
-    if answer.number != 0 {
-        return false;
-    }
-    is_open == 1 || answer.values[1] == figure
+    answer.number == 0 && (is_open == 1 || answer.values[1] == figure)
 }
 
 // Robust in the column that a count names, of k, which are at most 8.
@@ -55,7 +53,7 @@ fn note_found(
     let measure = test_enumerate::regret(test_enumerate::costs_at(prices, at), bests);
     let figure = narrow(measure.figure);
     report = report.note(
-        SEARCH,
+        Call::Search,
         test_enumerate::has_found(search, row, measure.figure),
     );
     let asked = Quest {
@@ -68,18 +66,16 @@ fn note_found(
         worst: measure.worst,
     };
     let n = header.n as usize;
-    report = note_search(report, image, n, asked, choice, &row[0..length]);
+    report = note_search(report, image, n, asked, choice, &row[..length]);
     let request = request_of(quest, header.k, search.tried);
-    report.note(SEARCH, robust_shows(image, header.n, request, figure))
+    report.note(Call::Search, robust_shows(image, header.n, request, figure))
 }
 
 // Search from start to goal, if they differ, with the labels of all nodes to the goal.
 fn note_start(
     report: Report,
-    header: Header,
+    network: Network,
     quest: Quest,
-    arcs: &[u16],
-    costs: &[u32],
     image: &[u8],
     table: &[Costs],
     rows: &mut [Row],
@@ -90,19 +86,21 @@ fn note_start(
     if start == goal {
         return report;
     }
+    let Network {
+        header,
+        nodes: arcs,
+        costs,
+    } = network;
     let paths = test_enumerate::priced_paths(arcs, costs, start, goal, rows, prices);
-    if rows.len() < paths {
-        return report.note(SEARCH, false);
+    if rows.len() < paths || prices.len() < paths {
+        return report.note(Call::Search, false);
     }
-    if prices.len() < paths {
-        return report.note(SEARCH, false);
-    }
-    let open = test_enumerate::open_everywhere(&mut rows[0..paths], &mut prices[0..paths]);
+    let open = test_enumerate::open_everywhere(&mut rows[..paths], &mut prices[..paths]);
     if open == 0 {
         return note_no_path(report, image, header.n as usize, quest);
     }
     if paths < open {
-        return report.note(SEARCH, false);
+        return report.note(Call::Search, false);
     }
     let search = test_enumerate::search(arcs, costs, start, goal, table);
     note_found(
@@ -112,132 +110,76 @@ fn note_start(
         image,
         search,
         test_enumerate::labels_of(table, start),
-        &rows[0..open],
-        &prices[0..open],
+        &rows[..open],
+        &prices[..open],
     )
 }
 
 // Search from every node to the goal.
 fn note_starts(
     mut report: Report,
-    header: Header,
+    network: Network,
     goal: u32,
-    arcs: &[u16],
-    costs: &[u32],
     image: &[u8],
     rows: &mut [Row],
     prices: &mut [Costs],
     table: &mut [Costs],
 ) -> Report {
+    let Network {
+        header,
+        nodes: arcs,
+        costs,
+    } = network;
     test_enumerate::node_labels(header.k, arcs, costs, node(goal), rows, prices, table);
-    for i in 0..8usize {
-        if table.len() <= i {
-            return report;
-        }
+    for start in 1..=count(table.len()) {
         let quest = Quest {
-            start: count(i) + 1,
+            start,
             goal,
             limit: 100,
         };
-        report = note_start(
-            report, header, quest, arcs, costs, image, table, rows, prices,
-        );
+        report = note_start(report, network, quest, image, table, rows, prices);
     }
     report
 }
 
 // The same, with room made for the paths and the labels. Eight nodes have at most 1,957 paths between two of
 // them.
-fn note_goal(
-    report: Report,
-    header: Header,
-    goal: u32,
-    arcs: &[u16],
-    costs: &[u32],
-    image: &[u8],
-) -> Report {
-    let row = [0u16; 8];
-    let price = [0u64; 8];
-    let mut rows = [row; 3914];
-    let mut prices = [price; 1957];
-    let mut table = [price; 8];
-    let n = header.n as usize;
+fn note_goal(report: Report, network: Network, goal: u32, image: &[u8]) -> Report {
+    let mut rows = [[0u16; 8]; 3914];
+    let mut prices = [[0u64; 8]; 1957];
+    let mut table = [[0u64; 8]; 8];
+    let n = network.header.n as usize;
     if 8 < n {
-        return report.note(SEARCH, false);
+        return report.note(Call::Search, false);
     }
     note_starts(
         report,
-        header,
+        network,
         goal,
-        arcs,
-        costs,
         image,
         &mut rows,
         &mut prices,
-        &mut table[0..n],
+        &mut table[..n],
     )
 }
 
-// Draws a network and a goal from numbers.
-fn note_numbers(
-    report: Report,
-    edition: u32,
-    numbers: &[u32],
-    nodes: &mut [u16],
-    costs: &mut [u32],
-    image: &mut [u8],
-) -> Report {
-    let drawn = draw_network(edition, numbers, nodes, costs);
-    let header = drawn.header;
-    let node_count = drawn.node_count;
-    let cost_count = drawn.cost_count;
-    if nodes.len() < node_count {
-        return report.note(SEARCH, false);
-    }
-    if costs.len() < cost_count {
-        return report.note(SEARCH, false);
-    }
-    if header.n == 0 {
-        return report.note(SEARCH, false);
-    }
-    let arcs = &nodes[0..node_count];
-    let prices = &costs[0..cost_count];
-    let bytes = total(arcs, prices) as usize;
-    if image.len() < bytes {
-        return report.note(SEARCH, false);
-    }
-    encode(header, arcs, prices, &mut image[0..bytes]);
-    let goal = number_at(numbers, 4) % header.n % 8 + 1;
-    note_goal(report, header, goal, arcs, prices, &image[0..bytes])
-}
-
-// 2,000 networks of an edition.
-fn networks_with(
-    edition: u32,
-    numbers: &mut [u32],
-    nodes: &mut [u16],
-    costs: &mut [u32],
-    image: &mut [u8],
-) -> Report {
+// 2,000 networks of an edition, each with a goal.
+fn networks(edition: u32) -> Report {
     let mut random = Random { state: 6 };
+    let mut numbers = [0u32; 520];
     let mut report = Report::new();
     for _ in 0..2000u32 {
-        random = draw(random, numbers);
-        report = note_numbers(report, edition, numbers, nodes, costs, image);
+        random.fill(&mut numbers);
+        let small = draw_network(edition, &numbers);
+        let network = small.lent();
+        let image: ArrayVec<u8, 2040> = network.image();
+        let goal = number_at(&numbers, 4) % network.header.n.max(1) % 8 + 1;
+        report = note_goal(report, network, goal, image.as_slice());
     }
     report
 }
 
-// The most arcs are 56, and the most costs 448.
-fn networks(edition: u32) -> Report {
-    let mut numbers = [0u32; 520];
-    let mut nodes = [0u16; 112];
-    let mut costs = [0u32; 448];
-    let mut image = [0u8; 2040];
-    networks_with(edition, &mut numbers, &mut nodes, &mut costs, &mut image)
-}
-
 pub fn run(rt: &impl Print) -> io::Result<()> {
-    networks(1).print(rt, b"random networks")?;
-    networks(2).print(rt, b"random networks of edition 2")
+    networks(1).print(rt, "random networks")?;
+    networks(2).print(rt, "random networks of edition 2")
 }

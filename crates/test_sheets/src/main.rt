@@ -12,7 +12,7 @@ use std::fs::File;
 use std::io;
 use std::io::{Read, Write};
 use std::rt::Files;
-use test_fixtures::slices::{BYTE_PATTERN, holds_bytes};
+use test_fixtures::slices::{Pattern, holds};
 
 // No image is longer than 36,024 bytes.
 const IMAGE_PLACES: usize = 36025;
@@ -31,7 +31,7 @@ fn print_text(rt: &impl Print, text: &[u8], length: usize) -> io::Result<()> {
     }
     let written = &text[0..length];
     io::writer(rt).write_all(written)?;
-    if !holds_bytes(text, written) {
+    if !holds(text, written) {
         println!(rt; "another place was changed")?;
     }
     Ok(())
@@ -78,7 +78,7 @@ fn print_file(
 // `TEXT_PLACES`.
 fn print_in(rt: &(impl Files + Print), name: &str, places: usize) -> io::Result<()> {
     let mut image = [0u8; IMAGE_PLACES];
-    let mut text = [BYTE_PATTERN; TEXT_PLACES];
+    let mut text = [u8::PATTERN; TEXT_PLACES];
     print_title(rt, name, places)?;
     if TEXT_PLACES < places {
         return Ok(());

@@ -1,18 +1,14 @@
 // Update on network S, with answers that are written down.
 use super::plain_update::{update_agrees, update_gives};
 use std::io;
-use test_fixtures::networks::{S_COSTS, S_NODES, lay_out_s};
-use test_fixtures::plain_image::{Header, first_edition, second_edition};
-use test_fixtures::report::{Report, UPDATE};
+use test_fixtures::case_images::network_s;
+use test_fixtures::networks::{S_COSTS, S_NODES};
+use test_fixtures::plain_image::{Header, Network, first_edition, second_edition};
+use test_fixtures::report::{Call, Report};
 
-fn note(report: Report, header: Header, records: &[u32]) -> Report {
-    let mut costs = S_COSTS;
-    let mut image = [0u8; 84];
-    let mut after = [0u8; 84];
-    let agrees = update_agrees(
-        header, &S_NODES, &mut costs, records, &mut image, &mut after,
-    );
-    report.note(UPDATE, agrees)
+fn note(report: Report, header: Header, list: &[u32]) -> Report {
+    let network = Network::new(header, &S_NODES, &S_COSTS);
+    report.note(Call::Update, update_agrees(network, list))
 }
 
 // Accepted lists, and the errors of records in all orders: each record is examined, also one that does not
@@ -39,20 +35,15 @@ fn note_lists(mut report: Report, header: Header) -> Report {
 }
 
 // Image and list in error at once: byte `at` of network S's image has been given a content.
-fn note_wrong(report: Report, at: usize, content: u8, records: &[u32], number: u32) -> Report {
-    let mut image = [0u8; 84];
-    let mut after = [0u8; 84];
-    lay_out_s(&mut image);
-    lay_out_s(&mut after);
+fn note_wrong(report: Report, at: usize, content: u8, list: &[u32], number: u32) -> Report {
     if 84 <= at {
-        return report.note(UPDATE, false);
+        return report.note(Call::Update, false);
     }
+    let mut image = network_s();
     image[at] = content;
-    after[at] = content;
-    report.note(
-        UPDATE,
-        update_gives(&mut image, records, [number, 0], &after),
-    )
+    let after = image;
+    let agrees = update_gives(&mut image, list, [number, 0], &after);
+    report.note(Call::Update, agrees)
 }
 
 // Rows 1 to 3 stand before row 4, which a list may be the reason of, and rows 5 to 9 behind it.
@@ -70,5 +61,5 @@ fn note_images(mut report: Report) -> Report {
 pub fn run(rt: &impl Print) -> io::Result<()> {
     let report = note_lists(Report::new(), first_edition(4, 2));
     let both = note_lists(report, second_edition(4, 2));
-    note_images(both).print(rt, b"network S")
+    note_images(both).print(rt, "network S")
 }

@@ -5,9 +5,9 @@ use std::io;
 use test_calls::answers::single;
 use test_calls::rank_calls::Request;
 use test_calls::robust_calls::needed_route_rooms;
-use test_fixtures::networks::lay_out_s;
+use test_fixtures::case_images::network_s;
 use test_fixtures::numbers::node;
-use test_fixtures::report::{FRESH, RUNS, Report, STANDS, UNCHANGED};
+use test_fixtures::report::{Call, Report};
 use week_calls::Week;
 
 // An event and what it comes to: the arc, 1 if it is closed and 0 if it is opened, one of the three numbers below, and
@@ -62,18 +62,18 @@ const NO_PATH_EVENTS: [Line; 2] = [
     [0, 0, RAN, 0, 0, 15, 0, 0, 0, 0, 0, 0, 0, 0, 0],
 ];
 
-fn report_line(outcome: u32) -> usize {
+fn report_line(outcome: u32) -> Call {
     match outcome {
-        0 => UNCHANGED,
-        1 => STANDS,
-        _ => RUNS,
+        SAME => Call::Unchanged,
+        STOOD => Call::Stands,
+        _ => Call::Runs,
     }
 }
 
 fn week_of(line: Line) -> Week {
     let mut closed = [0u64; 16];
     let mut route = [0u16; 200];
-    closed[0] = line[4] as u64;
+    closed[0] = u64::from(line[4]);
     route[0] = node(line[11]);
     route[1] = node(line[12]);
     route[2] = node(line[13]);
@@ -116,9 +116,9 @@ fn note_lines(
     lines: &[Line],
 ) -> Report {
     let mut before = first;
-    for i in 0..lines.len() {
-        report = note_line(report, image, request, before, lines[i]);
-        before = lines[i];
+    for line in lines {
+        report = note_line(report, image, request, before, *line);
+        before = *line;
     }
     report
 }
@@ -126,7 +126,7 @@ fn note_lines(
 fn note_fresh(report: Report, image: &[u8], request: Request, line: Line) -> Report {
     let room = needed_route_rooms(4, request.wanted).work;
     let agrees = fresh_agrees(image, request, room, week_of(line), single(0));
-    report.note(FRESH, agrees)
+    report.note(Call::Fresh, agrees)
 }
 
 // One path wanted between two nodes, in a column.
@@ -149,7 +149,5 @@ fn note_weeks(mut report: Report, image: &[u8]) -> Report {
 }
 
 pub fn run(rt: &impl Print) -> io::Result<()> {
-    let mut image = [0u8; 84];
-    lay_out_s(&mut image);
-    note_weeks(Report::new(), &image).print(rt, b"network S")
+    note_weeks(Report::new(), &network_s()).print(rt, "network S")
 }

@@ -6,7 +6,7 @@ use test_calls::rank_calls::{Request, less};
 use test_calls::robust_calls::{longer_rooms, needed_route_rooms};
 use test_fixtures::networks::number_at;
 use test_fixtures::numbers::count;
-use test_fixtures::plain_image::Header;
+use test_fixtures::plain_image::{Header, Network};
 
 // The index of the first number that a list of events is drawn from.
 pub const EVENTS: usize = 526;
@@ -30,26 +30,54 @@ fn drawn_wanted(number: u32) -> u32 {
     }
 }
 
-// A column, a start, another node as goal, and K.
-pub fn drawn_request(header: Header, numbers: &[u32]) -> Request {
-    let start = below(number_at(numbers, 520), header.n);
-    let step = below(number_at(numbers, 521), count(less(header.n as usize)));
-    let goal = below(start + 1 + step, header.n);
-    Request {
-        column: 1 + below(number_at(numbers, 522), header.k),
-        start: 1 + start,
-        goal: 1 + goal,
-        wanted: drawn_wanted(number_at(numbers, 523) / 64),
-    }
+// A network with its image, and the numbers that it and what is asked of it are drawn from.
+#[derive(Clone, Copy)]
+pub struct Drawn<'a> {
+    pub network: Network<'a>,
+    pub image: &'a [u8],
+    pub numbers: &'a [u32],
 }
 
-// A workspace that is exactly long enough, or a longer one.
-pub fn room_for(header: Header, request: Request, is_longer: bool) -> usize {
-    let needed = needed_route_rooms(header.n, request.wanted);
-    if is_longer {
-        return longer_rooms(needed).work;
+impl Drawn<'_> {
+    // A column, a start, another node as goal, and K.
+    pub fn request(self) -> Request {
+        let numbers = self.numbers;
+        let Header { n, k, .. } = self.network.header;
+        let start = below(number_at(numbers, 520), n);
+        let step = below(number_at(numbers, 521), count(less(n as usize)));
+        let goal = below(start + 1 + step, n);
+        Request {
+            column: 1 + below(number_at(numbers, 522), k),
+            start: 1 + start,
+            goal: 1 + goal,
+            wanted: drawn_wanted(number_at(numbers, 523) / 64),
+        }
     }
-    needed.work
+
+    // A workspace that is exactly long enough, or a longer one.
+    pub fn room_for(self, request: Request, is_longer: bool) -> usize {
+        let needed = needed_route_rooms(self.network.header.n, request.wanted);
+        if is_longer {
+            return longer_rooms(needed).work;
+        }
+        needed.work
+    }
+
+    // An event from a number: in 5 of 8 cases it closes an arc, and in 1 of 8 it is refused.
+    pub fn event(self, request: Request, number: u32) -> Asked {
+        let m = self.network.arc_count();
+        let high = number / 65536;
+        let asked = Asked {
+            request,
+            arc: below(high, m),
+            close: number / 16 % 8 < 5,
+            room: self.room_for(request, number / 128 % 2 == 1),
+        };
+        if number / 256 % 8 == 0 {
+            return wrong_event(self.network.header, m, asked, high % 12);
+        }
+        asked
+    }
 }
 
 // The request made wrong, in the ways 0 to 5, and else as it is.
@@ -57,9 +85,9 @@ fn wrong_request(header: Header, request: Request, way: u32) -> Request {
     let mut wrong = request;
     match way {
         0 => wrong.column = 0,
-        1 => wrong.column = std::num::wrapping_add_u32(header.k, 1),
+        1 => wrong.column = header.k.wrapping_add(1),
         2 => wrong.goal = request.start,
-        3 => wrong.goal = std::num::wrapping_add_u32(header.n, 1),
+        3 => wrong.goal = header.n.wrapping_add(1),
         4 => wrong.wanted = 0,
         5 => wrong.wanted = 257,
         _ => wrong.wanted = request.wanted,
@@ -93,19 +121,4 @@ fn wrong_event(header: Header, m: u32, asked: Asked, way: u32) -> Asked {
         close: asked.close,
         room: wrong_room(asked.room, way),
     }
-}
-
-// An event from a number: in 5 of 8 cases it closes an arc, and in 1 of 8 it is refused.
-pub fn drawn_event(header: Header, m: u32, request: Request, number: u32) -> Asked {
-    let high = number / 65536;
-    let asked = Asked {
-        request,
-        arc: below(high, m),
-        close: number / 16 % 8 < 5,
-        room: room_for(header, request, number / 128 % 2 == 1),
-    };
-    if number / 256 % 8 == 0 {
-        return wrong_event(header, m, asked, high % 12);
-    }
-    asked
 }

@@ -2,7 +2,7 @@
 // after them.
 use test_calls::answers::Answer;
 use test_calls::rank_calls::{Request, WORK_PLACES, work_after};
-use test_fixtures::slices::{NUMBER_PATTERN, holds_nodes, holds_numbers, is_filled};
+use test_fixtures::slices::{Pattern, is_filled};
 use week_calls::event::event;
 use week_calls::fresh::fresh;
 use week_calls::{Week, Weekly};
@@ -14,15 +14,6 @@ pub struct Asked {
     pub arc: u32,
     pub close: bool,
     pub room: usize,
-}
-
-fn same_words(a: [u64; 16], b: [u64; 16]) -> bool {
-    for i in 0..16usize {
-        if a[i] != b[i] {
-            return false;
-        }
-    }
-    true
 }
 
 fn numbers_of(week: Week) -> [u32; 6] {
@@ -38,16 +29,7 @@ fn numbers_of(week: Week) -> [u32; 6] {
 
 // Whether two states are the same in every word, place and number.
 pub fn same_week(a: Week, b: Week) -> bool {
-    let words = a.closed;
-    let other_words = b.closed;
-    if !same_words(words, other_words) {
-        return false;
-    }
-    let route = a.route;
-    let other_route = b.route;
-    let numbers = numbers_of(a);
-    let other_numbers = numbers_of(b);
-    holds_nodes(&route, &other_route) && holds_numbers(&numbers, &other_numbers)
+    a.closed == b.closed && a.route == b.route && numbers_of(a) == numbers_of(b)
 }
 
 fn same_weekly(given: Weekly, expected: Week, answer: Answer) -> bool {
@@ -88,12 +70,11 @@ pub fn event_agrees(
     expected: Week,
     answer: Answer,
 ) -> bool {
-    let mut work = [NUMBER_PATTERN; WORK_PLACES];
-    let room = asked.room;
-    if WORK_PLACES < room {
-        return false;
+    let mut work = [u32::PATTERN; WORK_PLACES];
+    match work.get_mut(..asked.room) {
+        Some(work) => event_into(image, asked, week, work, expected, answer),
+        None => false,
     }
-    event_into(image, asked, week, &mut work[0..room], expected, answer)
 }
 
 fn fresh_into(
@@ -122,9 +103,9 @@ pub fn fresh_agrees(
     expected: Week,
     answer: Answer,
 ) -> bool {
-    let mut work = [NUMBER_PATTERN; WORK_PLACES];
-    if WORK_PLACES < room {
-        return false;
+    let mut work = [u32::PATTERN; WORK_PLACES];
+    match work.get_mut(..room) {
+        Some(work) => fresh_into(image, request, work, expected, answer),
+        None => false,
     }
-    fresh_into(image, request, &mut work[0..room], expected, answer)
 }

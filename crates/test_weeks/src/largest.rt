@@ -8,13 +8,14 @@ use super::held::{Asked, event_agrees, fresh_agrees};
 use super::left::numbered;
 use super::map::turned;
 use super::step::Run;
+use arrayvec::ArrayVec;
 use std::io;
 use test_calls::answers::{refusal, single};
 use test_calls::rank_calls::Request;
 use test_calls::robust_calls::needed_route_rooms;
 use test_fixtures::networks::largest_nodes;
-use test_fixtures::plain_image::{encode, first_edition};
-use test_fixtures::report::{FRESH, REFUSED, RUNS, Report, STANDS};
+use test_fixtures::plain_image::{Network, first_edition};
+use test_fixtures::report::{Call, Report};
 use week_calls::Week;
 
 // The arc from 200 to 1.
@@ -79,8 +80,12 @@ fn week_after(words: [u64; 16], arc: u32, close: bool) -> Week {
     }
 }
 
-fn line_of(arc: u32, close: bool) -> usize {
-    if close && arc < WAY { STANDS } else { RUNS }
+fn line_of(arc: u32, close: bool) -> Call {
+    if close && arc < WAY {
+        Call::Stands
+    } else {
+        Call::Runs
+    }
 }
 
 // The arc of the event at an index, 0 to 1999.
@@ -120,15 +125,15 @@ fn note_events(image: &[u8]) -> Report {
     let fresh = direct([0; 16], 1);
     let begun = Report::new()
         .note(
-            FRESH,
+            Call::Fresh,
             fresh_agrees(image, request(), room(), fresh, single(0)),
         )
         .note(
-            REFUSED,
+            Call::Refused,
             event_agrees(image, asked(1000, true), week, week, refusal(20, 1000)),
         )
         .note(
-            REFUSED,
+            Call::Refused,
             event_agrees(image, asked(1023, false), week, week, refusal(20, 1023)),
         );
     let mut run = Run {
@@ -141,14 +146,10 @@ fn note_events(image: &[u8]) -> Report {
     run.report
 }
 
-fn lay_out(arcs: &mut [u16], image: &mut [u8]) {
-    largest_nodes(arcs);
-    encode(first_edition(200, 1), arcs, &[1; 1000], image);
-}
-
 pub fn run(rt: &impl Print) -> io::Result<()> {
     let mut arcs = [0u16; 2000];
-    let mut image = [0u8; 8024];
-    lay_out(&mut arcs, &mut image);
-    note_events(&image).print(rt, b"largest network")
+    largest_nodes(&mut arcs);
+    let network = Network::new(first_edition(200, 1), &arcs, &[1; 1000]);
+    let image: ArrayVec<u8, 8024> = network.image();
+    note_events(image.as_slice()).print(rt, "largest network")
 }

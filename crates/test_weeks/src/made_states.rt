@@ -1,11 +1,10 @@
 // States made otherwise on a random network: an event on each. Such a state may hold anything, and is read as it is.
-use super::drawing::{EVENTS, below, drawn_event, drawn_request};
+use super::drawing::{Drawn, EVENTS, below};
 use super::left::left_week;
 use super::map::{is_closed, turned};
 use super::step::note_event;
 use test_calls::rank_calls::Request;
 use test_fixtures::networks::number_at;
-use test_fixtures::plain_image::{Header, arc_count};
 use test_fixtures::report::Report;
 use week_calls::Week;
 
@@ -31,9 +30,7 @@ fn drawn_map(m: u32, number: u32) -> [u64; 16] {
 // The map with bit m, the last bit of the first word and all bits of the other words set: they close nothing.
 fn with_bits_beyond(words: [u64; 16], m: usize) -> [u64; 16] {
     let mut next = closed(closed(words, m), 63);
-    for i in 1..16usize {
-        next[i] = 18446744073709551615;
-    }
+    next[1..].fill(u64::MAX);
     next
 }
 
@@ -51,8 +48,8 @@ fn with_last(route: [u16; 200], arcs: &[u16], arc: usize) -> [u16; 200] {
 // A route of nodes that this network need not have.
 fn other_route(numbers: &[u32]) -> [u16; 200] {
     let mut route = [0u16; 200];
-    for i in 0..200usize {
-        route[i] = (number_at(numbers, 8 + i) / 64 % 9) as u16;
+    for (i, node) in route.iter_mut().enumerate() {
+        *node = (number_at(numbers, 8 + i) / 64 % 9) as u16;
     }
     route
 }
@@ -112,14 +109,17 @@ fn made_length(kind: u32, length: u32, number: u32) -> u32 {
 }
 
 // A state of a kind, made from one that Robust's answer makes. The arc is the event's, and the number a drawn one.
-fn made(kind: u32, week: Week, arcs: &[u16], arc: usize, numbers: &[u32], number: u32) -> Week {
-    let words = week.closed;
-    let route = week.route;
-    let closed = made_map(kind, words, arc_count(arcs), number);
-    let nodes = made_route(kind, route, arcs, arc, numbers);
+fn made(kind: u32, week: Week, drawn: Drawn, arc: usize, number: u32) -> Week {
+    let Drawn {
+        network,
+        numbers,
+        ..
+    } = drawn;
+    let closed = made_map(kind, week.closed, network.arc_count(), number);
+    let route = made_route(kind, week.route, network.nodes, arc, numbers);
     Week {
         closed,
-        route: nodes,
+        route,
         state: made_state(kind, week.state),
         length: made_length(kind, week.length, number),
         figure: made_number(kind, week.figure, number),
@@ -129,38 +129,26 @@ fn made(kind: u32, week: Week, arcs: &[u16], arc: usize, numbers: &[u32], number
     }
 }
 
-fn note_made(
-    report: Report,
-    header: Header,
-    arcs: &[u16],
-    costs: &[u32],
-    numbers: &[u32],
-    image: &[u8],
-    request: Request,
-    kind: u32,
-) -> Report {
-    let m = arc_count(arcs);
+fn note_made(report: Report, drawn: Drawn, request: Request, kind: u32) -> Report {
+    let Drawn {
+        network,
+        numbers,
+        ..
+    } = drawn;
     let at = EVENTS + (kind % KINDS) as usize;
-    let words = drawn_map(m, number_at(numbers, at + 40));
-    let asked = drawn_event(header, m, request, number_at(numbers, at));
-    let week = left_week(header, arcs, costs, request, words);
+    let words = drawn_map(network.arc_count(), number_at(numbers, at + 40));
+    let asked = drawn.event(request, number_at(numbers, at));
+    let week = left_week(network, request, words);
     let number = number_at(numbers, 525);
-    let other = made(kind, week, arcs, asked.arc as usize, numbers, number);
-    note_event(report, header, arcs, costs, image, asked, other).report
+    let other = made(kind, week, drawn, asked.arc as usize, number);
+    note_event(report, drawn, asked, other).report
 }
 
 // A state of each kind.
-pub fn note_made_states(
-    mut report: Report,
-    header: Header,
-    arcs: &[u16],
-    costs: &[u32],
-    numbers: &[u32],
-    image: &[u8],
-) -> Report {
-    let request = drawn_request(header, numbers);
+pub fn note_made_states(mut report: Report, drawn: Drawn) -> Report {
+    let request = drawn.request();
     for kind in 0..KINDS {
-        report = note_made(report, header, arcs, costs, numbers, image, request, kind);
+        report = note_made(report, drawn, request, kind);
     }
     report
 }

@@ -1,45 +1,33 @@
 // The map of closed arcs, read and written by halving and doubling.
 
+use test_fixtures::numbers::count;
+
 // The places of the map.
 const PLACES: usize = 1024;
 
-// The digit of an arc: 1 if it is closed, else 0. Beyond its end the map closes nothing.
-fn digit(words: [u64; 16], arc: usize) -> u32 {
+// Whether an arc is closed: its digit is 1. Beyond its end the map closes nothing.
+pub fn is_closed(words: [u64; 16], arc: usize) -> bool {
     if PLACES <= arc {
-        return 0;
+        return false;
     }
     let mut rest = words[arc / 64];
     for _ in 0..arc % 64 {
-        rest = rest / 2;
+        rest /= 2;
     }
-    (rest % 2) as u32
-}
-
-pub fn is_closed(words: [u64; 16], arc: usize) -> bool {
-    digit(words, arc) == 1
-}
-
-// The digits of the first arcs.
-pub fn read_digits(words: [u64; 16], digits: &mut [u32]) {
-    for arc in 0..digits.len() {
-        digits[arc] = digit(words, arc);
-    }
+    rest % 2 == 1
 }
 
 // How many of the first m arcs are closed.
 pub fn closed_count(words: [u64; 16], m: usize) -> u32 {
-    let mut count = 0;
-    for arc in 0..m {
-        count = std::num::wrapping_add_u32(count, digit(words, arc));
-    }
-    count
+    let closed = (0..m).filter(|&arc| is_closed(words, arc)).count();
+    count(closed)
 }
 
 // Two to the power of a place.
 fn power(place: usize) -> u64 {
     let mut value = 1u64;
     for _ in 0..place {
-        value = std::num::wrapping_add_u64(value, value);
+        value = value.wrapping_add(value);
     }
     value
 }
@@ -52,10 +40,10 @@ pub fn turned(words: [u64; 16], arc: usize) -> [u64; 16] {
     }
     let at = arc / 64;
     let word = words[at];
-    if is_closed(words, arc) {
-        next[at] = std::num::wrapping_sub_u64(word, power(arc % 64));
+    next[at] = if is_closed(words, arc) {
+        word.wrapping_sub(power(arc % 64))
     } else {
-        next[at] = std::num::wrapping_add_u64(word, power(arc % 64));
-    }
+        word.wrapping_add(power(arc % 64))
+    };
     next
 }

@@ -1,58 +1,19 @@
 // A week on a random network: a fresh one, and a list of up to 30 events, some of which are refused.
-use super::drawing::{EVENTS, drawn_event, drawn_request, room_for};
-use super::step::{Run, begin, next, note_refused_fresh};
-use test_calls::rank_calls::{Request, less};
+use super::drawing::{Drawn, EVENTS};
+use super::step::{begin, next, note_refused_fresh};
+use test_calls::rank_calls::less;
 use test_fixtures::networks::number_at;
-use test_fixtures::plain_image::{Header, arc_count};
 use test_fixtures::report::Report;
 
-// The event at an index of the list.
-fn next_drawn(
-    run: Run,
-    i: u32,
-    header: Header,
-    arcs: &[u16],
-    costs: &[u32],
-    numbers: &[u32],
-    image: &[u8],
-    request: Request,
-) -> Run {
-    let number = number_at(numbers, EVENTS + i as usize);
-    let asked = drawn_event(header, arc_count(arcs), request, number);
-    next(run, header, arcs, costs, image, request, asked)
-}
-
-// So many events, from a fresh week.
-fn note_events(
-    first: Run,
-    events: u32,
-    header: Header,
-    arcs: &[u16],
-    costs: &[u32],
-    numbers: &[u32],
-    image: &[u8],
-    request: Request,
-) -> Run {
-    let mut run = first;
+pub fn note_week(report: Report, drawn: Drawn) -> Report {
+    let request = drawn.request();
+    let room = drawn.room_for(request, drawn.network.header.n % 2 == 1);
+    let mut run = begin(report, drawn, request, room);
+    let events = number_at(drawn.numbers, 524) / 64 % 31;
     for i in 0..events {
-        run = next_drawn(run, i, header, arcs, costs, numbers, image, request);
+        let number = number_at(drawn.numbers, EVENTS + i as usize);
+        run = next(run, drawn, request, drawn.event(request, number));
     }
-    run
-}
-
-pub fn note_week(
-    report: Report,
-    header: Header,
-    arcs: &[u16],
-    costs: &[u32],
-    numbers: &[u32],
-    image: &[u8],
-) -> Report {
-    let request = drawn_request(header, numbers);
-    let room = room_for(header, request, header.n % 2 == 1);
-    let first = begin(report, header, arcs, costs, image, request, room);
-    let events = number_at(numbers, 524) / 64 % 31;
-    let last = note_events(first, events, header, arcs, costs, numbers, image, request);
-    let short = less(room_for(header, request, false));
-    note_refused_fresh(last.report, header, image, request, short)
+    let short = less(drawn.room_for(request, false));
+    note_refused_fresh(run.report, drawn, request, short)
 }

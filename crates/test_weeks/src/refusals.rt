@@ -5,8 +5,8 @@ use super::left::numbered;
 use std::io;
 use test_calls::answers::{Answer, refusal};
 use test_calls::rank_calls::Request;
-use test_fixtures::networks::lay_out_s;
-use test_fixtures::report::{FRESH, REFUSED, Report};
+use test_fixtures::case_images::network_s;
+use test_fixtures::report::{Call, Report};
 use week_calls::Week;
 
 // Each row: column, start, goal and K; the places of the workspace; the arc; and the number and the place of the
@@ -71,13 +71,16 @@ fn note_refused_event(
         room: row[4] as usize,
     };
     let week = odd_week();
-    report.note(REFUSED, event_agrees(image, asked, week, week, expected))
+    report.note(
+        Call::Refused,
+        event_agrees(image, asked, week, week, expected),
+    )
 }
 
 fn note_refused_fresh(report: Report, image: &[u8], row: [u32; 8], expected: Answer) -> Report {
     let nothing = numbered([0; 16], 0);
     let agrees = fresh_agrees(image, request_in(row), row[4] as usize, nothing, expected);
-    report.note(FRESH, agrees)
+    report.note(Call::Fresh, agrees)
 }
 
 // An event that closes the arc, one that opens it, and, if the arc is not the reason, a fresh week.
@@ -91,9 +94,8 @@ fn note_row(mut report: Report, image: &[u8], row: [u32; 8], expected: Answer) -
 }
 
 fn note_rows(mut report: Report, image: &[u8], rows: &[[u32; 8]]) -> Report {
-    for i in 0..rows.len() {
-        let row = rows[i];
-        report = note_row(report, image, row, refusal(row[6], row[7]));
+    for row in rows {
+        report = note_row(report, image, *row, refusal(row[6], row[7]));
     }
     report
 }
@@ -104,11 +106,10 @@ fn note_table(image: &[u8]) -> Report {
 
 // Byte `at` of the image has been given a content: the image's rows stand before all others.
 fn note_wrong(report: Report, at: usize, content: u8, expected: Answer) -> Report {
-    let mut image = [0u8; 84];
-    lay_out_s(&mut image);
     if 84 <= at {
-        return report.note(REFUSED, false);
+        return report.note(Call::Refused, false);
     }
+    let mut image = network_s();
     image[at] = content;
     let noted = note_row(report, &image, [1, 1, 4, 5, 248, 0, 0, 0], expected);
     note_row(noted, &image, [0, 0, 0, 0, 0, 4294967295, 0, 0], expected)
@@ -125,7 +126,5 @@ fn note_images(mut report: Report) -> Report {
 }
 
 pub fn run(rt: &impl Print) -> io::Result<()> {
-    let mut image = [0u8; 84];
-    lay_out_s(&mut image);
-    note_images(note_table(&image)).print(rt, b"refused on network S")
+    note_images(note_table(&network_s())).print(rt, "refused on network S")
 }

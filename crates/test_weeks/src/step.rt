@@ -1,12 +1,13 @@
 // One event, on a state and on the same state with another count; and what the state of a week shows.
+use super::drawing::Drawn;
 use super::held::{Asked, event_agrees, fresh_agrees, same_week};
 use super::left::{left_week, numbered};
 use super::map::{closed_count, turned};
 use super::verdict::{event_fault, question_fault, verdict};
 use test_calls::answers::{Answer, refusal, single};
 use test_calls::rank_calls::Request;
-use test_fixtures::plain_image::{Header, arc_count};
-use test_fixtures::report::{FRESH, NO_PATH, OPEN, RUNS, Report, SETTLED, STANDS};
+use test_fixtures::plain_image::Network;
+use test_fixtures::report::{Call, Report};
 use week_calls::Week;
 
 // The state after some events, and the report of them.
@@ -32,23 +33,14 @@ fn with_map(week: Week, words: [u64; 16]) -> Week {
 }
 
 // The state after an event that comes to this.
-fn week_after(
-    kind: usize,
-    header: Header,
-    arcs: &[u16],
-    costs: &[u32],
-    asked: Asked,
-    week: Week,
-) -> Week {
+fn week_after(kind: Call, network: Network, asked: Asked, week: Week) -> Week {
     let words = week.closed;
     let turned_words = turned(words, asked.arc as usize);
-    if kind == STANDS {
-        return with_map(week, turned_words);
+    match kind {
+        Call::Stands => with_map(week, turned_words),
+        Call::Runs => left_week(network, asked.request, turned_words),
+        _ => week,
     }
-    if kind == RUNS {
-        return left_week(header, arcs, costs, asked.request, turned_words);
-    }
-    week
 }
 
 // The answer beside the state: the refusal, or the number of closed roads.
@@ -64,27 +56,21 @@ fn answer_of(number: u32, m: u32, arc: u32, after: Week) -> Answer {
 }
 
 // What a state with another count becomes: a full run counts anew, and all else leaves the count.
-fn counted_after(kind: usize, after: Week) -> Week {
-    if kind == RUNS {
+fn counted_after(kind: Call, after: Week) -> Week {
+    if kind == Call::Runs {
         return after;
     }
     with_count(after, OTHER_COUNT)
 }
 
 // One event on a state, however it was made.
-pub fn note_event(
-    report: Report,
-    header: Header,
-    arcs: &[u16],
-    costs: &[u32],
-    image: &[u8],
-    asked: Asked,
-    week: Week,
-) -> Run {
-    let m = arc_count(arcs);
-    let kind = verdict(header, arcs, costs, asked, week);
-    let after = week_after(kind, header, arcs, costs, asked, week);
-    let answer = answer_of(event_fault(header, m, asked), m, asked.arc, after);
+pub fn note_event(report: Report, drawn: Drawn, asked: Asked, week: Week) -> Run {
+    let network = drawn.network;
+    let image = drawn.image;
+    let m = network.arc_count();
+    let kind = verdict(network, asked, week);
+    let after = week_after(kind, network, asked, week);
+    let answer = answer_of(event_fault(network, asked), m, asked.arc, after);
     let agrees = event_agrees(image, asked, week, after, answer);
     let other = with_count(week, OTHER_COUNT);
     let other_agrees = event_agrees(image, asked, other, counted_after(kind, after), answer);
@@ -95,75 +81,45 @@ pub fn note_event(
 }
 
 // The report's line for what a state shows.
-fn shown(state: u32) -> usize {
+fn shown(state: u32) -> Call {
     match state {
-        1 => SETTLED,
-        2 => OPEN,
-        _ => NO_PATH,
+        1 => Call::Settled,
+        2 => Call::Open,
+        _ => Call::NoPath,
     }
 }
 
 // Whether a state shows Robust's answer on the image without the closed arcs: all of it but the count.
-fn note_shown(
-    report: Report,
-    header: Header,
-    arcs: &[u16],
-    costs: &[u32],
-    request: Request,
-    week: Week,
-) -> Report {
-    let words = week.closed;
-    let full = left_week(header, arcs, costs, request, words);
+fn note_shown(report: Report, network: Network, request: Request, week: Week) -> Report {
+    let full = left_week(network, request, week.closed);
     let agrees = same_week(week, with_count(full, week.count));
     report.note(shown(full.state), agrees)
 }
 
 // The next event of a week that asks `request` all along; the event itself may ask something else, and be refused.
-pub fn next(
-    run: Run,
-    header: Header,
-    arcs: &[u16],
-    costs: &[u32],
-    image: &[u8],
-    request: Request,
-    asked: Asked,
-) -> Run {
-    let after = note_event(run.report, header, arcs, costs, image, asked, run.week);
+pub fn next(run: Run, drawn: Drawn, request: Request, asked: Asked) -> Run {
+    let after = note_event(run.report, drawn, asked, run.week);
     let week = after.week;
     Run {
-        report: note_shown(after.report, header, arcs, costs, request, week),
+        report: note_shown(after.report, drawn.network, request, week),
         week,
     }
 }
 
 // A fresh week.
-pub fn begin(
-    report: Report,
-    header: Header,
-    arcs: &[u16],
-    costs: &[u32],
-    image: &[u8],
-    request: Request,
-    room: usize,
-) -> Run {
-    let week = left_week(header, arcs, costs, request, [0; 16]);
-    let agrees = fresh_agrees(image, request, room, week, single(0));
+pub fn begin(report: Report, drawn: Drawn, request: Request, room: usize) -> Run {
+    let week = left_week(drawn.network, request, [0; 16]);
+    let agrees = fresh_agrees(drawn.image, request, room, week, single(0));
     Run {
-        report: report.note(FRESH, agrees),
+        report: report.note(Call::Fresh, agrees),
         week,
     }
 }
 
 // A fresh week that is refused: the state holds nothing.
-pub fn note_refused_fresh(
-    report: Report,
-    header: Header,
-    image: &[u8],
-    request: Request,
-    room: usize,
-) -> Report {
-    let number = question_fault(header, request, room);
+pub fn note_refused_fresh(report: Report, drawn: Drawn, request: Request, room: usize) -> Report {
+    let number = question_fault(drawn.network.header, request, room);
     let nothing = numbered([0; 16], 0);
-    let agrees = fresh_agrees(image, request, room, nothing, refusal(number, 0));
-    report.note(FRESH, agrees)
+    let agrees = fresh_agrees(drawn.image, request, room, nothing, refusal(number, 0));
+    report.note(Call::Fresh, agrees)
 }

@@ -2,11 +2,10 @@
 use super::held::Asked;
 use super::left::left_bests;
 use super::map::{is_closed, turned};
-use test_calls::rank_calls::Request;
+use test_calls::rank_calls::{Request, less};
 use test_calls::robust_calls::needed_route_rooms;
-use test_enumerate::Costs;
-use test_fixtures::plain_image::{Header, arc_count};
-use test_fixtures::report::{REFUSED, RUNS, STANDS, UNCHANGED};
+use test_fixtures::plain_image::{Header, Network};
+use test_fixtures::report::Call;
 use week_calls::Week;
 
 fn is_outside(number: u32, last: u32) -> bool {
@@ -34,9 +33,9 @@ pub fn question_fault(header: Header, request: Request, room: usize) -> u32 {
 }
 
 // The number of an event's refusal: also 20, if there is no such arc.
-pub fn event_fault(header: Header, m: u32, asked: Asked) -> u32 {
-    let number = question_fault(header, asked.request, asked.room);
-    if number == 0 && m <= asked.arc {
+pub fn event_fault(network: Network, asked: Asked) -> u32 {
+    let number = question_fault(network.header, asked.request, asked.room);
+    if number == 0 && network.arc_count() <= asked.arc {
         return 20;
     }
     number
@@ -44,15 +43,8 @@ pub fn event_fault(header: Header, m: u32, asked: Asked) -> u32 {
 
 // Whether a list has these two nodes one behind the other, among the first `count`.
 fn goes_by(nodes: &[u16], count: u32, tail: u16, head: u16) -> bool {
-    for i in 1..nodes.len() {
-        if count as usize <= i {
-            return false;
-        }
-        if nodes[i - 1] == tail && nodes[i] == head {
-            return true;
-        }
-    }
-    false
+    let mut pairs = nodes.windows(2).take(less(count as usize));
+    pairs.any(|pair| pair == [tail, head].as_slice())
 }
 
 // Whether a state's route, which has 200 places, goes by an arc.
@@ -64,43 +56,32 @@ fn is_touched(arcs: &[u16], arc: usize, week: Week) -> bool {
     goes_by(&route, week.length, arcs[2 * arc], arcs[2 * arc + 1])
 }
 
-// Whether two lists of bests agree in the columns 1 to k.
-fn same_bests(k: u32, before: Costs, after: Costs) -> bool {
-    for u in 1..=k {
-        if test_enumerate::in_column(before, u) != test_enumerate::in_column(after, u) {
-            return false;
-        }
-    }
-    true
-}
-
 // Whether the answer stands when an arc is closed: it is settled, its route is not touched, and no column's best
 // changes.
-fn stands(k: u32, arcs: &[u16], costs: &[u32], asked: Asked, week: Week) -> bool {
+fn stands(network: Network, asked: Asked, week: Week) -> bool {
     let request = asked.request;
     let arc = asked.arc as usize;
-    if week.state != 1 || is_touched(arcs, arc, week) {
+    if week.state != 1 || is_touched(network.nodes, arc, week) {
         return false;
     }
     let words = week.closed;
-    let before = left_bests(k, arcs, costs, request, words);
-    let after = left_bests(k, arcs, costs, request, turned(words, arc));
-    same_bests(k, before, after)
+    let before = left_bests(network, request, words);
+    let after = left_bests(network, request, turned(words, arc));
+    let mut pairs = before.iter().zip(&after).take(network.header.k as usize);
+    pairs.all(|(a, b)| a == b)
 }
 
 // What an event comes to, as the report's line for it.
-pub fn verdict(header: Header, arcs: &[u16], costs: &[u32], asked: Asked, week: Week) -> usize {
-    if event_fault(header, arc_count(arcs), asked) != 0 {
-        return REFUSED;
+pub fn verdict(network: Network, asked: Asked, week: Week) -> Call {
+    if event_fault(network, asked) != 0 {
+        return Call::Refused;
     }
     let words = week.closed;
     if is_closed(words, asked.arc as usize) == asked.close {
-        return UNCHANGED;
+        return Call::Unchanged;
     }
-    if asked.close {
-        if stands(header.k, arcs, costs, asked, week) {
-            return STANDS;
-        }
+    if asked.close && stands(network, asked, week) {
+        return Call::Stands;
     }
-    RUNS
+    Call::Runs
 }
