@@ -1,74 +1,40 @@
 // Arcs, and whether a node list is a path that is open in every column.
+use test_fixtures::closing::CLOSED;
+use test_fixtures::plain_image::Network;
 
-// In the place of a cost: the arc is closed in that column.
-const CLOSED: u32 = 4294967295;
-
-// The index of the arc from a to b, or the number of arcs if there is none.
-pub fn arc_index(arcs: &[u16], a: u16, b: u16) -> usize {
-    for i in 0..arcs.len() / 2 {
-        if arcs[2 * i] == a && arcs[2 * i + 1] == b {
-            return i;
-        }
-    }
-    arcs.len() / 2
-}
-
-// Whether the arc at an index, of m, is closed in some column.
-fn is_closed(costs: &[u32], m: usize, arc: usize) -> bool {
-    if m == 0 {
-        return false;
-    }
-    for i in 0..costs.len() {
-        if i % m == arc && costs[i] == CLOSED {
-            return true;
-        }
-    }
-    false
+// The index of the arc from a to b, if there is one.
+pub fn arc_index(arcs: &[u16], a: u16, b: u16) -> Option<usize> {
+    arcs.as_chunks::<2>()
+        .0
+        .iter()
+        .position(|arc| *arc == [a, b])
 }
 
 // Whether there is an arc from a to b that is open in every column.
-fn has_arc(arcs: &[u16], costs: &[u32], a: u16, b: u16) -> bool {
-    let m = arcs.len() / 2;
-    let arc = arc_index(arcs, a, b);
-    if arc == m {
-        return false;
-    }
-    !is_closed(costs, m, arc)
-}
-
-// Whether one of the first `count` nodes is this node.
-fn is_among(nodes: &[u16], count: usize, node: u16) -> bool {
-    for i in 0..nodes.len() {
-        if i < count && nodes[i] == node {
-            return true;
+fn has_arc(network: Network, a: u16, b: u16) -> bool {
+    let m = network.nodes.len() / 2;
+    match arc_index(network.nodes, a, b) {
+        Some(arc) if 0 < m => {
+            let mut columns = network.costs.chunks_exact(m);
+            columns.all(|column| column.get(arc).copied() != Some(CLOSED))
         }
+        _ => false,
     }
-    false
 }
 
-// What a node list is: a path, or not, with the place that row 14 names.
-#[derive(Clone, Copy)]
-pub enum NodeList {
-    Path,
-    Wrong(usize),
-}
-
-// Whether a node list is a path from start to goal that is open in every column. An arc that is closed
-// in some column counts as no arc.
-pub fn check_list(arcs: &[u16], costs: &[u32], start: u16, goal: u16, nodes: &[u16]) -> NodeList {
-    if nodes.len() == 0 {
-        return NodeList::Wrong(0);
-    }
-    if nodes[0] != start {
-        return NodeList::Wrong(0);
+// Whether a node list is a path from start to goal that is open in every column; if not, the place that
+// row 14 names. An arc that is closed in some column counts as no arc.
+pub fn check_list(network: Network, start: u16, goal: u16, nodes: &[u16]) -> Result<(), usize> {
+    if nodes.first().copied() != Some(start) {
+        return Err(0);
     }
     for i in 1..nodes.len() {
-        if is_among(nodes, i, nodes[i]) || !has_arc(arcs, costs, nodes[i - 1], nodes[i]) {
-            return NodeList::Wrong(i);
+        if nodes[..i].contains(&nodes[i]) || !has_arc(network, nodes[i - 1], nodes[i]) {
+            return Err(i);
         }
     }
-    if nodes[nodes.len() - 1] != goal {
-        return NodeList::Wrong(nodes.len());
+    if nodes.last().copied() != Some(goal) {
+        return Err(nodes.len());
     }
-    NodeList::Path
+    Ok(())
 }

@@ -1,9 +1,9 @@
 // How far a path is from the best.
-use super::costs::Costs;
+use super::costs::{Costs, in_column};
 
-// A cost less the best, which no cost is below.
-pub fn deviation(cost: u64, best: u64) -> u64 {
-    if cost < best { 0 } else { cost - best }
+// The deviation in column u of a path with these costs: its cost less the best, which no cost is below.
+pub fn deviation(u: u32, costs: Costs, bests: Costs) -> u64 {
+    in_column(costs, u).saturating_sub(in_column(bests, u))
 }
 
 // A path's figure, and its worst column.
@@ -17,8 +17,8 @@ pub struct Measure {
 pub fn regret(costs: Costs, bests: Costs) -> Measure {
     let mut figure = 0;
     let mut worst = 1;
-    for u in 1..9u32 {
-        let over = deviation(costs[u as usize - 1], bests[u as usize - 1]);
+    for u in 1..=8u32 {
+        let over = deviation(u, costs, bests);
         if figure < over {
             figure = over;
             worst = u;

@@ -17,11 +17,11 @@ mod order;
 mod paths;
 mod stopping;
 
-pub use arcs::{NodeList, check_list};
+pub use arcs::check_list;
 pub use closing::{open_count, open_everywhere};
-pub use costs::{Costs, costs_at, in_column, path_costs, priced_paths};
-pub use descending::{Descent, has_found, labels_of, node_labels, search};
+pub use costs::{Costs, in_column, path_costs};
+pub use descending::{Descent, labels_of, node_labels, search};
 pub use deviations::{Measure, regret};
-pub use order::{UNREACHED, bests, first, first_least, labels, rank, row_at};
-pub use paths::{Row, all_paths, length};
+pub use order::{UNREACHED, bests, first_least, first_open, labels, rank};
+pub use paths::{Path, Paths, Row, length};
 pub use stopping::{Choice, robust};

@@ -1,40 +1,29 @@
 // All loopless paths between two nodes.
 ghost use Rattle.std.specs.Prelude.{◌≤◌};
 
-// A path: its nodes, filled up with 0.
+use super::costs::{Costs, path_costs};
+use arrayvec::ArrayVec;
+use test_fixtures::plain_image::Network;
+
+// The nodes of a path, filled up with 0.
 pub type Row = [u16; 8];
 
 // The number of nodes.
 pub fn length(row: Row) -> usize
     ensures { result ≤ 8 }
 {
-    for i in 0..8usize {
-        if row[i] == 0 {
-            return i;
-        }
-    }
-    8
+    row.iter().position(|&node| node == 0).unwrap_or(8)
 }
 
 // The last node, or 0 if there is none.
 pub fn last(row: Row) -> u16 {
-    let count = length(row);
-    if count == 0 {
-        return 0;
+    match length(row) {
+        0 => 0,
+        count => row[count - 1],
     }
-    row[count - 1]
 }
 
-pub fn has(row: Row, node: u16) -> bool {
-    for i in 0..8usize {
-        if row[i] == node {
-            return true;
-        }
-    }
-    false
-}
-
-// The path with one node more. Eight nodes are all that there are.
+// The nodes with one more. Eight nodes are all that there are.
 pub fn with(mut row: Row, node: u16) -> Row {
     let count = length(row);
     if count < 8 {
@@ -43,71 +32,57 @@ pub fn with(mut row: Row, node: u16) -> Row {
     row
 }
 
-// Puts a path behind the first `count`, and gives the new count.
-fn push(rows: &mut [Row], count: usize, row: Row) -> usize {
-    if count < rows.len() {
-        rows[count] = row;
-        return count + 1;
-    }
-    count
+// A path, and its cost in each column, or the mark where it is closed.
+#[derive(Clone, Copy, Default)]
+pub struct Path {
+    pub row: Row,
+    pub costs: Costs,
 }
 
-// Puts the path with one node more behind the first `count`, if the path does not have the node.
-fn push_longer(rows: &mut [Row], count: usize, row: Row, node: u16) -> usize {
-    if has(row, node) {
-        return count;
-    }
-    push(rows, count, with(row, node))
+// All loopless paths from a start, to whatever node, that do not pass a goal, and those of them that end there,
+// with their costs. Eight nodes have at most 1,957 of these, and as many that end elsewhere.
+#[derive(Drop)]
+pub struct Paths {
+    begun: ArrayVec<Row, 3914>,
+    pub all: ArrayVec<Path, 1957>,
 }
 
-// Puts the path with one node more behind the first `count`, in every way there is. A path that has
-// come to the goal goes no further.
-fn push_all_longer(arcs: &[u16], goal: u16, rows: &mut [Row], count: usize, row: Row) -> usize {
-    let end = last(row);
-    if end == goal {
-        return count;
-    }
-    let mut longer = count;
-    for i in 0..arcs.len() / 2 {
-        if arcs[2 * i] == end {
-            longer = push_longer(rows, longer, row, arcs[2 * i + 1]);
+impl Paths {
+    pub fn new() -> Paths {
+        Paths {
+            begun: ArrayVec::new(),
+            all: ArrayVec::new(),
         }
     }
-    longer
-}
 
-// All loopless paths from start, to whatever node, that do not pass the goal, and their number.
-fn paths_from(arcs: &[u16], start: u16, goal: u16, rows: &mut [Row]) -> usize {
-    let mut count = push(rows, 0, [start, 0, 0, 0, 0, 0, 0, 0]);
-    for i in 0..rows.len() {
-        if i == count {
-            return count;
+    // Puts the paths with one node more behind the others, in every way there is. A path that has come to the
+    // goal goes no further.
+    fn lengthen(&mut self, network: Network, goal: u16, row: Row) {
+        let end = last(row);
+        if end == goal {
+            return;
         }
-        let row = rows[i];
-        count = push_all_longer(arcs, goal, rows, count, row);
-    }
-    count
-}
-
-// Puts a path behind the first `count`, if it ends at the goal.
-fn push_ending(rows: &mut [Row], count: usize, row: Row, goal: u16) -> usize {
-    if last(row) != goal {
-        return count;
-    }
-    push(rows, count, row)
-}
-
-// All loopless paths from start to goal, in any order, in the first rows, and their number. Eight
-// nodes have at most 1,957 of them, and as many that end elsewhere: 3,914 rows are enough.
-pub fn all_paths(arcs: &[u16], start: u16, goal: u16, rows: &mut [Row]) -> usize {
-    let begun = paths_from(arcs, start, goal, rows);
-    let mut count = 0;
-    for i in 0..rows.len() {
-        if i == begun {
-            return count;
+        for &[tail, head] in network.nodes.as_chunks::<2>().0 {
+            if tail == end && !row.contains(&head) {
+                let _ = self.begun.try_push(with(row, head));
+            }
         }
-        let row = rows[i];
-        count = push_ending(rows, count, row, goal);
     }
-    count
+
+    // All paths of a network from start to goal, in any order.
+    pub fn find(&mut self, network: Network, start: u16, goal: u16) {
+        self.begun.clear();
+        self.all.clear();
+        let _ = self.begun.try_push([start, 0, 0, 0, 0, 0, 0, 0]);
+        for i in 0..3914usize {
+            let Some(row) = self.begun.as_slice().get(i).copied() else {
+                return;
+            };
+            self.lengthen(network, goal, row);
+            if last(row) == goal {
+                let costs = path_costs(network, row);
+                let _ = self.all.try_push(Path { row, costs });
+            }
+        }
+    }
 }

@@ -1,7 +1,7 @@
 // Node lists for Regret: paths, damaged paths and drawn nodes, held to the plain enumeration.
 use test_calls::answers::{Answer, pair, refusal};
 use test_calls::path_calls::regret_agrees;
-use test_enumerate::{Costs, NodeList, Row};
+use test_enumerate::{Costs, Path, Row};
 use test_fixtures::networks::number_at;
 use test_fixtures::numbers::{count, narrow, node};
 use test_fixtures::plain_image::Network;
@@ -19,12 +19,10 @@ pub struct Trip {
 fn regret_answer(trip: Trip, network: Network, bests: Costs, list: &[u16], row: Row) -> Answer {
     let start = node(trip.start);
     let goal = node(trip.goal);
-    let kind = test_enumerate::check_list(network.nodes, network.costs, start, goal, list);
-    if let NodeList::Wrong(place) = kind {
+    if let Err(place) = test_enumerate::check_list(network, start, goal, list) {
         return refusal(14, count(place));
     }
-    let prices = test_enumerate::path_costs(network.nodes, network.costs, row);
-    let own = test_enumerate::regret(prices, bests);
+    let own = test_enumerate::regret(test_enumerate::path_costs(network, row), bests);
     pair(narrow(own.figure), own.worst)
 }
 
@@ -140,10 +138,8 @@ pub fn note_lists(
     report
 }
 
-// One of the first `count` paths, or a row of zeros if there is none.
-pub fn drawn_path(rows: &[Row], count: usize, number: u32) -> Row {
-    if count == 0 {
-        return [0; 8];
-    }
-    test_enumerate::row_at(rows, number as usize % count)
+// One of these paths, or a row of zeros if there is none.
+pub fn drawn_path(paths: &[Path], number: u32) -> Row {
+    let at = number as usize % paths.len().max(1);
+    paths.get(at).map_or([0; 8], |path| path.row)
 }

@@ -5,7 +5,7 @@ use super::path_lists::{Trip, drawn_path, note_lists};
 use super::rank_random::note_ranks;
 use test_calls::answers::{pair, refusal};
 use test_calls::path_calls::{note_label, shortest_agrees};
-use test_enumerate::{Costs, Row};
+use test_enumerate::{Costs, Path, Paths};
 use test_fixtures::networks::number_at;
 use test_fixtures::numbers::{count, narrow, node};
 use test_fixtures::plain_image::{Header, Network};
@@ -30,17 +30,14 @@ fn note_first(
     start: u32,
     goal: u32,
     image: &[u8],
-    rows: &[Row],
-    prices: &[Costs],
+    paths: &[Path],
 ) -> Report {
     let room = n as usize + 9 * (u % 2) as usize;
-    if test_enumerate::open_count(u, prices) == 0 {
-        let none = shortest_agrees(image, u, start, goal, room, refusal(15, 0), &[]);
-        return report.note(Call::Shortest, none);
-    }
-    let at = test_enumerate::first(u, rows, prices, 0);
-    let cost = test_enumerate::in_column(test_enumerate::costs_at(prices, at), u);
-    let row = test_enumerate::row_at(rows, at);
+    let Some(Path { row, costs }) = test_enumerate::first_open(u, paths) else {
+        let agrees = shortest_agrees(image, u, start, goal, room, refusal(15, 0), &[]);
+        return report.note(Call::Shortest, agrees);
+    };
+    let cost = test_enumerate::in_column(costs, u);
     let length = test_enumerate::length(row);
     let found = pair(count(length), narrow(cost));
     let agrees = shortest_agrees(image, u, start, goal, room, found, &row[..length]);
@@ -55,8 +52,7 @@ fn note_firsts(
     start: u32,
     goal: u32,
     image: &[u8],
-    rows: &[Row],
-    prices: &[Costs],
+    paths: &[Path],
 ) -> Report {
     if n == 0 {
         return report.note(Call::Shortest, false);
@@ -64,7 +60,7 @@ fn note_firsts(
     let short = shortest_agrees(image, 1, start, goal, n as usize - 1, refusal(13, 0), &[]);
     report = report.note(Call::Shortest, short);
     for u in 1..=k {
-        report = note_first(report, n, u, start, goal, image, rows, prices);
+        report = note_first(report, n, u, start, goal, image, paths);
     }
     report
 }
@@ -79,8 +75,7 @@ fn note_pair(
     numbers: &[u32],
     image: &[u8],
     bests: Costs,
-    rows: &mut [Row],
-    prices: &mut [Costs],
+    paths: &mut [Path],
 ) -> Report {
     let start = code % 8 + 1;
     let goal = code / 8 + 1;
@@ -88,17 +83,17 @@ fn note_pair(
         return report;
     }
     let Header { edition, n, k } = network.header;
-    report = note_firsts(report, n, k, start, goal, image, rows, prices);
+    report = note_firsts(report, n, k, start, goal, image, paths);
     let trip = Trip { n, start, goal };
-    let open = test_enumerate::open_everywhere(rows, prices);
+    let open = test_enumerate::open_everywhere(paths);
     let number = number_at(numbers, start as usize);
-    let path = drawn_path(rows, open, number);
+    let path = drawn_path(paths.get(..open).unwrap_or(&[]), number);
     report = note_lists(report, trip, network, bests, path, numbers, image);
     if edition == 2 {
-        let other = drawn_path(rows, rows.len(), number);
+        let other = drawn_path(paths, number);
         report = note_lists(report, trip, network, bests, other, numbers, image);
     }
-    note_ranks(report, n, k, code, numbers, image, bests, rows, prices)
+    note_ranks(report, n, k, code, numbers, image, bests, paths)
 }
 
 // Label with a goal, in each column, held to the table of labels.
@@ -140,8 +135,7 @@ fn note_code(
     network: Network,
     numbers: &[u32],
     image: &[u8],
-    rows: &mut [Row],
-    prices: &mut [Costs],
+    paths: &mut Paths,
     labels: &mut [u32],
 ) -> Report {
     let start = code % 8 + 1;
@@ -150,55 +144,29 @@ fn note_code(
     if n < start || n < goal {
         return report;
     }
-    let paths = test_enumerate::priced_paths(
-        network.nodes,
-        network.costs,
-        node(start),
-        node(goal),
-        rows,
-        prices,
-    );
-    if rows.len() < paths || prices.len() < paths {
-        return report.note(Call::Label, false);
-    }
-    let all = &mut rows[..paths];
-    let priced = &mut prices[..paths];
-    let bests = test_enumerate::labels(k, node(start), node(goal), all, priced);
+    paths.find(network, node(start), node(goal));
+    let all = paths.all.as_mut_slice();
+    let bests = test_enumerate::labels(k, node(start), node(goal), all);
     put_labels(labels, start, bests);
-    note_pair(report, code, network, numbers, image, bests, all, priced)
-}
-
-fn note_codes(
-    mut report: Report,
-    network: Network,
-    numbers: &[u32],
-    image: &[u8],
-    rows: &mut [Row],
-    prices: &mut [Costs],
-    labels: &mut [u32],
-) -> Report {
-    for code in 0..64u32 {
-        report = note_code(report, code, network, numbers, image, rows, prices, labels);
-        report = note_goal(report, code, network.header, image, labels);
-    }
-    report
+    note_pair(report, code, network, numbers, image, bests, all)
 }
 
 // The calls of the path layer on a network of up to eight nodes, between all of them and in all
 // columns.
-pub fn note_paths(report: Report, network: Network, numbers: &[u32], image: &[u8]) -> Report {
-    let row = [0u16; 8];
-    let price = [0u64; 8];
-    let mut rows = [row; 3914];
-    let mut prices = [price; 1957];
+pub fn note_paths(mut report: Report, network: Network, numbers: &[u32], image: &[u8]) -> Report {
+    let mut paths = Paths::new();
     let mut labels = [0u32; 64];
-    note_codes(
-        report,
-        network,
-        numbers,
-        image,
-        &mut rows,
-        &mut prices,
-        &mut labels,
-    )
+    for code in 0..64u32 {
+        report = note_code(
+            report,
+            code,
+            network,
+            numbers,
+            image,
+            &mut paths,
+            &mut labels,
+        );
+        report = note_goal(report, code, network.header, image, &labels);
+    }
+    report
 }

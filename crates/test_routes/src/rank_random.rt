@@ -2,35 +2,33 @@
 use super::robust_random::note_robusts;
 use test_calls::answers::{refusal, single};
 use test_calls::rank_calls::{Request, Rooms, longer, needed_rooms, note_short_ranks, rank_agrees};
-use test_enumerate::{Costs, Row};
+use test_enumerate::{Costs, Path};
 use test_fixtures::networks::number_at;
 use test_fixtures::numbers::{count, narrow, places};
 use test_fixtures::report::{Call, Report};
 
 // The node at an index of the rows that Rank writes: n places for each path.
-fn node_at(n: usize, paths: &[Row], at: usize) -> u16 {
+fn node_at(n: usize, paths: &[Path], at: usize) -> u16 {
     if n == 0 {
         return 0;
     }
-    let row = test_enumerate::row_at(paths, at / n);
-    let place = at % n;
-    if 7 < place {
-        return 0;
+    match paths.get(at / n) {
+        Some(path) => path.row.get(at % n).copied().unwrap_or(0),
+        None => 0,
     }
-    row[place]
 }
 
 // Fills a list with the rows that Rank writes.
-fn expect_rows(n: usize, paths: &[Row], rows: &mut [u16]) {
+fn expect_rows(n: usize, paths: &[Path], rows: &mut [u16]) {
     for (at, node) in rows.iter_mut().enumerate() {
         *node = node_at(n, paths, at);
     }
 }
 
 // Fills a list with the costs in column u.
-fn expect_costs(u: u32, prices: &[Costs], costs: &mut [u32]) {
-    for i in 0..costs.len() {
-        costs[i] = narrow(test_enumerate::in_column(test_enumerate::costs_at(prices, i), u));
+fn expect_costs(u: u32, paths: &[Path], costs: &mut [u32]) {
+    for (cost, path) in costs.iter_mut().zip(paths) {
+        *cost = narrow(test_enumerate::in_column(path.costs, u));
     }
 }
 
@@ -48,26 +46,18 @@ fn rank_is(
     image: &[u8],
     n: u32,
     request: Request,
-    paths: &[Row],
-    prices: &[Costs],
+    paths: &[Path],
     rows: &mut [u16],
     costs: &mut [u32],
 ) -> bool {
     expect_rows(n as usize, paths, rows);
-    expect_costs(request.column, prices, costs);
+    expect_costs(request.column, paths, costs);
     let found = single(count(costs.len()));
     rank_agrees(image, request, lent(n, request), found, rows, costs)
 }
 
 // The same, with lists made for what it should write.
-fn rank_gives(
-    image: &[u8],
-    n: u32,
-    request: Request,
-    given: u32,
-    paths: &[Row],
-    prices: &[Costs],
-) -> bool {
+fn rank_gives(image: &[u8], n: u32, request: Request, given: u32, paths: &[Path]) -> bool {
     let mut rows = [0u16; 2048];
     let mut costs = [0u32; 256];
     let row_count = places(given, n);
@@ -80,7 +70,6 @@ fn rank_gives(
         n,
         request,
         paths,
-        prices,
         &mut rows[..row_count],
         &mut costs[..cost_count],
     )
@@ -88,20 +77,14 @@ fn rank_gives(
 
 // Rank, by all paths with their costs, which are put into its order as far as it goes: those that are
 // open in the column come first.
-fn rank_holds(
-    image: &[u8],
-    n: u32,
-    request: Request,
-    paths: &mut [Row],
-    prices: &mut [Costs],
-) -> bool {
-    let open = test_enumerate::open_count(request.column, prices);
+fn rank_holds(image: &[u8], n: u32, request: Request, paths: &mut [Path]) -> bool {
+    let open = test_enumerate::open_count(request.column, paths);
     if open == 0 {
         return rank_agrees(image, request, lent(n, request), refusal(15, 0), &[], &[]);
     }
     let given = request.wanted.min(count(open));
-    test_enumerate::rank(request.column, given as usize, paths, prices);
-    rank_gives(image, n, request, given, paths, prices)
+    test_enumerate::rank(request.column, paths);
+    rank_gives(image, n, request, given, paths)
 }
 
 // K: 256 in one of 64 cases, and else 1 to 12.
@@ -114,15 +97,8 @@ fn drawn_wanted(number: u32) -> u32 {
 }
 
 // Rank, and in column 1 also with slices that are too short.
-fn note_rank(
-    report: Report,
-    image: &[u8],
-    n: u32,
-    request: Request,
-    paths: &mut [Row],
-    prices: &mut [Costs],
-) -> Report {
-    let noted = report.note(Call::Rank, rank_holds(image, n, request, paths, prices));
+fn note_rank(report: Report, image: &[u8], n: u32, request: Request, paths: &mut [Path]) -> Report {
+    let noted = report.note(Call::Rank, rank_holds(image, n, request, paths));
     if request.column != 1 {
         return noted;
     }
@@ -138,8 +114,7 @@ fn note_column(
     numbers: &[u32],
     image: &[u8],
     bests: Costs,
-    paths: &mut [Row],
-    prices: &mut [Costs],
+    paths: &mut [Path],
 ) -> Report {
     let request = Request {
         column: u,
@@ -147,8 +122,8 @@ fn note_column(
         goal: code / 8 + 1,
         wanted: drawn_wanted(number_at(numbers, 8 * (code as usize) + (u as usize))),
     };
-    let noted = note_rank(report, image, n, request, paths, prices);
-    note_robusts(noted, image, n, request, bests, paths, prices)
+    let noted = note_rank(report, image, n, request, paths);
+    note_robusts(noted, image, n, request, bests, paths)
 }
 
 // Rank and Robust for a pair of nodes in all columns.
@@ -160,11 +135,10 @@ pub fn note_ranks(
     numbers: &[u32],
     image: &[u8],
     bests: Costs,
-    paths: &mut [Row],
-    prices: &mut [Costs],
+    paths: &mut [Path],
 ) -> Report {
     for u in 1..=k {
-        report = note_column(report, n, u, code, numbers, image, bests, paths, prices);
+        report = note_column(report, n, u, code, numbers, image, bests, paths);
     }
     report
 }

@@ -4,7 +4,7 @@ use test_calls::rank_calls::Request;
 use test_calls::robust_calls::{
     RouteRooms, longer_rooms, needed_route_rooms, note_short_robusts, robust_agrees,
 };
-use test_enumerate::{Choice, Costs, Row};
+use test_enumerate::{Choice, Costs, Path};
 use test_fixtures::numbers::{count, narrow};
 use test_fixtures::report::{Call, Report};
 
@@ -17,28 +17,25 @@ fn lent(n: u32, request: Request) -> RouteRooms {
     longer_rooms(needed)
 }
 
-// The answer that the enumeration gives, as Robust's.
+// The answer that the enumeration gives, as Robust's, for a route of so many nodes.
 fn answer_of(choice: Choice, nodes: usize) -> Answer {
     let length = count(nodes);
-    let figure = narrow(choice.figure);
+    let figure = narrow(choice.measure.figure);
+    let worst = choice.measure.worst;
     let counted = count(choice.count);
-    if choice.settled {
-        return settled(length, figure, choice.worst, counted);
+    match choice.floor {
+        None => settled(length, figure, worst, counted),
+        Some(floor) => left_open(length, figure, worst, counted, narrow(floor)),
     }
-    left_open(length, figure, choice.worst, counted, narrow(choice.floor))
 }
 
 // Robust where the first ranked paths are these: all of them, or K + 1.
-fn robust_gives(
-    image: &[u8],
-    n: u32,
-    request: Request,
-    bests: Costs,
-    paths: &[Row],
-    prices: &[Costs],
-) -> bool {
-    let choice = test_enumerate::robust(request.column, request.wanted as usize, prices, bests);
-    let row = test_enumerate::row_at(paths, choice.route);
+fn robust_gives(image: &[u8], n: u32, request: Request, bests: Costs, paths: &[Path]) -> bool {
+    let Request { column, wanted, .. } = request;
+    let Some(choice) = test_enumerate::robust(column, wanted as usize, paths, bests) else {
+        return false;
+    };
+    let row = choice.route;
     let length = test_enumerate::length(row);
     let found = answer_of(choice, length);
     robust_agrees(image, request, lent(n, request), found, &row[..length])
@@ -46,42 +43,26 @@ fn robust_gives(
 
 // Robust where these are the paths that are open in every column. Its answer says nothing of a path
 // behind the first K + 1, so these are put into its order.
-fn robust_ranked(
-    image: &[u8],
-    n: u32,
-    request: Request,
-    bests: Costs,
-    paths: &mut [Row],
-    prices: &mut [Costs],
-) -> bool {
+fn robust_ranked(image: &[u8], n: u32, request: Request, bests: Costs, paths: &mut [Path]) -> bool {
     let looked_at = count(request.wanted as usize) + 1;
     let ranked = looked_at.min(count(paths.len())) as usize;
-    test_enumerate::rank(request.column, ranked, paths, prices);
-    if prices.len() < ranked {
-        return false;
+    test_enumerate::rank(request.column, paths);
+    match paths.get(..ranked) {
+        Some(first) => robust_gives(image, n, request, bests, first),
+        None => false,
     }
-    robust_gives(image, n, request, bests, paths, &prices[..ranked])
 }
 
 // Robust, by all paths with their costs. Those that are open in every column are put in front.
-fn robust_holds(
-    image: &[u8],
-    n: u32,
-    request: Request,
-    bests: Costs,
-    paths: &mut [Row],
-    prices: &mut [Costs],
-) -> bool {
-    let open = test_enumerate::open_everywhere(paths, prices);
+fn robust_holds(image: &[u8], n: u32, request: Request, bests: Costs, paths: &mut [Path]) -> bool {
+    let open = test_enumerate::open_everywhere(paths);
     if open == 0 {
         return robust_agrees(image, request, lent(n, request), refusal(15, 0), &[]);
     }
-    if paths.len() < open || prices.len() < open {
-        return false;
+    match paths.get_mut(..open) {
+        Some(listed) => robust_ranked(image, n, request, bests, listed),
+        None => false,
     }
-    let listed = &mut paths[..open];
-    let priced = &mut prices[..open];
-    robust_ranked(image, n, request, bests, listed, priced)
 }
 
 // Robust for a pair of nodes in a column, and in column 1 also with slices that are too short.
@@ -91,10 +72,9 @@ pub fn note_robusts(
     n: u32,
     request: Request,
     bests: Costs,
-    paths: &mut [Row],
-    prices: &mut [Costs],
+    paths: &mut [Path],
 ) -> Report {
-    let agrees = robust_holds(image, n, request, bests, paths, prices);
+    let agrees = robust_holds(image, n, request, bests, paths);
     let noted = report.note(Call::Robust, agrees);
     if request.column != 1 {
         return noted;

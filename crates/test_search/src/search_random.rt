@@ -4,7 +4,7 @@ use std::io;
 use test_calls::rank_calls::{Request, WORK_PLACES, needed_rooms};
 use test_calls::robust_calls::robust_answer;
 use test_calls::searches::{Choice, Quest, note_no_path, note_search};
-use test_enumerate::{Costs, Descent, Row};
+use test_enumerate::{Costs, Descent, Path, Paths};
 use test_fixtures::networks::{draw_network, number_at};
 use test_fixtures::numbers::{count, narrow, node};
 use test_fixtures::plain_image::{Header, Network};
@@ -35,8 +35,8 @@ fn request_of(quest: Quest, k: u32, tried: u32) -> Request {
     }
 }
 
-// Search where these are the paths that are open in every column, with their costs. The rule finds the first
-// in node order of all with the least figure, and Search finds it with the rule's count.
+// Search where these are the paths that are open in every column, and the path of them that comes first in node
+// order of all with the least figure. The rule finds that path, and Search finds it with the rule's count.
 fn note_found(
     mut report: Report,
     header: Header,
@@ -44,22 +44,17 @@ fn note_found(
     image: &[u8],
     search: Descent,
     bests: Costs,
-    rows: &[Row],
-    prices: &[Costs],
+    path: Path,
 ) -> Report {
-    let at = test_enumerate::first_least(rows, prices, bests);
-    let row = test_enumerate::row_at(rows, at);
+    let row = path.row;
     let length = test_enumerate::length(row);
-    let measure = test_enumerate::regret(test_enumerate::costs_at(prices, at), bests);
+    let measure = test_enumerate::regret(path.costs, bests);
     let figure = narrow(measure.figure);
-    report = report.note(
-        Call::Search,
-        test_enumerate::has_found(search, row, measure.figure),
-    );
+    let found = search.best == Some((row, measure.figure));
+    report = report.note(Call::Search, found);
     let asked = Quest {
-        start: quest.start,
-        goal: quest.goal,
         limit: search.tried,
+        ..quest
     };
     let choice = Choice {
         figure,
@@ -78,41 +73,24 @@ fn note_start(
     quest: Quest,
     image: &[u8],
     table: &[Costs],
-    rows: &mut [Row],
-    prices: &mut [Costs],
+    paths: &mut Paths,
 ) -> Report {
     let start = node(quest.start);
     let goal = node(quest.goal);
     if start == goal {
         return report;
     }
-    let Network {
-        header,
-        nodes: arcs,
-        costs,
-    } = network;
-    let paths = test_enumerate::priced_paths(arcs, costs, start, goal, rows, prices);
-    if rows.len() < paths || prices.len() < paths {
-        return report.note(Call::Search, false);
-    }
-    let open = test_enumerate::open_everywhere(&mut rows[..paths], &mut prices[..paths]);
-    if open == 0 {
+    let header = network.header;
+    let bests = test_enumerate::labels_of(table, start);
+    paths.find(network, start, goal);
+    let all = paths.all.as_mut_slice();
+    let open = test_enumerate::open_everywhere(all);
+    let listed = all.get(..open).unwrap_or(&[]);
+    let Some(path) = test_enumerate::first_least(listed, bests) else {
         return note_no_path(report, image, header.n as usize, quest);
-    }
-    if paths < open {
-        return report.note(Call::Search, false);
-    }
-    let search = test_enumerate::search(arcs, costs, start, goal, table);
-    note_found(
-        report,
-        header,
-        quest,
-        image,
-        search,
-        test_enumerate::labels_of(table, start),
-        &rows[..open],
-        &prices[..open],
-    )
+    };
+    let search = test_enumerate::search(network, start, goal, table);
+    note_found(report, header, quest, image, search, bests, path)
 }
 
 // Search from every node to the goal.
@@ -121,46 +99,28 @@ fn note_starts(
     network: Network,
     goal: u32,
     image: &[u8],
-    rows: &mut [Row],
-    prices: &mut [Costs],
     table: &mut [Costs],
 ) -> Report {
-    let Network {
-        header,
-        nodes: arcs,
-        costs,
-    } = network;
-    test_enumerate::node_labels(header.k, arcs, costs, node(goal), rows, prices, table);
+    let mut paths = Paths::new();
+    test_enumerate::node_labels(network, node(goal), &mut paths, table);
     for start in 1..=count(table.len()) {
         let quest = Quest {
             start,
             goal,
             limit: 100,
         };
-        report = note_start(report, network, quest, image, table, rows, prices);
+        report = note_start(report, network, quest, image, table, &mut paths);
     }
     report
 }
 
-// The same, with room made for the paths and the labels. Eight nodes have at most 1,957 paths between two of
-// them.
+// The same, with room made for the labels of up to eight nodes.
 fn note_goal(report: Report, network: Network, goal: u32, image: &[u8]) -> Report {
-    let mut rows = [[0u16; 8]; 3914];
-    let mut prices = [[0u64; 8]; 1957];
     let mut table = [[0u64; 8]; 8];
-    let n = network.header.n as usize;
-    if 8 < n {
-        return report.note(Call::Search, false);
+    match table.get_mut(..network.header.n as usize) {
+        Some(table) => note_starts(report, network, goal, image, table),
+        None => report.note(Call::Search, false),
     }
-    note_starts(
-        report,
-        network,
-        goal,
-        image,
-        &mut rows,
-        &mut prices,
-        &mut table[..n],
-    )
 }
 
 // 2,000 networks of an edition, each with a goal.

@@ -5,7 +5,7 @@ use network_calls::robust::robust;
 use image::Refusal;
 use network_calls::Decision;
 use test_calls::rank_calls::{Request, WORK_PLACES};
-use test_enumerate::{Costs, Row};
+use test_enumerate::{Costs, Paths};
 use test_fixtures::networks::SmallNetwork;
 use test_fixtures::numbers::node;
 use test_fixtures::plain_image::Network;
@@ -100,29 +100,15 @@ pub fn left_week(network: Network, request: Request, words: [u64; 16]) -> Week {
 }
 
 // best(u) for each column, by all paths, or the mark where no path is open in u.
-fn bests_in(network: Network, request: Request, rows: &mut [Row], prices: &mut [Costs]) -> Costs {
+fn bests(network: Network, request: Request) -> Costs {
     let start = node(request.start);
     let goal = node(request.goal);
-    let Network {
-        header,
-        nodes,
-        costs,
-    } = network;
-    let paths = test_enumerate::priced_paths(nodes, costs, start, goal, rows, prices);
-    if rows.len() < paths || prices.len() < paths {
-        return [0; 8];
-    }
-    test_enumerate::labels(header.k, start, goal, &rows[..paths], &prices[..paths])
-}
-
-// The same, with room made for all paths.
-fn listed_bests(network: Network, request: Request) -> Costs {
-    let mut rows = [[0u16; 8]; 3914];
-    let mut prices = [[0u64; 8]; 1957];
-    bests_in(network, request, &mut rows, &mut prices)
+    let mut paths = Paths::new();
+    paths.find(network, start, goal);
+    test_enumerate::labels(network.header.k, start, goal, paths.all.as_slice())
 }
 
 // Each column's best without the closed arcs.
 pub fn left_bests(network: Network, request: Request, words: [u64; 16]) -> Costs {
-    listed_bests(left_lists(network, words).lent(), request)
+    bests(left_lists(network, words).lent(), request)
 }

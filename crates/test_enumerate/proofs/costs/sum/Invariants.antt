@@ -1,9 +1,6 @@
--- `test_enumerate::costs::sum` is safe and ends.
-use Rattle.std.proofs.Common.{◌-◌, ◌*◌, ◌≤◌}
+-- The sum so far is of as many costs as arcs were passed.
+use Rattle.std.proofs.Common.{◌*◌, ◌≤◌}
 use Rattle.test_enumerate.proofs.costs.sum.Given as goal
 
-abbrev pub invariant-loop-i : goal.invariant-loop-i
-invariant-loop-i l = (1 ≤ l.i) × (l.i ≤ 8) × (l.total ≤ 4294967295 * l.i)
-
-abbrev pub decreases-loop-i : goal.decreases-loop-i
-decreases-loop-i l = 8 - l.i
+abbrev pub invariant-loop-arc : goal.invariant-loop-arc
+invariant-loop-arc l = (l.arc-index ≤ 8) × (l.total ≤ 4294967295 * l.arc-index)
