@@ -1,11 +1,12 @@
 // Rows 15 and 19, and the answer where neither applies.
 ghost use Rattle.std.specs.Prelude.{◌≡◌, ◌+◌, ◌≤◌, length};
 ghost use Rattle.image.specs.Outcome.{outcome, after};
+ghost use Rattle.image.specs.Answers.{answer};
 ghost use Rattle.loading.specs.Accepted.{Ends};
 ghost use Rattle.loading.specs.Networks.{net};
 ghost use Rattle.loading.specs.Loaded.{Shared};
 ghost use Rattle.network_calls.specs.Held.{Reached, ChoiceRoom};
-ghost use Rattle.search_calls.specs.Answers.{searched};
+ghost use Rattle.search_calls.specs.Answers.{found_numbers};
 ghost use Rattle.search_calls.specs.Calls.{limit_of, decided_rows, search_path, search_values};
 ghost use Rattle.search_calls.specs.Labelled.{Asks};
 
@@ -17,20 +18,13 @@ use loading::{Network, label_nodes, load_common};
 use network_calls::measure_path;
 use outcomes::write_path;
 
-// The path found: its length, figure and worst column, and how many arcs were tried.
-#[derive(Clone, Copy)]
+// What Search gives: the length, figure and worst column of the path found, and how many arcs were tried.
+#[derive(Clone, Copy, Debug, PartialEq, Eq)]
 pub struct Found {
     pub length: u32,
     pub figure: u32,
     pub worst: u32,
     pub tried: u32,
-}
-
-// Search's answer.
-#[derive(Clone, Copy)]
-pub enum Searched {
-    Found(Found),
-    Refused(Refusal),
 }
 
 // Row 19, and the answer where it does not apply. The slices hold the m arcs that are open in every column,
@@ -44,12 +38,12 @@ fn answer(
     bests: &mut [u64],
     best: &mut [u16],
     path: &mut [u16],
-) -> Searched
+) -> Result<Found, Refusal>
     requires asks { Asks network.now.sizes task }
     requires reached { Reached (net network.now) task.start task.goal }
     requires shared { Shared (net network.now) m star.now costs.now × (length bests.old ≡ network.now.sizes.k) }
     requires n_in_bounds { (network.now.sizes.n ≤ length best.old) × (network.now.sizes.n ≤ length path.old) }
-    ensures result_value { searched result ≡ outcome (limit_of network.now.image.now task.start task.goal task.limit) (search_values network.now.image.now task.start task.goal) }
+    ensures result_value { answer found_numbers result ≡ outcome (limit_of network.now.image.now task.start task.goal task.limit) (search_values network.now.image.now task.start task.goal) }
     ensures path_after { path.new ≡ after (limit_of network.now.image.now task.start task.goal task.limit) (search_path network.now.image.now task.start task.goal) path.old }
 {
     let limit = task.limit;
@@ -57,13 +51,13 @@ fn answer(
     let goal = task.goal;
     let run = search_image(network, task, best);
     let Run::Going(held) = run else {
-        return Searched::Refused(Refusal::TooManyArcs(limit));
+        return Err(Refusal::TooManyArcs(limit));
     };
     let length = held.length;
     let tried = held.tried;
     let found = measure_path(network, m, start, goal, &best[..length], star, costs, bests);
     write_path(best, length, path);
-    Searched::Found(Found {
+    Ok(Found {
         length: length as u32,
         figure: found.figure,
         worst: found.worst,
@@ -83,18 +77,18 @@ fn decide_shared(
     bests: &mut [u64],
     best: &mut [u16],
     path: &mut [u16],
-) -> Searched
+) -> Result<Found, Refusal>
     requires asks { Asks network.now.sizes task }
     requires ends { Ends (net network.now).nodes task.start task.goal }
     requires shared { Shared (net network.now) m star.now costs.now × (length overall.old ≡ network.now.sizes.n + 1) × (length bests.old ≡ network.now.sizes.k) }
     requires n_in_bounds { (network.now.sizes.n ≤ length best.old) × (network.now.sizes.n ≤ length path.old) }
-    ensures result_value { searched result ≡ outcome (decided_rows network.now.image.now task.start task.goal task.limit) (search_values network.now.image.now task.start task.goal) }
+    ensures result_value { answer found_numbers result ≡ outcome (decided_rows network.now.image.now task.start task.goal task.limit) (search_values network.now.image.now task.start task.goal) }
     ensures path_after { path.new ≡ after (decided_rows network.now.image.now task.start task.goal task.limit) (search_path network.now.image.now task.start task.goal) path.old }
 {
     label_nodes(star, &costs[..m], task.goal, overall);
     let start = task.start as usize;
     if overall[start] == FAR {
-        return Searched::Refused(Refusal::NoPath);
+        return Err(Refusal::NoPath);
     }
     answer(network, task, m, star, costs, bests, best, path)
 }
@@ -109,12 +103,12 @@ fn decide_in(
     bests: &mut [u64],
     best: &mut [u16],
     path: &mut [u16],
-) -> Searched
+) -> Result<Found, Refusal>
     requires asks { Asks network.now.sizes task }
     requires ends { Ends (net network.now).nodes task.start task.goal }
     requires choice_room { ChoiceRoom network.now.sizes.n network.now.sizes.m network.now.sizes.k star.old costs.old bests.old × (length overall.old ≡ network.now.sizes.n + 1) }
     requires n_in_bounds { (network.now.sizes.n ≤ length best.old) × (network.now.sizes.n ≤ length path.old) }
-    ensures result_value { searched result ≡ outcome (decided_rows network.now.image.now task.start task.goal task.limit) (search_values network.now.image.now task.start task.goal) }
+    ensures result_value { answer found_numbers result ≡ outcome (decided_rows network.now.image.now task.start task.goal task.limit) (search_values network.now.image.now task.start task.goal) }
     ensures path_after { path.new ≡ after (decided_rows network.now.image.now task.start task.goal task.limit) (search_path network.now.image.now task.start task.goal) path.old }
 {
     let m = load_common(network, star, costs);
@@ -141,10 +135,10 @@ pub fn decide(
     goal: u32,
     limit: u32,
     path: &mut [u16],
-) -> Searched
+) -> Result<Found, Refusal>
     requires ends { Ends (net network.now).nodes start goal }
     requires path_len { (net network.now).nodes ≤ length path.old }
-    ensures result_value { searched result ≡ outcome (decided_rows network.now.image.now start goal limit) (search_values network.now.image.now start goal) }
+    ensures result_value { answer found_numbers result ≡ outcome (decided_rows network.now.image.now start goal limit) (search_values network.now.image.now start goal) }
     ensures path_after { path.new ≡ after (decided_rows network.now.image.now start goal limit) (search_path network.now.image.now start goal) path.old }
 {
     let mut star = [0u16; 3403];

@@ -6,4 +6,4 @@ mod deciding;
 pub mod search;
 mod tables;
 
-pub use deciding::{Found, Searched};
+pub use deciding::Found;
