@@ -6,7 +6,7 @@ ghost use Rattle.image.specs.Calls.{image_fault};
 ghost use Rattle.image.specs.Answers.{answer};
 ghost use Rattle.star.specs.Found.{sought};
 ghost use Rattle.arc_calls.specs.Calls.{FindsArc, find_of, find_outcome};
-ghost use Rattle.arc_calls.specs.Answers.{found_numbers};
+ghost use Rattle.arc_calls.specs.Answers.{found_list};
 
 use image::Refusal;
 use image::check::check;
@@ -59,7 +59,7 @@ fn seek_arc(network: &Network<'_>, tail: u32, head: u32) -> Sought
 
 // REFERENCE, section 4.9.
 pub fn find(image: &[u8], tail: u32, head: u32) -> Result<Found, Refusal>
-    ensures result_value { answer found_numbers result ≡ find_outcome image.now tail head }
+    ensures result_value { answer found_list result ≡ find_outcome image.now tail head }
     ensures finds_arc { image_fault image.now ≡ sound → FindsArc (net_of image.now).arcs (tail, head) (find_of image.now tail head) }
 {
     let sizes = check(image)?;

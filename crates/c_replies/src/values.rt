@@ -1,7 +1,7 @@
 // What the calls give, as numbers.
 ghost use Rattle.std.specs.Prelude.{◌≡◌, ◌-◌, ℕ, List, ◌++◌, length, replicate};
 ghost use Rattle.image.specs.Answers.{size_list, one_number, no_values};
-ghost use Rattle.column_calls.specs.Answers.{path_numbers};
+ghost use Rattle.column_calls.specs.Answers.{path_list};
 ghost use Rattle.network_calls.specs.Answers.{measure_list, decision_list};
 ghost use Rattle.arc_calls.specs.Answers as arcs;
 ghost use Rattle.search_calls.specs.Answers as search;
@@ -44,7 +44,7 @@ impl Values for Sizes {
 }
 
 impl Values for Path {
-    ghost values = { path_numbers };
+    ghost values = { path_list };
 
     fn in_reply(self) -> [u32; 6] {
         [self.length, self.cost, 0, 0, 0, 0]
@@ -80,7 +80,7 @@ impl Values for Decision {
 }
 
 impl Values for arc_calls::Found {
-    ghost values = { arcs.found_numbers };
+    ghost values = { arcs.found_list };
 
     fn in_reply(self) -> [u32; 6] {
         match self.index {
@@ -91,7 +91,7 @@ impl Values for arc_calls::Found {
 }
 
 impl Values for search_calls::Found {
-    ghost values = { search.found_numbers };
+    ghost values = { search.found_list };
 
     fn in_reply(self) -> [u32; 6] {
         [

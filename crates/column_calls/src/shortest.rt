@@ -4,7 +4,7 @@ ghost use Rattle.terms.specs.Network.{column};
 ghost use Rattle.image.specs.Outcome.{outcome, after};
 ghost use Rattle.image.specs.Calls.{sizes};
 ghost use Rattle.image.specs.Answers.{answer, size_list};
-ghost use Rattle.column_calls.specs.Answers.{path_numbers};
+ghost use Rattle.column_calls.specs.Answers.{path_list};
 ghost use Rattle.outcomes.specs.Calls.{shortest_rows, path_row, shortest_fault, shortest_of, shortest_values, shortest_outcome};
 ghost use Rattle.loading.specs.Networks.{net};
 ghost use Rattle.loading.specs.Accepted.{InColumn, Ends};
@@ -52,7 +52,7 @@ fn write_first(
     requires ends { Ends (net network.now).nodes start goal }
     requires route_len { length route.old ≡ (net network.now).nodes }
     requires room { (net network.now).nodes ≤ length path.old }
-    ensures result_value { answer path_numbers result ≡ outcome (path_row network.now.image.now column start goal) (shortest_values network.now.image.now column start goal) }
+    ensures result_value { answer path_list result ≡ outcome (path_row network.now.image.now column start goal) (shortest_values network.now.image.now column start goal) }
     ensures path_after { path.new ≡ after (path_row network.now.image.now column start goal) (shortest_of network.now.image.now column start goal) path.old }
 {
     let found = find(network, column, start, goal, route);
@@ -77,7 +77,7 @@ fn write_shortest(
     requires column { InColumn network.now.image.now column }
     requires ends { Ends (net network.now).nodes start goal }
     requires room { (net network.now).nodes ≤ length path.old }
-    ensures result_value { answer path_numbers result ≡ outcome (path_row network.now.image.now column start goal) (shortest_values network.now.image.now column start goal) }
+    ensures result_value { answer path_list result ≡ outcome (path_row network.now.image.now column start goal) (shortest_values network.now.image.now column start goal) }
     ensures path_after { path.new ≡ after (path_row network.now.image.now column start goal) (shortest_of network.now.image.now column start goal) path.old }
 {
     let mut route = [0u16; 200];
@@ -93,7 +93,7 @@ pub fn shortest(
     goal: u32,
     path: &mut [u16],
 ) -> Result<Path, Refusal>
-    ensures result_value { answer path_numbers result ≡ shortest_outcome image.now column start goal (length path.old) }
+    ensures result_value { answer path_list result ≡ shortest_outcome image.now column start goal (length path.old) }
     ensures path_after { path.new ≡ after (shortest_fault image.now column start goal (length path.old)) (shortest_of image.now column start goal) path.old }
 {
     let sizes = check_shortest(image, column, start, goal, path.len())?;

@@ -3,5 +3,5 @@ use Rattle.std.specs.Prelude.{List, [], ◌∷◌, ℕ}
 use Rattle.search_calls.specs.declared.deciding.Found.{Found}
 
 -- length, figure, worst column and the arcs tried
-abbrev pub found_numbers : Found → List ℕ
-found_numbers f = f.length ∷ f.figure ∷ f.worst ∷ f.tried ∷ []
+abbrev pub found_list : Found → List ℕ
+found_list f = f.length ∷ f.figure ∷ f.worst ∷ f.tried ∷ []

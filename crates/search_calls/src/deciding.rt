@@ -6,7 +6,7 @@ ghost use Rattle.loading.specs.Accepted.{Ends};
 ghost use Rattle.loading.specs.Networks.{net};
 ghost use Rattle.loading.specs.Loaded.{Shared};
 ghost use Rattle.network_calls.specs.Held.{Reached, ChoiceRoom};
-ghost use Rattle.search_calls.specs.Answers.{found_numbers};
+ghost use Rattle.search_calls.specs.Answers.{found_list};
 ghost use Rattle.search_calls.specs.Calls.{limit_of, decided_rows, search_path, search_values};
 ghost use Rattle.search_calls.specs.Labelled.{Asks};
 
@@ -43,7 +43,7 @@ fn answer(
     requires reached { Reached (net network.now) task.start task.goal }
     requires shared { Shared (net network.now) m star.now costs.now × (length bests.old ≡ network.now.sizes.k) }
     requires n_in_bounds { (network.now.sizes.n ≤ length best.old) × (network.now.sizes.n ≤ length path.old) }
-    ensures result_value { answer found_numbers result ≡ outcome (limit_of network.now.image.now task.start task.goal task.limit) (search_values network.now.image.now task.start task.goal) }
+    ensures result_value { answer found_list result ≡ outcome (limit_of network.now.image.now task.start task.goal task.limit) (search_values network.now.image.now task.start task.goal) }
     ensures path_after { path.new ≡ after (limit_of network.now.image.now task.start task.goal task.limit) (search_path network.now.image.now task.start task.goal) path.old }
 {
     let limit = task.limit;
@@ -82,7 +82,7 @@ fn decide_shared(
     requires ends { Ends (net network.now).nodes task.start task.goal }
     requires shared { Shared (net network.now) m star.now costs.now × (length overall.old ≡ network.now.sizes.n + 1) × (length bests.old ≡ network.now.sizes.k) }
     requires n_in_bounds { (network.now.sizes.n ≤ length best.old) × (network.now.sizes.n ≤ length path.old) }
-    ensures result_value { answer found_numbers result ≡ outcome (decided_rows network.now.image.now task.start task.goal task.limit) (search_values network.now.image.now task.start task.goal) }
+    ensures result_value { answer found_list result ≡ outcome (decided_rows network.now.image.now task.start task.goal task.limit) (search_values network.now.image.now task.start task.goal) }
     ensures path_after { path.new ≡ after (decided_rows network.now.image.now task.start task.goal task.limit) (search_path network.now.image.now task.start task.goal) path.old }
 {
     label_nodes(star, &costs[..m], task.goal, overall);
@@ -108,7 +108,7 @@ fn decide_in(
     requires ends { Ends (net network.now).nodes task.start task.goal }
     requires choice_room { ChoiceRoom network.now.sizes.n network.now.sizes.m network.now.sizes.k star.old costs.old bests.old × (length overall.old ≡ network.now.sizes.n + 1) }
     requires n_in_bounds { (network.now.sizes.n ≤ length best.old) × (network.now.sizes.n ≤ length path.old) }
-    ensures result_value { answer found_numbers result ≡ outcome (decided_rows network.now.image.now task.start task.goal task.limit) (search_values network.now.image.now task.start task.goal) }
+    ensures result_value { answer found_list result ≡ outcome (decided_rows network.now.image.now task.start task.goal task.limit) (search_values network.now.image.now task.start task.goal) }
     ensures path_after { path.new ≡ after (decided_rows network.now.image.now task.start task.goal task.limit) (search_path network.now.image.now task.start task.goal) path.old }
 {
     let m = load_common(network, star, costs);
@@ -138,7 +138,7 @@ pub fn decide(
 ) -> Result<Found, Refusal>
     requires ends { Ends (net network.now).nodes start goal }
     requires path_len { (net network.now).nodes ≤ length path.old }
-    ensures result_value { answer found_numbers result ≡ outcome (decided_rows network.now.image.now start goal limit) (search_values network.now.image.now start goal) }
+    ensures result_value { answer found_list result ≡ outcome (decided_rows network.now.image.now start goal limit) (search_values network.now.image.now start goal) }
     ensures path_after { path.new ≡ after (decided_rows network.now.image.now start goal limit) (search_path network.now.image.now start goal) path.old }
 {
     let mut star = [0u16; 3403];

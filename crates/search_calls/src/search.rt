@@ -3,7 +3,7 @@ ghost use Rattle.std.specs.Prelude.{◌≡◌, length};
 ghost use Rattle.image.specs.Outcome.{outcome, after};
 ghost use Rattle.image.specs.Calls.{sizes};
 ghost use Rattle.image.specs.Answers.{answer, size_list};
-ghost use Rattle.search_calls.specs.Answers.{found_numbers};
+ghost use Rattle.search_calls.specs.Answers.{found_list};
 ghost use Rattle.search_calls.specs.Calls.{entry_rows, search_fault, search_path, search_outcome};
 ghost use Rattle.search_calls.specs.Demands.{KeptSearch};
 
@@ -32,7 +32,7 @@ pub fn search(
     limit: u32,
     path: &mut [u16],
 ) -> Result<Found, Refusal>
-    ensures result_value { answer found_numbers result ≡ search_outcome image.now start goal limit (length path.old) }
+    ensures result_value { answer found_list result ≡ search_outcome image.now start goal limit (length path.old) }
     ensures path_after { path.new ≡ after (search_fault image.now start goal limit (length path.old)) (search_path image.now start goal) path.old }
     ensures kept_search { KeptSearch image.now start goal limit (length path.old) }
 {
