@@ -116,9 +116,8 @@ fn by_labels(
     let Some(step) = least_exit(&graph, v, labels, used, barred) else {
         return Found::Empty;
     };
-    let end = attempt(star, weights, goal, labels, used, path, d, step.node);
-    if end.arrived {
-        return Found::Tail(end.len, step.rest);
+    if let Some(len) = attempt(star, weights, goal, labels, used, path, d, step.node) {
+        return Found::Tail(len, step.rest);
     }
     let len = by_steps(star, weights, goal, used, path, d, step.node, labels);
     Found::Tail(len, step.rest)
@@ -175,9 +174,8 @@ pub fn along(
     ensures kept { Kept used.old path.old d used.new path.new result }
     ensures by_index { (s : ℕ) (F : List ℕ) → Beginning (graph_of star.now weights.now) s goal (take d path.old) → Flagged barred.now F → FirstFound (graph_of star.now weights.now) s goal (branch (take d path.old) F) path.new result }
 {
-    let end = attempt(star, weights, goal, overall, used, path, d, step.node);
-    if end.arrived {
-        return Found::Tail(end.len, step.rest);
+    if let Some(len) = attempt(star, weights, goal, overall, used, path, d, step.node) {
+        return Found::Tail(len, step.rest);
     }
     exact_path(star, weights, goal, used, barred, path, d)
 }
@@ -186,10 +184,7 @@ pub fn along(
 fn is_dear(l: u64, most: u64) -> bool
     ensures { result ≡ true → (most < l) × (most < longest) }
 {
-    if LONGEST <= most {
-        return false;
-    }
-    most < l
+    most < LONGEST && most < l
 }
 
 // The same, with no exit chosen yet, and only if the path's tail costs `most` at the most: the walk is along
@@ -296,9 +291,8 @@ pub fn first_path(
     ensures kept { Kept used.old path.old d used.new path.new result }
     ensures by_index { (s : ℕ) (F : List ℕ) → Beginning (graph_of star.now weights.now) s goal (take d path.old) → Flagged barred.now F → FirstWithin (graph_of star.now weights.now) s goal (branch (take d path.old) F) path.new most result }
 {
-    let end = attempt(star, weights, goal, overall, used, path, d, step.node);
-    if end.arrived {
-        return Found::Tail(end.len, step.rest);
+    if let Some(len) = attempt(star, weights, goal, overall, used, path, d, step.node) {
+        return Found::Tail(len, step.rest);
     }
     sharp_path(star, weights, goal, overall, used, barred, path, d, most)
 }

@@ -9,7 +9,7 @@ use Rattle.exits.specs.Exits.{Unmarked}
 use Rattle.exits.specs.Walks.{Choice}
 use Rattle.exits.specs.Flags.{Fresh}
 use Rattle.branching.specs.Found.{Begun, Extent, FirstFound}
-use Rattle.branching.specs.Laid.{Laid, Tried}
+use Rattle.branching.specs.Laid.{Laid}
 use Rattle.star.specs.Layout.{Network}
 use Rattle.branching.proofs.FlagLaws.{unflagged}
 use Rattle.branching.proofs.FirstLaws.{branch_empty, branch_walked, branch_stepped, tried_kept}
@@ -29,8 +29,8 @@ returns-in_default c =
     let n = network in
     record { kept = record { flags = refl; kept = refl; reach = Extent.nothing }; by_index = λ s F B h. FirstFound.none (branch_empty begun h B made_exact.consistent (rw c.in_default.is at c.least_exit.ensures.chosen)) }
 
-pub attempt-end-requires : goal.attempt-end-requires
-attempt-end-requires c =
+pub attempt-requires : goal.attempt-requires
+attempt-requires c =
     let network : Network (length c.args.used.now) c.args.star.now c.args.weights.now = c.requires.network in
     let begun : Begun (length c.args.used.now) c.args.used.now c.args.barred.now c.args.path.now c.args.d = c.requires.begun in
     let made_long : length c.least.new.labels ≡ length c.args.used.now = c.least.auto.labels ∙ c.requires.labels_len in
@@ -38,26 +38,25 @@ attempt-end-requires c =
     let n = network in
     rw made_long (record { network = n; laid = ((begun.laid, usable)) })
 
-pub returns-then-end : goal.returns-then-end
-returns-then-end c =
+pub returns-in-Some : goal.returns-in-Some
+returns-in-Some c =
     let network : Network (length c.args.used.now) c.args.star.now c.args.weights.now = c.requires.network in
     let begun : Begun (length c.args.used.now) c.args.used.now c.args.barred.now c.args.path.now c.args.d = c.requires.begun in
     let made_long : length c.least.new.labels ≡ length c.args.used.now = c.least.auto.labels ∙ c.requires.labels_len in
     let made_least : Least (graph_of c.args.star.now c.args.weights.now) c.args.used.now c.args.goal c.least.new.labels = c.least.ensures in
     let made_exact : Exact (graph_of c.args.star.now c.args.weights.now) c.args.goal c.least.new.labels (take c.args.d c.args.path.now) = network_exact network made_long made_least begun.laid.flagged (unflagged begun.laid.flagged _ c.requires.ahead.unmet) in
     let choice : Choice (graph_of c.args.star.now c.args.weights.now) c.least.new.labels (Unmarked c.args.used.now c.args.barred.now) (get_or c.args.path.now (c.args.d - 1) 0) c.in-Some.step.rest c.in-Some.step.node = let n = network in c.in-Some.ensures.chosen in
-    let walk_tried : Tried c.args.used.now c.args.path.now c.args.d c.attempt-end.new.used c.attempt-end.new.path c.attempt-end.result.len = c.attempt-end.ensures.tried in
     let n = network in
-    record { kept = tried_kept walk_tried; by_index = λ s F B h. let r = branch_walked begun h B choice made_exact.consistent (c.attempt-end.ensures.arrives choice.exit.reached c.if-end.true) in FirstFound.found r.0 r.1 }
+    record { kept = tried_kept (rw c.in-Some.is at c.attempt.ensures.tried); by_index = λ s F B h. let r = branch_walked begun h B choice made_exact.consistent (rw c.in-Some.is at (c.attempt.ensures.arrives choice.exit.reached)) in FirstFound.found r.0 r.1 }
 
 pub by_steps-len-requires : goal.by_steps-len-requires
 by_steps-len-requires c =
     let made_long : length c.least.new.labels ≡ length c.args.used.now = c.least.auto.labels ∙ c.requires.labels_len in
     let usable : Fresh (length c.args.used.now) c.args.used.now c.in-Some.step.node = rw made_long at (c.in-Some.ensures.usable) in
-    let walk_tried : Tried c.args.used.now c.args.path.now c.args.d c.attempt-end.new.used c.attempt-end.new.path c.attempt-end.result.len = c.attempt-end.ensures.tried in
+    let back = c.attempt.ensures.back in
     let begun : Begun (length c.args.used.now) c.args.used.now c.args.barred.now c.args.path.now c.args.d = c.requires.begun in
-    let walk_laid : Laid (length c.args.used.now) c.args.used.now c.attempt-end.new.path c.args.d = laid_kept walk_tried.kept c.attempt-end.auto.path begun.laid in
-    rw walk_tried.flags (record { network = c.requires.network; laid = (walk_laid, usable); ahead = c.requires.ahead; labels_len = made_long })
+    let walk_laid : Laid (length c.args.used.now) c.args.used.now c.attempt.new.path c.args.d = laid_kept back.kept c.attempt.auto.path begun.laid in
+    rw back.flags (record { network = c.requires.network; laid = (walk_laid, usable); ahead = c.requires.ahead; labels_len = made_long })
 
 pub returns : goal.returns
 returns c =
@@ -67,11 +66,11 @@ returns c =
     let made_least : Least (graph_of c.args.star.now c.args.weights.now) c.args.used.now c.args.goal c.least.new.labels = c.least.ensures in
     let made_exact : Exact (graph_of c.args.star.now c.args.weights.now) c.args.goal c.least.new.labels (take c.args.d c.args.path.now) = network_exact network made_long made_least begun.laid.flagged (unflagged begun.laid.flagged _ c.requires.ahead.unmet) in
     let choice : Choice (graph_of c.args.star.now c.args.weights.now) c.least.new.labels (Unmarked c.args.used.now c.args.barred.now) (get_or c.args.path.now (c.args.d - 1) 0) c.in-Some.step.rest c.in-Some.step.node = let n = network in c.in-Some.ensures.chosen in
-    let walk_tried : Tried c.args.used.now c.args.path.now c.args.d c.attempt-end.new.used c.attempt-end.new.path c.attempt-end.result.len = c.attempt-end.ensures.tried in
+    let back = c.attempt.ensures.back in
     record {
-      kept = tried_kept (tried_again walk_tried c.by_steps-len.ensures.tried);
+      kept = tried_kept (tried_again back c.by_steps-len.ensures.tried);
       by_index = λ s F B h.
-          let r = branch_stepped begun h B choice made_exact (λ p i. rw walk_tried.kept at (c.by_steps-len.ensures.by_index s p (rw walk_tried.kept i))) in
+          let r = branch_stepped begun h B choice made_exact (λ p i. rw back.kept at (c.by_steps-len.ensures.by_index s p (rw back.kept i))) in
           FirstFound.found r.0 r.1;
     }
 

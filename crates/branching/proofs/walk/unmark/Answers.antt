@@ -6,15 +6,15 @@ use Rattle.branching.proofs.LaidLaws.{laid_less, laid_place}
 use Rattle.branching.proofs.walk.unmark.Goals as goal
 
 pub loop-i-init : goal.loop-i-init
-loop-i-init c = (c.requires.1, omega arith, c.requires.0)
+loop-i-init c = (c.requires.1, c.requires.0)
 
 pub loop-i-preserved : goal.loop-i-preserved
-loop-i-preserved c = (omega arith, omega arith, laid_less (omega arith) c.loop-i.invariant.2)
+loop-i-preserved c = (omega arith, laid_less (omega arith) c.loop-i.invariant.1)
 
 pub returns : goal.returns
 returns c =
     let e : c.loop-i.i ≡ c.args.from = omega arith in
-    rw e at c.loop-i.invariant.2
+    rw e at c.loop-i.invariant.1
 
 pub bounds-used-path : goal.bounds-used-path
-bounds-used-path c = omega (arith, laid_place (c.loop-i.i - 1) (omega arith) c.loop-i.invariant.2, c.loop-i.invariant.2.flags_long)
+bounds-used-path c = omega (arith, laid_place (c.loop-i.i - 1) (omega arith) c.loop-i.invariant.1, c.loop-i.invariant.1.flags_long)

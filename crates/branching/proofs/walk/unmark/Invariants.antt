@@ -5,7 +5,4 @@ use Rattle.branching.specs.Laid.{Laid}
 use Rattle.branching.proofs.walk.unmark.Given as goal
 
 abbrev pub invariant-loop-i : goal.invariant-loop-i
-invariant-loop-i l = (l.from ≤ l.i) × (l.i ≤ l.to) × Laid (length l.initial.used) l.used l.path l.i
-
-abbrev pub decreases-loop-i : goal.decreases-loop-i
-decreases-loop-i l = l.i
+invariant-loop-i l = (l.from ≤ l.i) × Laid (length l.initial.used) l.used l.path l.i

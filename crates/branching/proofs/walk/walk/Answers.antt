@@ -5,7 +5,6 @@ use Prim.Native.Nat.{◌-◌, ◌<◌}
 use native.Mathlib.Omega.{arith}
 use lib.ListN.{length, length-set}
 use lib.Seq.{take-set-le}
-use Rattle.terms.proofs.ListLaws.{clash}
 use Rattle.exits.specs.Flags.{Fresh}
 use Rattle.branching.proofs.LaidLaws.{take_more, walking_start, walking_step, walking_end, laid_room, laid_more, laid_place}
 use Rattle.star.proofs.NetworkLaws.{network_holds}
@@ -16,7 +15,7 @@ loop-x-init c = (omega arith, refl, refl, c.requires.laid.0, laid_place (c.args.
 
 pub returns-in_default : goal.returns-in_default
 returns-in_default c =
-    record { longer = record { no_shorter = c.loop-x.invariant.0; laid = c.loop-x.invariant.3; kept = c.loop-x.invariant.2 }; arrives = λ r e. clash e refl }
+    record { longer = record { no_shorter = c.loop-x.invariant.0; laid = c.loop-x.invariant.3; kept = c.loop-x.invariant.2 }; arrives = λ r. tt }
 
 pub loop-x-smaller : goal.loop-x-smaller
 loop-x-smaller c =
@@ -43,7 +42,7 @@ loop-x-preserved c =
 
 pub returns : goal.returns
 returns c =
-    record { longer = record { no_shorter = c.loop-x.invariant.0; laid = c.loop-x.invariant.3; kept = c.loop-x.invariant.2 }; arrives = λ r e. walking_end c.loop-x-test.false (c.loop-x.invariant.5 r).0 }
+    record { longer = record { no_shorter = c.loop-x.invariant.0; laid = c.loop-x.invariant.3; kept = c.loop-x.invariant.2 }; arrives = λ r. walking_end c.loop-x-test.false (c.loop-x.invariant.5 r).0 }
 
 pub bounds-path-len : goal.bounds-path-len
 bounds-path-len c =
