@@ -38,8 +38,8 @@ attempt-requires c =
     let n = network in
     rw made_long (record { network = n; laid = ((begun.laid, usable)) })
 
-pub returns-in-Some : goal.returns-in-Some
-returns-in-Some c =
+pub returns-in-Some-attempt : goal.returns-in-Some-attempt
+returns-in-Some-attempt c =
     let network : Network (length c.args.used.now) c.args.star.now c.args.weights.now = c.requires.network in
     let begun : Begun (length c.args.used.now) c.args.used.now c.args.barred.now c.args.path.now c.args.d = c.requires.begun in
     let made_long : length c.least.new.labels ≡ length c.args.used.now = c.least.auto.labels ∙ c.requires.labels_len in
@@ -47,7 +47,7 @@ returns-in-Some c =
     let made_exact : Exact (graph_of c.args.star.now c.args.weights.now) c.args.goal c.least.new.labels (take c.args.d c.args.path.now) = network_exact network made_long made_least begun.laid.flagged (unflagged begun.laid.flagged _ c.requires.ahead.unmet) in
     let choice : Choice (graph_of c.args.star.now c.args.weights.now) c.least.new.labels (Unmarked c.args.used.now c.args.barred.now) (get_or c.args.path.now (c.args.d - 1) 0) c.in-Some.step.rest c.in-Some.step.node = let n = network in c.in-Some.ensures.chosen in
     let n = network in
-    record { kept = tried_kept (rw c.in-Some.is at c.attempt.ensures.tried); by_index = λ s F B h. let r = branch_walked begun h B choice made_exact.consistent (rw c.in-Some.is at (c.attempt.ensures.arrives choice.exit.reached)) in FirstFound.found r.0 r.1 }
+    record { kept = tried_kept (rw c.in-Some-attempt.is at c.attempt.ensures.tried); by_index = λ s F B h. let r = branch_walked begun h B choice made_exact.consistent (rw c.in-Some-attempt.is at (c.attempt.ensures.arrives choice.exit.reached)) in FirstFound.found r.0 r.1 }
 
 pub by_steps-len-requires : goal.by_steps-len-requires
 by_steps-len-requires c =
