@@ -86,28 +86,28 @@ nodes_short (v ∷ p) small =
     omega (arith, length-append (node_text v) (nodes_text p), length_node_text v, length_node v (small 0 (omega arith)), nodes_short p (λ i h. small (suc i) (omega arith)))
 
 -- the path at the beginning of a slice
-path_short : {path : List ℕ} {n : ℕ} → Printable path n → length (nodes_text (take n path)) ≤ 800
-path_short {path} {n} ok =
+pub printable_part : {path : List ℕ} {n : ℕ} → Printable path n → Printable (take n path) (length (take n path))
+printable_part {path} {n} ok =
     let long = length-take-le n path ok.within in
-    let small : (i : ℕ) → i < length (take n path) → get_or (take n path) i 0 < 1000 = λ i h. let k : i < n = omega arith in rw (get_or-take n path i 0 k) (ok.small i k) in
-    omega (arith, nodes_short (take n path) small, ok.few)
+    record { few = omega (arith, long, ok.few); within = omega arith; small = λ i h. let k : i < n = omega arith in rw (get_or-take n path i 0 k) (ok.small i k) }
+
+path_short : {p : Route} → Printable p (length p) → length (nodes_text p) ≤ 800
+path_short {p} ok = omega (arith, nodes_short p ok.small, ok.few)
 
 two_short : (a : List ℕ) (x : ℕ) (b : List ℕ) (y : ℕ) → x < 4294967296 → y < 4294967296 → length (two_numbers a x b y) ≤ length a + length b + 21
 two_short a x b y h k = omega (arith, length_two a x b y, length_word x h, length_word y k)
 
-module _ {path : List ℕ} {n : ℕ} (ok : Printable path n) {f w : ℕ} (f-fits : f < 4294967296) (w_Fits : w < 4294967296) where
-  choice_short : length (choice_lines (take n path) f w) ≤ 842
+module _ {p : Route} (ok : Printable p (length p)) {f w : ℕ} (f_fits : f < 4294967296) (w_fits : w < 4294967296) where
+  pub choice_short : length (choice_lines p f w) ≤ 842
   unfolding regret_line
-  choice_short =
-      omega (arith, length_choice (take n path) f w, length_route (take n path), path_short ok, two_short regret_word f column_word w f-fits w_Fits)
+  choice_short = omega (arith, length_choice p f w, length_route p, path_short ok, two_short regret_word f column_word w f_fits w_fits)
 
-  pub settled_short : {c : ℕ} → c < 4294967296 → length (answer_text (settled (take n path) f w c)) ≤ 1024
-  settled_short {c} h = omega (arith, length_answer_settled (take n path) f w c, choice_short, length_settled c, length_word c h)
+  pub settled_short : {c : ℕ} → c < 4294967296 → length (answer_text (settled p f w c)) ≤ 1024
+  settled_short {c} h = omega (arith, length_answer_settled p f w c, choice_short, length_settled c, length_word c h)
 
-  pub open_short : {c floor : ℕ} → c < 4294967296 → floor < 4294967296 → length (answer_text (left_open (take n path) f w c floor)) ≤ 1024
+  pub open_short : {c floor : ℕ} → c < 4294967296 → floor < 4294967296 → length (answer_text (left_open p f w c floor)) ≤ 1024
   unfolding open_line
-  open_short {c} {floor} h k =
-      omega (arith, length_answer_open (take n path) f w c floor, choice_short, two_short ranked_word c floor_word floor h k)
+  open_short {c} {floor} h k = omega (arith, length_answer_open p f w c floor, choice_short, two_short ranked_word c floor_word floor h k)
 
 pub refused_short : (number place : ℕ) → number < 4294967296 → place < 4294967296 → length (refused_line number place) ≤ 1024
 unfolding refused_line

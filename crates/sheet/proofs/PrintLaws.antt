@@ -5,6 +5,7 @@ use mathlib.Core.Path.{◌≡◌, sym, ◌∙◌, ap, subst}
 use mathlib.Core.Logic.{⊎_elim}
 use mathlib.Core.List.Memᴰ
 use mathlib.Core.List.{List, [], ◌∷◌, tail}
+use Rattle.std.specs.Prelude.{Option, Some, None, Result, Ok, Err}
 use lib.ListN.{length, get_or, take, drop, length-append}
 use lib.Seq.{take_at, get_or-take}
 use borrow.Author.Tests.{lt-ltb, le-ltb}
@@ -22,24 +23,20 @@ use Rattle.image.specs.Calls.{image_fault}
 use Rattle.image.proofs.OutcomeLaws.{gives_sound, refuses_fault, after_sound}
 use Rattle.image.proofs.NetworkLaws.{accepted_network}
 use Rattle.outcomes.specs.Calls.{room_row, workspace, search_rows, ranking_rows, robust_rows, robust_fault, robust_of, chosen, robust_values, robust_outcome}
-use Rattle.network_calls.specs.Answers.{decided}
-use Rattle.network_calls.specs.declared.chosen.Decided.{Decided}
-use Rattle.network_calls.specs.declared.chosen.Decided.TheVariants as robust
+use Rattle.image.specs.Answers as image
+use Rattle.image.specs.declared.refusal.Refusal.{Refusal}
+use Rattle.network_calls.specs.Answers.{Decision, state_of, floor_of, decision_list, answer_of, answered}
 use Rattle.sheet.specs.Sheet.{answer_text, refused_line, sheet_of, program_fault, program_answer, sheet}
 use Rattle.sheet.specs.Answers.{nodes_of, decided_text, Printable, sheet_fault, sheet_outcome}
 
 -- ---- the answer, from its values
-settled_is : (a : Answer) {len f w c : ℕ} → len ∷ f ∷ w ∷ c ∷ 1 ∷ 0 ∷ [] ≡ robust_values a → (a ≡ settled (chosen a) f w c) × (len ≡ length (chosen a))
+values_are : (a : Answer) {len f w c : ℕ} (z : Option ℕ) → len ∷ f ∷ w ∷ c ∷ state_of z ∷ floor_of z ∷ [] ≡ robust_values a → (answer_of (chosen a) f w c z ≡ a) × (len ≡ length (chosen a))
 unfolding robust_values chosen
-settled_is (settled p f w c) e = (cc, cc)
-settled_is (left_open p f w c floor) e = let z : ◌≡◌ {A = ℕ} 1 2 = cc in absurd (omega arith)
-settled_is no_path e = let z : ◌≡◌ {A = ℕ} 0 1 = cc in absurd (omega arith)
-
-open_is : (a : Answer) {len f w c floor : ℕ} → len ∷ f ∷ w ∷ c ∷ 2 ∷ floor ∷ [] ≡ robust_values a → (a ≡ left_open (chosen a) f w c floor) × (len ≡ length (chosen a))
-unfolding robust_values chosen
-open_is (settled p f w c) e = let z : ◌≡◌ {A = ℕ} 1 2 = cc in absurd (omega arith)
-open_is (left_open p f w c floor) e = (cc, cc)
-open_is no_path e = let z : ◌≡◌ {A = ℕ} 0 1 = cc in absurd (omega arith)
+values_are (settled p f w c) None e = (cc, cc)
+values_are (settled p f w c) (Some floor) e = let z : ◌≡◌ {A = ℕ} 2 1 = cc in absurd (omega arith)
+values_are (left_open p f w c floor) None e = let z : ◌≡◌ {A = ℕ} 1 2 = cc in absurd (omega arith)
+values_are (left_open p f w c floor) (Some floor') e = (cc, cc)
+values_are no_path z e = let z : ◌≡◌ {A = ℕ} 0 1 = cc in absurd (omega arith)
 
 -- ---- an answer for rows f and answer a, with the path in a slice
 module _ (f : Fault) (a : Answer) {path : List ℕ} (path₀ : List ℕ) (held : path ≡ after f (chosen a) path₀) where
@@ -50,21 +47,15 @@ module _ (f : Fault) (a : Answer) {path : List ℕ} (path₀ : List ℕ) (held :
       ∙ take_at (chosen a) (drop (length (chosen a)) path₀) n (sym l)
 
   -- what is printed
-  pub told : (r : Decided) → decided r ≡ outcome f (robust_values a) → decided_text r path ≡ sheet_of f a
+  pub told : (r : Result Decision Refusal) → image.answer decision_list r ≡ outcome f (robust_values a) → decided_text r path ≡ sheet_of f a
   unfolding sheet_of
-  told (robust.Settled d) e =
+  told (Ok d) e =
       let g = gives_sound f (robust_values a) e in
-      let s = settled_is a g.1 in
-      ap (λ (q : Route). answer_text (settled q d.figure d.worst d.count)) (begins g.0 s.1)
-      ∙ ap answer_text (sym s.0)
+      let s = values_are a d.floor g.1 in
+      ap (λ (q : Route). answer_text (answered q d)) (begins g.0 s.1)
+      ∙ ap answer_text s.0
       ∙ ap (λ (k : Fault). sheet_of k a) (sym g.0)
-  told (robust.Open d floor) e =
-      let g = gives_sound f (robust_values a) e in
-      let s = open_is a g.1 in
-      ap (λ (q : Route). answer_text (left_open q d.figure d.worst d.count floor)) (begins g.0 s.1)
-      ∙ ap answer_text (sym s.0)
-      ∙ ap (λ (k : Fault). sheet_of k a) (sym g.0)
-  told (robust.Refused r) e = ap (λ (k : Fault). sheet_of k a) (sym (refuses_fault f (robust_values a) e))
+  told (Err r) e = ap (λ (k : Fault). sheet_of k a) (sym (refuses_fault f (robust_values a) e))
 
   -- and that the path fits
   module _ (long : length path ≡ 200) (few : length (chosen a) ≤ 200) (small : (x : ℕ) → x ∈ chosen a → x < 1000) where
@@ -76,10 +67,9 @@ module _ (f : Fault) (a : Answer) {path : List ℕ} (path₀ : List ℕ) (held :
             let same : get_or path i 0 ≡ get_or (chosen a) i 0 = sym (get_or-take n path i 0 h) ∙ ap (λ (q : List ℕ). get_or q i 0) (begins ok l) in
             subst (λ (x : ℕ). x < 1000) (sym same) (small (get_or (chosen a) i 0) (get_or_mem (chosen a) 0 i (omega arith)))
 
-    pub printable : (r : Decided) → decided r ≡ outcome f (robust_values a) → Printable path (nodes_of r)
-    printable (robust.Settled d) e = let g = gives_sound f (robust_values a) e in fits g.0 (settled_is a g.1).1
-    printable (robust.Open d floor) e = let g = gives_sound f (robust_values a) e in fits g.0 (open_is a g.1).1
-    printable (robust.Refused r) e = record { few = omega arith; within = omega arith; small = λ i h. absurd (omega arith) }
+    pub printable : (r : Result Decision Refusal) → image.answer decision_list r ≡ outcome f (robust_values a) → Printable path (nodes_of r)
+    printable (Ok d) e = let g = gives_sound f (robust_values a) e in fits g.0 (values_are a d.floor g.1).1
+    printable (Err r) e = record { few = omega arith; within = omega arith; small = λ i h. absurd (omega arith) }
 
 -- ---- the chosen path has at most 200 nodes, of at most three digits
 nodes_to : {n : ℕ} {g : Graph} → Within n g → (v : ℕ) (p : List ℕ) → ByArcs g (v ∷ p) → {x : ℕ} → x ∈ p → x ≤ n
@@ -145,7 +135,7 @@ module _ (b : List ℕ) (ok : image_fault b ≡ sound) where
   demand = let net = accepted_network b ok in
       demand_3 (net_of b) 1 1 (net_of b).nodes net (omega arith) (some_node (net_of b) net 0) (omega arith) net.columns_from 48 (omega arith)
 
-  module _ {n : ℕ} (r : Decided) (path path₀ work₀ : List ℕ) (same : n ≡ (net_of b).nodes) (room : length path₀ ≡ 200) (space : length work₀ ≡ 13848) (answer : decided r ≡ robust_outcome b 1 1 n 48 (length path₀) (length work₀)) (held : path ≡ after (robust_fault b 1 1 n 48 (length path₀) (length work₀)) (chosen (robust_of b 1 1 n 48)) path₀) where
+  module _ {n : ℕ} (r : Result Decision Refusal) (path path₀ work₀ : List ℕ) (same : n ≡ (net_of b).nodes) (room : length path₀ ≡ 200) (space : length work₀ ≡ 13848) (answer : image.answer decision_list r ≡ robust_outcome b 1 1 n 48 (length path₀) (length work₀)) (held : path ≡ after (robust_fault b 1 1 n 48 (length path₀) (length work₀)) (chosen (robust_of b 1 1 n 48)) path₀) where
     rows : robust_fault b 1 1 n 48 (length path₀) (length work₀) ≡ program_fault b
     unfolding program_fault
     rows = rw (same, room, space)
@@ -154,7 +144,7 @@ module _ (b : List ℕ) (ok : image_fault b ≡ sound) where
     unfolding program_answer
     choice = rw same
 
-    answer' : decided r ≡ outcome (program_fault b) (robust_values (program_answer b))
+    answer' : image.answer decision_list r ≡ outcome (program_fault b) (robust_values (program_answer b))
     unfolding robust_outcome
     answer' = answer ∙ ap (λ (f : Fault). outcome f (robust_values (robust_of b 1 1 n 48))) rows ∙ ap (λ (a : Answer). outcome (program_fault b) (robust_values a)) choice
 

@@ -6,4 +6,4 @@ mod lines;
 mod printing;
 mod words;
 
-pub use printing::{Printed, sheet};
+pub use printing::{TooShort, sheet};

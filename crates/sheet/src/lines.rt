@@ -1,11 +1,13 @@
 // The lines of the sheet, written into a slice from a place on. Each function returns the place
 // behind what it wrote.
 ghost use Rattle.std.specs.Prelude.{◌+◌, ◌≤◌, length};
-ghost use Rattle.terms.specs.Robust.{settled, left_open};
+ghost use Rattle.network_calls.specs.Answers.{answered};
 ghost use Rattle.sheet.specs.Text.{Wrote};
+ghost use Rattle.sheet.specs.Answers.{Printable};
 ghost use Rattle.sheet.specs.Sheet.{two_numbers, node_text, nodes_text, route_line, settled_line, choice_lines, answer_text};
 
 use super::words::{write_number, write_word};
+use network_calls::Decision;
 
 // A line of two numbers with a word before each.
 pub fn write_pair(text: &mut [u8], at: usize, first: &[u8], x: u32, second: &[u8], y: u32) -> usize
@@ -71,27 +73,14 @@ fn write_count(text: &mut [u8], at: usize, count: u32) -> usize
     write_word(text, b, b" settled\n")
 }
 
-// The sheet of a settled answer.
-pub fn write_settled(text: &mut [u8], path: &[u16], figure: u32, worst: u32, count: u32) -> usize
-    requires { length (answer_text (settled path.now figure worst count)) ≤ length text.old }
-    ensures { Wrote text.old 0 (answer_text (settled path.now figure worst count)) text.new result }
+// The sheet of a decision, whose path is given.
+pub fn write_decision(text: &mut [u8], path: &[u16], found: Decision) -> usize
+    requires { (1024 ≤ length text.old) × Printable path.now (length path.now) }
+    ensures { Wrote text.old 0 (answer_text (answered path.now found)) text.new result × (result ≤ 1024) }
 {
-    let a = write_choice(text, 0, path, figure, worst);
-    write_count(text, a, count)
-}
-
-// The sheet of an open answer.
-pub fn write_open(
-    text: &mut [u8],
-    path: &[u16],
-    figure: u32,
-    worst: u32,
-    count: u32,
-    floor: u32,
-) -> usize
-    requires { length (answer_text (left_open path.now figure worst count floor)) ≤ length text.old }
-    ensures { Wrote text.old 0 (answer_text (left_open path.now figure worst count floor)) text.new result }
-{
-    let a = write_choice(text, 0, path, figure, worst);
-    write_pair(text, a, b"ranked ", count, b" open floor ", floor)
+    let a = write_choice(text, 0, path, found.figure, found.worst);
+    match found.floor {
+        None => write_count(text, a, found.count),
+        Some(floor) => write_pair(text, a, b"ranked ", found.count, b" open floor ", floor),
+    }
 }

@@ -7,51 +7,45 @@ ghost use Rattle.sheet.specs.Sheet.{refused_line};
 ghost use Rattle.sheet.specs.Sheet.{sheet as Sheet·sheet};
 ghost use Rattle.sheet.specs.Answers.{nodes_of, decided_text, Printable, printed, sheet_fault, sheet_outcome};
 
-use super::lines::{write_open, write_pair, write_settled};
+use super::lines::{write_decision, write_pair};
+use image::Refusal;
 use image::check::check;
-use image::{Checked, Refusal, number, place};
-use network_calls::Decided;
+use network_calls::Decision;
 use network_calls::robust::robust;
+use std::error::Error;
+use std::fmt;
 
-// The sheet's answer.
-#[derive(Clone, Copy)]
-pub enum Printed {
-    // The length of the text.
-    Text(u32),
-    // The slice has fewer than 1,024 places.
-    TooShort,
+// The slice for the text has fewer than 1,024 places.
+#[derive(Clone, Copy, Debug, PartialEq, Eq)]
+pub struct TooShort;
+
+impl fmt::Display for TooShort {
+    fn fmt<W: fmt::Write>(&self, f: &mut fmt::Formatter<W>) -> fmt::Result {
+        write!(f, "the slice for the text is too short")
+    }
 }
+
+impl Error for TooShort {}
 
 // The sheet of a refusal.
 fn write_refused(text: &mut [u8], row: Refusal) -> usize
     requires { 1024 ≤ length text.old }
     ensures { Wrote text.old 0 (refused_line (number_of row) (place_of row)) text.new result × (result ≤ 1024) }
 {
-    write_pair(text, 0, b"refused ", number(row), b" at ", place(row))
+    write_pair(text, 0, b"refused ", row.number(), b" at ", row.place())
 }
 
 // The sheet of an answer of Robust, whose path is in a slice.
-fn write_answer(text: &mut [u8], path: &[u16], answer: Decided) -> usize
+fn write_answer(text: &mut [u8], path: &[u16], answer: Result<Decision, Refusal>) -> usize
     requires { (1024 ≤ length text.old) × Printable path.now (nodes_of answer) }
     ensures { Wrote text.old 0 (decided_text answer path.now) text.new result × (result ≤ 1024) }
 {
     match answer {
-        Decided::Settled(found) => {
+        Ok(found) => {
             let nodes = found.length as usize;
-            write_settled(text, &path[..nodes], found.figure, found.worst, found.count)
+            write_decision(text, &path[..nodes], found)
         }
-        Decided::Open(found, floor) => {
-            let nodes = found.length as usize;
-            write_open(
-                text,
-                &path[..nodes],
-                found.figure,
-                found.worst,
-                found.count,
-                floor,
-            )
-        }
-        Decided::Refused(row) => write_refused(text, row),
+        Err(row) => write_refused(text, row),
     }
 }
 
@@ -60,9 +54,9 @@ fn write_sheet(image: &[u8], text: &mut [u8], path: &mut [u16], work: &mut [u32]
     requires { (1024 ≤ length text.old) × (length path.old ≡ 200) × (length work.old ≡ 13848) }
     ensures { Wrote text.old 0 (Sheet·sheet image.now) text.new result × (result ≤ 1024) }
 {
-    let answer = check(image);
-    let Checked::Network(sizes) = answer else {
-        return write_refused(text, answer.refusal());
+    let sizes = match check(image) {
+        Ok(sizes) => sizes,
+        Err(row) => return write_refused(text, row),
     };
     let found = robust(image, 1, 1, sizes.n, 48, path, work);
     write_answer(text, path, found)
@@ -70,14 +64,14 @@ fn write_sheet(image: &[u8], text: &mut [u8], path: &mut [u16], work: &mut [u32]
 
 // REFERENCE, sections 7.1 and 7.5: column 1, start 1, goal n, K = 48. A sheet has at most
 // 1,024 bytes: a slice of so many places is long enough for every image.
-pub fn sheet(image: &[u8], text: &mut [u8]) -> Printed
+pub fn sheet(image: &[u8], text: &mut [u8]) -> Result<u32, TooShort>
     ensures result_value { printed result ≡ sheet_outcome image.now (length text.old) }
     ensures text_after { text.new ≡ after (sheet_fault (length text.old)) (Sheet·sheet image.now) text.old }
 {
     if text.len() < 1024 {
-        return Printed::TooShort;
+        return Err(TooShort);
     }
     let mut path = [0u16; 200];
     let mut work = [0u32; 13848];
-    Printed::Text(write_sheet(image, text, &mut path, &mut work) as u32)
+    Ok(write_sheet(image, text, &mut path, &mut work) as u32)
 }

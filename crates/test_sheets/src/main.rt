@@ -7,7 +7,7 @@
 
 ghost use Rattle.std.specs.Prelude.{◌≤◌, length, IfOk};
 
-use sheet::{Printed, sheet};
+use sheet::sheet;
 use std::fs::File;
 use std::io;
 use std::io::{Read, Write};
@@ -39,8 +39,7 @@ fn print_text(rt: &impl Print, text: &[u8], length: usize) -> io::Result<()> {
 
 // Prints the sheet of an image, by way of a slice that holds the pattern.
 fn print_answer(rt: &impl Print, image: &[u8], text: &mut [u8]) -> io::Result<()> {
-    let answer = sheet(image, text);
-    let Printed::Text(length) = answer else {
+    let Ok(length) = sheet(image, text) else {
         println!(rt; "too short")?;
         return print_text(rt, text, 0);
     };

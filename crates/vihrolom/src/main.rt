@@ -7,7 +7,7 @@
 
 ghost use Rattle.std.specs.Prelude.{◌≤◌, length, IfOk};
 
-use sheet::{Printed, sheet};
+use sheet::sheet;
 use std::io;
 use std::io::{Read, Write};
 
@@ -31,8 +31,7 @@ fn read_full(reader: &mut impl Read, places: &mut [u8]) -> io::Result<usize>
 
 // Prints the sheet of an image, by way of a slice that is long enough.
 fn print(rt: &impl Print, image: &[u8], text: &mut [u8]) -> io::Result<()> {
-    let answer = sheet(image, text);
-    if let Printed::Text(length) = answer {
+    if let Ok(length) = sheet(image, text) {
         let end = length as usize;
         io::writer(rt).write_all(&text[..end])?;
     }

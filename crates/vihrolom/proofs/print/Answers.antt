@@ -7,10 +7,10 @@ use Rattle.vihrolom.proofs.print.Goals as goal
 
 pub slice_bounds-write_all-end : goal.slice_bounds-write_all-end
 slice_bounds-write_all-end g c =
-    let fits : c.in-Text.length ≤ length c.sheet-answer.new.text = sheet_fits c.args.image.now c.args.text.now (sym (ap printed c.in-Text.is) ∙ c.sheet-answer.ensures.result_value) c.sheet-answer.ensures.text_after in
+    let fits : c.in-Ok.length ≤ length c.sheet.new.text = sheet_fits c.args.image.now c.args.text.now (sym (ap printed c.in-Ok.is) ∙ c.sheet.ensures.result_value) c.sheet.ensures.text_after in
     fits
 
-pub slice_bounds-write_all-end-in-Text : goal.slice_bounds-write_all-end-in-Text
-slice_bounds-write_all-end-in-Text g c =
-    let fits : c.in-Text.length ≤ length c.sheet-answer.new.text = sheet_fits c.args.image.now c.args.text.now (sym (ap printed c.in-Text.is) ∙ c.sheet-answer.ensures.result_value) c.sheet-answer.ensures.text_after in
+pub slice_bounds-write_all-end-in-Ok : goal.slice_bounds-write_all-end-in-Ok
+slice_bounds-write_all-end-in-Ok g c =
+    let fits : c.in-Ok.length ≤ length c.sheet.new.text = sheet_fits c.args.image.now c.args.text.now (sym (ap printed c.in-Ok.is) ∙ c.sheet.ensures.result_value) c.sheet.ensures.text_after in
     sym (length-take-le _ _ fits)
