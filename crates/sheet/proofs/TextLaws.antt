@@ -5,17 +5,14 @@ use native.Mathlib.Nat.{zero-add, add-zero}
 use native.Mathlib.Numerals.{add-one}
 use mathlib.Core.Path.{◌≡◌, refl, sym, ◌∙◌, ap, subst}
 use mathlib.Core.List.{List, [], ◌∷◌, ◌++◌, append_assoc}
-use lib.ListN.{length, get_or, take, drop, set, length-append, length-take, length-drop, take-append-drop}
-use lib.Seq.{take-suc, take-length, set_split, length-take-le}
+use lib.ListN.{length, take, drop, set, length-append, length-take, length-drop, take-append-drop}
+use lib.Seq.{set_split, length-take-le}
 use Rattle.image.proofs.ByteLaws.{write_next}
 use Rattle.sheet.specs.Text.{Wrote}
 
 -- nothing, and one byte
 pub wrote_nothing : (t : List ℕ) (at : ℕ) → at ≤ length t → Wrote t at [] t at
 wrote_nothing t at h = record { fits = omega arith; holds = rw (add-zero at) (sym (take-append-drop at t)); behind = sym (add-zero at) }
-
-pub wrote_start : (t : List ℕ) (at : ℕ) → at ≤ length t → Wrote t at [] t (at + 0)
-wrote_start t at h = rw (add-zero at) (wrote_nothing t at h)
 
 pub wrote_byte : (t : List ℕ) (at x : ℕ) → at < length t → Wrote t at (x ∷ []) (set t at x) (at + 1)
 wrote_byte t at x h = record { fits = omega arith; holds = rw add-one (set_split t at x h); behind = refl }
@@ -44,20 +41,6 @@ wrote_both {t} {t'} {t''} {a} {b} {at} {next} {end} v w = record { fits = omega 
         write_next b (length b) (take at t ++ a) t' t next front before
         ∙ ap (λ (i : ℕ). ((take at t ++ a) ++ b) ++ drop i t) there
         ∙ simp append_assoc
-
--- the first bytes of a word, and one more; and all of them
-pub wrote_more : {t t' : List ℕ} (word : List ℕ) (at i : ℕ) → i < length word → at + length word ≤ length t → Wrote t at (take i word) t' (at + i)
-    → Wrote t at (take (i + 1) word) (set t' (at + i) (get_or word i 0)) (at + (i + 1))
-wrote_more {t} {t'} word at i h k w =
-    let long = wrote_length w in
-    let one = wrote_byte t' (at + i) (get_or word i 0) (omega arith) in
-    let end : at + i + 1 ≡ at + (i + 1) = omega arith in
-    let next : take (i + 1) word ≡ take i word ++ (get_or word i 0 ∷ []) = rw add-one (take-suc word i 0 h) in
-    subst (λ (l : List ℕ). Wrote t at l (set t' (at + i) (get_or word i 0)) (at + (i + 1))) (sym next) (subst (λ (j : ℕ). Wrote t at (take i word ++ (get_or word i 0 ∷ [])) (set t' (at + i) (get_or word i 0)) j) end (wrote_both w one))
-
-pub wrote_all : {t t' : List ℕ} (word : List ℕ) (at i : ℕ) → i ≡ length word → Wrote t at (take i word) t' (at + i) → Wrote t at word t' (at + length word)
-wrote_all {t} {t'} word at i done w =
-    subst (λ (l : List ℕ). Wrote t at l t' (at + length word)) (take-length word) (subst (λ (j : ℕ). Wrote t at (take j word) t' (at + j)) done w)
 
 -- the same text under another name
 pub wrote_as : {t t' a b : List ℕ} {at next : ℕ} → a ≡ b → Wrote t at a t' next → Wrote t at b t' next

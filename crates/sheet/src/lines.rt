@@ -36,10 +36,8 @@ fn write_nodes(text: &mut [u8], at: usize, path: &[u16]) -> usize
     ensures { Wrote text.old at (nodes_text path.now) text.new result }
 {
     let mut next = at;
-    let mut i = 0;
-    while i < path.len() {
-        next = write_node(text, next, path[i] as u32);
-        i += 1;
+    for &node in path {
+        next = write_node(text, next, u32::from(node));
     }
     next
 }

@@ -8,12 +8,9 @@ pub fn write_word(text: &mut [u8], at: usize, word: &[u8]) -> usize
     requires { at + length word.now ≤ length text.old }
     ensures { Wrote text.old at word.now text.new result }
 {
-    let mut i = 0;
-    while i < word.len() {
-        text[at + i] = word[i];
-        i += 1;
-    }
-    at + word.len()
+    let end = at + word.len();
+    text[at..end].copy_from_slice(word);
+    end
 }
 
 // The decimal digits of a number, with no zero in front. The digits of its tenth are written first,
