@@ -3,14 +3,9 @@ use mathlib.Core.Path.{refl}
 use native.Mathlib.Omega.{arith}
 use Rattle.labels.specs.Search.{Relaxed}
 use Rattle.labels.proofs.relax.relax.Goals as goal
-use Rattle.labels.proofs.relax.relax.Goals.{then-old-rest-via-then-old-rest, then-old-rest-via-else-old-rest+then-old-rest-2, then-old-rest-via-else-old-rest+else-old-rest-2+then-barred-t-ne0}
 
 pub returns-then-old-rest : goal.returns-then-old-rest
-returns-then-old-rest c = elim c.then-old-rest.branch [
-  | then-old-rest-via-then-old-rest w ↦ Relaxed.kept (λ _. omega arith) refl
-  | then-old-rest-via-else-old-rest+then-old-rest-2 w ↦ Relaxed.kept (λ _. omega arith) refl
-  | then-old-rest-via-else-old-rest+else-old-rest-2+then-barred-t-ne0 w ↦ Relaxed.kept (λ f. absurd (w.if-barred-t-ne0.true f)) refl
-]
+returns-then-old-rest c = Relaxed.kept (λ free. grind arith) refl
 
 pub returns : goal.returns
-returns c = Relaxed.fell c.if-barred-t-ne0.false (omega arith) refl
+returns c = Relaxed.fell (omega arith) (omega arith) refl

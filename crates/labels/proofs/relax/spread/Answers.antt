@@ -1,11 +1,13 @@
 -- `relax::spread` follows the chain of h, and the link falls. The loop: the arcs into h from the link on are done, and the label of h is kept.
 -- Assumes nothing.
-use mathlib.Core.Path.{◌≡◌, ◌∙◌}
-use Prim.Native.Nat.{◌+◌, ◌-◌, ◌<◌}
+use mathlib.Core.Path.{◌≡◌, ◌∙◌, subst}
+use mathlib.Core.List.{List}
+use Prim.Native.Nat.{ℕ, ◌+◌, ◌-◌, ◌<◌}
 use native.Mathlib.Omega.{arith}
 use native.Mathlib.Nat.{le_trans, le_of_lt}
 use lib.ListN.{length, get_or}
 use Rattle.star.specs.Graphs.{tails}
+use Rattle.labels.specs.Search.{Visited}
 use Rattle.labels.proofs.ArrayLaws.{graph_arrays}
 use Rattle.labels.proofs.SearchLaws.{chain_next, visited_falls, visited_rest}
 use Rattle.labels.proofs.relax.spread.Goals as goal
@@ -19,7 +21,8 @@ loop-link-preserved c =
     let tail_in : get_or (tails g) (c.loop-link.link - 1) 0 < length c.loop-link.labels = omega (arith, arrays.tail_in (c.loop-link.link - 1) arc_in) in
     let head_in : c.args.h < length c.loop-link.labels = omega arith in
     let same : length c.loop-link.dirty ≡ length c.loop-link.labels = omega arith in
-    let visited = rw c.tails-tails.ensures.value at c.visit-ends.ensures.visited in
+    let visited = subst (λ (ts : List ℕ). Visited (get_or ts (c.loop-link.link - 1) 0) (get_or g.weights.now (c.loop-link.link - 1) 0) (get_or c.args.labels.now c.args.h 0) c.args.barred.now c.loop-link.labels c.loop-link.dirty c.visit-ends.new.labels c.visit-ends.new.dirty)
+    c.tails-tails.ensures.value c.visit-ends.ensures.visited in
     rw c.next_in-next_in.ensures.value (
       le_trans (arrays.next_in (c.loop-link.link - 1) arc_in) (le_of_lt arc_in),
       c.visit-ends.ensures.still_listed,
