@@ -199,27 +199,39 @@ closed_roads_le words m = omega (arith, keep_length (shut words) (numbers 0 m), 
 pub closed_roads_none : (words : List ℕ) (m : ℕ) → 0 ≡ closed_roads words (min m (64 * 0))
 closed_roads_none words m = let z : min m (64 * 0) ≡ 0 = omega arith in omega (arith, closed_roads_le words (min m (64 * 0)))
 
-pub closed_roads_all : (words : List ℕ) (m q : ℕ) → m ≤ 64 * q → closed_roads words (min m (64 * q)) ≡ closed_roads words m
-closed_roads_all words m q h = let z : min m (64 * q) ≡ m = omega arith in ap (closed_roads words) z
+-- up to the end of word q, whose ones below bit m - 64 * q count
+pub closed_roads_more : (words : List ℕ) (m q : ℕ) → closed_roads words (min m (64 * (q + 1))) ≡ closed_roads words (min m (64 * q)) + ones (get_or words q 0 % 2 ^ min (m - 64 * q) 64)
+unfolding ones
+closed_roads_more words m q = ⊎_elim done more (le_or_lt m (64 * q))
+  where
+    done : m ≤ 64 * q → closed_roads words (min m (64 * (q + 1))) ≡ closed_roads words (min m (64 * q)) + ones (get_or words q 0 % 2 ^ min (m - 64 * q) 64)
+    done h =
+        let same : min m (64 * (q + 1)) ≡ min m (64 * q) = omega arith in
+        let bits : min (m - 64 * q) 64 ≡ 0 = omega arith in
+        let none : ones (get_or words q 0 % 2 ^ min (m - 64 * q) 64) ≡ 0 = ap (λ n. ones (get_or words q 0 % 2 ^ n)) bits ∙ ap ones (mod-one (get_or words q 0)) in
+        omega (arith, ap (closed_roads words) same, none)
 
-pub closed_roads_more : (words : List ℕ) (m q : ℕ) → 64 * q < m → closed_roads words (min m (64 * (q + 1))) ≡ closed_roads words (min m (64 * q)) + ones (get_or words q 0 % 2 ^ min (m - 64 * q) 64)
-closed_roads_more words m q h =
-    let here : min m (64 * q) ≡ 64 * q = omega arith in
-    let next : min m (64 * (q + 1)) ≡ 64 * q + min (m - 64 * q) 64 = omega arith in
-    ap (closed_roads words) next ∙ closed_roads_word words q (min (m - 64 * q) 64) (omega arith) ∙ ap (λ k. closed_roads words k + ones (get_or words q 0 % 2 ^ min (m - 64 * q) 64)) (sym here)
+    more : 64 * q < m → closed_roads words (min m (64 * (q + 1))) ≡ closed_roads words (min m (64 * q)) + ones (get_or words q 0 % 2 ^ min (m - 64 * q) 64)
+    more h =
+        let here : min m (64 * q) ≡ 64 * q = omega arith in
+        let next : min m (64 * (q + 1)) ≡ 64 * q + min (m - 64 * q) 64 = omega arith in
+        ap (closed_roads words) next ∙ closed_roads_word words q (min (m - 64 * q) 64) (omega arith) ∙ ap (λ k. closed_roads words k + ones (get_or words q 0 % 2 ^ min (m - 64 * q) 64)) (sym here)
 
 -- beyond the map's end nothing is counted
-pub closed_roads_short : (words : List ℕ) (m q : ℕ) → length words ≤ q → 64 * q ≤ m → closed_roads words (min m (64 * q)) ≡ closed_roads words m
+pub closed_roads_all : (words : List ℕ) (m q : ℕ) → length words ≤ q → closed_roads words (min m (64 * q)) ≡ closed_roads words m
 unfolding closed_roads
-closed_roads_short words m q short h =
-    let here : min m (64 * q) ≡ 64 * q = omega arith in
-    let all : m ≡ 64 * q + (m - 64 * q) = omega arith in
-    ap (closed_roads words) here
-    ∙ sym (ap (λ k. length (keep (shut words) (numbers 0 k))) all
-    ∙ ap (λ l. length (keep (shut words) l)) (numbers_append 0 (64 * q) (m - 64 * q))
-    ∙ ap length (keep_append (shut words) (numbers 0 (64 * q)) (numbers (0 + 64 * q) (m - 64 * q)))
-    ∙ ap (λ l. length (keep (shut words) (numbers 0 (64 * q)) ++ l)) (keep_none (shut words) (numbers (0 + 64 * q) (m - 64 * q)) (λ i k. short_open words i (let b = numbers_mem (0 + 64 * q) (m - 64 * q) k in omega arith)))
-    ∙ ap length (append-nil (keep (shut words) (numbers 0 (64 * q)))))
+closed_roads_all words m q short = ⊎_elim (λ h. let z : min m (64 * q) ≡ m = omega arith in ap (closed_roads words) z) beyond (le_or_lt m (64 * q))
+  where
+    beyond : 64 * q < m → closed_roads words (min m (64 * q)) ≡ closed_roads words m
+    beyond h =
+        let here : min m (64 * q) ≡ 64 * q = omega arith in
+        let all : m ≡ 64 * q + (m - 64 * q) = omega arith in
+        ap (closed_roads words) here
+        ∙ sym (ap (λ k. length (keep (shut words) (numbers 0 k))) all
+        ∙ ap (λ l. length (keep (shut words) l)) (numbers_append 0 (64 * q) (m - 64 * q))
+        ∙ ap length (keep_append (shut words) (numbers 0 (64 * q)) (numbers (0 + 64 * q) (m - 64 * q)))
+        ∙ ap (λ l. length (keep (shut words) (numbers 0 (64 * q)) ++ l)) (keep_none (shut words) (numbers (0 + 64 * q) (m - 64 * q)) (λ i k. short_open words i (let b = numbers_mem (0 + 64 * q) (m - 64 * q) k in omega arith)))
+        ∙ ap length (append-nil (keep (shut words) (numbers 0 (64 * q)))))
 
 -- ---- what the code computes
 -- a unit, shifted to its place in 64 bits

@@ -1,13 +1,13 @@
 -- Whether a route touches an arc, and whether two lists are equal: what the tests say, and how they go from place to place. Assumes nothing.
-use Prim.Native.Nat.{ℕ, suc, ◌+◌, ◌-◌, ◌≤◌, ◌<◌}
+use Prim.Native.Nat.{ℕ, ◌≤◌, ◌<◌}
 use native.Mathlib.Omega.{arith}
-use native.Mathlib.Numerals.{add-one}
 use mathlib.Core.Path.{◌≡◌, refl, sym, ◌∙◌, ap, ap₂}
-use mathlib.Core.Bool.{Bool, true, false, ◌&&◌, ◌||◌}
+use mathlib.Core.Bool.{true, false, ◌&&◌, ◌||◌}
 use mathlib.Core.List.{List, [], ◌∷◌}
 use lib.Dec.{eqb}
-use lib.ListN.{length, get_or, drop, drop_of_length-le}
-use lib.Seq.{drop-cons}
+use lib.ListN.{length, get_or, take, drop}
+use lib.Seq.{get_or-take}
+use lib.Pointwise.{pointwise}
 use borrow.Author.Tests.{eqb-true, eq-eqb, ne_eqb}
 use Rattle.terms.specs.Paths.{Route}
 use Rattle.terms.proofs.ListLaws.{clash, or_right, and_both}
@@ -34,64 +34,41 @@ alike_equal [] (y ∷ l) e = clash e refl
 alike_equal (x ∷ k) [] e = clash e refl
 alike_equal (x ∷ k) (y ∷ l) e = let h = and_both (eqb x y) (alike k l) e in ap₂ (λ a z. a ∷ z) (eqb-true x y h.0) (alike_equal k l h.1)
 
--- ---- a route from place to place: what is left from place i on
-abbrev pub touches_from : ℕ × ℕ → List ℕ → ℕ → Bool
-touches_from a l i = touches_after a (get_or l (i - 1) 0) (drop i l)
+-- ---- what the code tests
+module _ (a : ℕ × ℕ) (l : List ℕ) {n : ℕ} (two : n ≡ 2) (h : n ≤ length l) {step : List ℕ} (is : step ≡ take n l) where
+  -- the first step decides, or what is left after it
+  touches_step : touches a l ≡ ((eqb (get_or l 0 0) a.0 && eqb (get_or l 1 0) a.1) || touches a (drop 1 l))
+  unfolding touches touches_after
+  touches_step = by_case l (omega arith)
+    where
+      by_case : (l : List ℕ) → 2 ≤ length l → touches a l ≡ ((eqb (get_or l 0 0) a.0 && eqb (get_or l 1 0) a.1) || touches a (drop 1 l))
+      by_case [] h = absurd (omega arith)
+      by_case (v ∷ []) h = absurd (omega arith)
+      by_case (v ∷ x ∷ l) h = refl
 
-pub touches_first : (a : ℕ × ℕ) (l : List ℕ) → 1 ≤ length l → touches a l ≡ touches_from a l 1
-unfolding touches
-touches_first a [] h = absurd (omega arith)
-touches_first a (v ∷ l) h = refl
+  node : (i : ℕ) → i < 2 → get_or step i 0 ≡ get_or l i 0
+  node i k = ap (λ (x : List ℕ). get_or x i 0) is ∙ get_or-take n l i 0 (omega arith)
 
-pub touches_none : (a : ℕ × ℕ) (l : List ℕ) → length l ≤ 0 → touches a l ≡ false
-unfolding touches
+  pub touches_here : get_or step 0 0 ≡ a.0 → get_or step 1 0 ≡ a.1 → touches a l ≡ true
+  touches_here e f = touches_step ∙ rw (eq-eqb (get_or l 0 0) a.0 (sym (node 0 (omega arith)) ∙ e), eq-eqb (get_or l 1 0) a.1 (sym (node 1 (omega arith)) ∙ f))
+
+  pub tail_differs : (get_or step 0 0 ≡ a.0 → ⊥) → touches a l ≡ touches a (drop 1 l)
+  tail_differs n = touches_step ∙ rw (ne_eqb (get_or l 0 0) a.0 (λ e. n (node 0 (omega arith) ∙ e)))
+
+  pub head_differs : get_or step 0 0 ≡ a.0 → (get_or step 1 0 ≡ a.1 → ⊥) → touches a l ≡ touches a (drop 1 l)
+  head_differs e n = touches_step ∙ rw (eq-eqb (get_or l 0 0) a.0 (sym (node 0 (omega arith)) ∙ e), ne_eqb (get_or l 1 0) a.1 (λ f. n (node 1 (omega arith) ∙ f)))
+
+-- fewer than two nodes touch nothing
+pub touches_none : (a : ℕ × ℕ) (l : List ℕ) → length l < 2 → touches a l ≡ false
+unfolding touches touches_after
 touches_none a [] h = refl
-touches_none a (v ∷ l) h = absurd (omega arith)
+touches_none a (v ∷ []) h = refl
+touches_none a (v ∷ x ∷ l) h = absurd (omega arith)
 
-pub touches_end : (a : ℕ × ℕ) (l : List ℕ) (i : ℕ) → length l ≤ i → touches_from a l i ≡ false
-unfolding touches_after
-touches_end a l i h = ap (touches_after a (get_or l (i - 1) 0)) (drop_of_length-le l {i = i} h)
-
-module _ (a : ℕ × ℕ) (l : List ℕ) (i : ℕ) (h : i < length l) where
-  touches_step : touches_from a l i ≡ ((eqb (get_or l (i - 1) 0) a.0 && eqb (get_or l i 0) a.1) || touches_from a l (i + 1))
-  unfolding touches_after
-  touches_step =
-      let e : i + 1 - 1 ≡ i = omega arith in
-      ap (touches_after a (get_or l (i - 1) 0)) (drop-cons l i 0 h) ∙ ap₂ (λ k j. (eqb (get_or l (i - 1) 0) a.0 && eqb (get_or l i 0) a.1) || touches_after a (get_or l k 0) (drop j l)) (sym e) (sym (add-one i))
-
-  pub touches_here : get_or l (i - 1) 0 ≡ a.0 → get_or l i 0 ≡ a.1 → touches_from a l i ≡ true
-  touches_here e f = touches_step ∙ rw (eq-eqb (get_or l (i - 1) 0) a.0 e, eq-eqb (get_or l i 0) a.1 f)
-
-  pub tail_differs : (get_or l (i - 1) 0 ≡ a.0 → ⊥) → touches_from a l i ≡ touches_from a l (i + 1)
-  tail_differs n = touches_step ∙ rw (ne_eqb (get_or l (i - 1) 0) a.0 n)
-
-  pub head_differs : get_or l (i - 1) 0 ≡ a.0 → (get_or l i 0 ≡ a.1 → ⊥) → touches_from a l i ≡ touches_from a l (i + 1)
-  head_differs e n = touches_step ∙ rw (eq-eqb (get_or l (i - 1) 0) a.0 e, ne_eqb (get_or l i 0) a.1 n)
-
--- ---- two lists from place to place
-pub alike_lengths : (k l : List ℕ) → (length k ≡ length l → ⊥) → alike k l ≡ false
+-- `==` of two slices of numbers
+pub alike_is : (k l : List ℕ) → pointwise eqb k l ≡ alike k l
 unfolding alike
-alike_lengths [] [] n = absurd (n refl)
-alike_lengths [] (y ∷ l) n = refl
-alike_lengths (x ∷ k) [] n = refl
-alike_lengths (x ∷ k) (y ∷ l) n = rw (alike_lengths k l (λ e. n (ap suc e))) (and_false (eqb x y))
-  where
-    and_false : (b : Bool) → (b && false) ≡ false
-    and_false true = refl
-    and_false false = refl
-
-module _ (k l : List ℕ) (i : ℕ) where
-  pub alike_end : length k ≤ i → length l ≤ i → alike (drop i k) (drop i l) ≡ true
-  unfolding alike
-  alike_end h h' = ap₂ alike (drop_of_length-le k {i = i} h) (drop_of_length-le l {i = i} h')
-
-  module _ (h : i < length k) (h' : i < length l) where
-    alike_step : alike (drop i k) (drop i l) ≡ (eqb (get_or k i 0) (get_or l i 0) && alike (drop (i + 1) k) (drop (i + 1) l))
-    unfolding alike
-    alike_step = ap₂ alike (drop-cons k i 0 h) (drop-cons l i 0 h') ∙ ap (λ j. eqb (get_or k i 0) (get_or l i 0) && alike (drop j k) (drop j l)) (sym (add-one i))
-
-    pub alike_same : get_or k i 0 ≡ get_or l i 0 → alike (drop i k) (drop i l) ≡ alike (drop (i + 1) k) (drop (i + 1) l)
-    alike_same e = alike_step ∙ rw (eq-eqb (get_or k i 0) (get_or l i 0) e)
-
-    pub alike_differs : (get_or k i 0 ≡ get_or l i 0 → ⊥) → alike (drop i k) (drop i l) ≡ false
-    alike_differs n = alike_step ∙ rw (ne_eqb (get_or k i 0) (get_or l i 0) n)
+alike_is [] [] = refl
+alike_is [] (y ∷ l) = refl
+alike_is (x ∷ k) [] = refl
+alike_is (x ∷ k) (y ∷ l) = ap (λ t. eqb x y && t) (alike_is k l)

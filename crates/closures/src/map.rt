@@ -8,10 +8,7 @@ pub fn is_closed(words: &[u64], i: usize) -> bool
     ensures { result ≡ shut words.now i }
 {
     let at = i / 64;
-    if words.len() <= at {
-        return false;
-    }
-    (words[at] >> (i % 64)) % 2 == 1
+    at < words.len() && (words[at] >> (i % 64)) % 2 == 1
 }
 
 // The map with the bit of arc i turned over.
@@ -35,10 +32,11 @@ pub fn turn(words: [u64; 16], i: usize) -> [u64; 16]
 fn ones_below(word: u64, bits: usize) -> u32
     ensures { result ≡ ones (word % 2 ^ min bits 64) }
 {
-    if 64 <= bits {
-        return u64::count_ones(word);
+    if bits < 64 {
+        (word % (1u64 << bits)).count_ones()
+    } else {
+        word.count_ones()
     }
-    u64::count_ones(word % (1u64 << bits))
 }
 
 // The number of closed roads: of ones in the map below bit m.
@@ -47,13 +45,10 @@ pub fn closed_roads(words: &[u64], m: usize) -> u32
     ensures { (result ≡ closed_roads words.now m) × (result ≤ m) }
 {
     let mut count = 0;
-    let mut q = 0;
-    while 64 * q < m {
-        if words.len() <= q {
-            return count;
-        }
-        count += ones_below(words[q], m - 64 * q);
-        q += 1;
+    let mut left = m;
+    for &word in words {
+        count += ones_below(word, left);
+        left = left.saturating_sub(64);
     }
     count
 }

@@ -6,14 +6,10 @@ ghost use Rattle.closures.specs.Standing as standing;
 pub fn touches(tail: u16, head: u16, route: &[u16]) -> bool
     ensures { result ≡ standing.touches (tail, head) route.now }
 {
-    let mut i = 1;
-    while i < route.len() {
-        if route[i - 1] == tail {
-            if route[i] == head {
-                return true;
-            }
+    for step in route.windows(2) {
+        if step[0] == tail && step[1] == head {
+            return true;
         }
-        i += 1;
     }
     false
 }
@@ -22,15 +18,5 @@ pub fn touches(tail: u16, head: u16, route: &[u16]) -> bool
 pub fn alike(these: &[u64], those: &[u64]) -> bool
     ensures { result ≡ standing.alike these.now those.now }
 {
-    if these.len() != those.len() {
-        return false;
-    }
-    let mut i = 0;
-    while i < these.len() {
-        if these[i] != those[i] {
-            return false;
-        }
-        i += 1;
-    }
-    true
+    these == those
 }

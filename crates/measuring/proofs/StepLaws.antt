@@ -1,7 +1,6 @@
 -- The arcs of a path: where they are found, and that their sum in a column is the path's cost there. Assumes nothing.
-use Prim.Native.Nat.{ℕ, zero, suc, ◌+◌, ◌-◌, ◌≤◌, ◌<◌}
+use Prim.Native.Nat.{ℕ, zero, suc, ◌+◌, ◌*◌, ◌-◌, ◌≤◌, ◌<◌}
 use native.Mathlib.Omega.{arith}
-use native.Mathlib.Numerals.{add-one}
 use native.Mathlib.Nat.{eq-or-lt_of_le}
 use mathlib.Core.Path.{◌≡◌, refl, sym, ◌∙◌, ap, ap₂, subst}
 use mathlib.Core.Bool.{true}
@@ -10,7 +9,9 @@ use mathlib.Core.List.Memᴰ
 use mathlib.Core.List.{List, [], ◌∷◌}
 use lib.Dec.{eqb}
 use lib.ListN.{length, get_or, set, take, drop, length-take}
-use lib.Seq.{drop-cons, drop-length, get_or-take}
+use lib.Seq.{get_or-take}
+use Rattle.std.proofs.lemmas.List.Elements.{All-from_get_or}
+use Rattle.std.proofs.lemmas.List.Sums.{sum_by-cons}
 use Rattle.terms.specs.Lists.{largest, index}
 use Rattle.terms.specs.Network.{Graph, linked, column}
 use Rattle.terms.specs.Paths.{Route, ByArcs, along, single, cost, cost_from}
@@ -31,14 +32,13 @@ pub excess_within : (m : ℕ) (costs bests arcs : List ℕ) (u : ℕ) → 1 ≤ 
 unfolding excesses
 excess_within m costs bests arcs u lo hi = largest_ge (Memᴰ.map (excess m costs bests arcs) (mem_numbers 1 (length bests) u lo (omega arith)))
 
--- ---- sums
-pub sum_more : (ws arcs : List ℕ) (i : ℕ) → i < length arcs → sum_of ws (drop i arcs) ≡ get_or ws (get_or arcs i 0) 0 + sum_of ws (drop (i + 1) arcs)
-unfolding sum_of
-sum_more ws arcs i h = rw (add-one, drop-cons arcs i 0 h)
-
-pub sum_end : (ws arcs : List ℕ) → sum_of ws (drop (length arcs) arcs) ≡ 0
-unfolding sum_of
-sum_end ws arcs = rw (drop-length arcs)
+-- the sum of the arcs in the part of the costs that holds column i + 1, less the column's best
+pub excess_is : (m : ℕ) (costs bests arcs : List ℕ) (i : ℕ) {sum : ℕ} → sum ≡ sum_of (take (i * m + m - i * m) (drop (i * m) costs)) arcs → sum - get_or bests i 0 ≡ excess m costs bests arcs (i + 1)
+unfolding excess
+excess_is m costs bests arcs i e =
+    let whole : i * m + m - i * m ≡ m = omega arith in
+    let place : i + 1 - 1 ≡ i = omega arith in
+    rw place (ap (λ x. x - get_or bests i 0) (rw whole at e))
 
 -- ---- the arcs of a path, found one by one
 pub step_linked : {g : Graph} {p : Route} (i : ℕ) → ByArcs g p → 1 ≤ i → i < length p → linked g (get_or p (i - 1) 0) (get_or p i 0) ≡ true
@@ -53,13 +53,13 @@ steps_more {ts} {hs} {path} {arcs} {i} {a} from inside found s = record { step =
 -- ---- they cost together what the path costs
 module _ {n : ℕ} {ts hs ws : List ℕ} (A : Arcs n ts hs ws) where
   cost_after : (v : ℕ) (p arcs : List ℕ) → length p ≤ length arcs → Steps ts hs (v ∷ p) arcs (length (v ∷ p)) → cost_from (graph ts hs ws) v p ≡ sum_of ws (take (length p) arcs)
-  unfolding cost_from sum_of
+  unfolding cost_from
   cost_after v [] arcs h s = refl
   cost_after v (x ∷ p) [] h s = absurd (omega arith)
-  cost_after v (x ∷ p) (a ∷ arcs) h s = ap₂ (λ (y z : ℕ). y + z) (at_weight A (s.step 0 (omega arith))) (cost_after x p arcs (omega arith) (record { step = λ i l. s.step (suc i) (omega arith) }))
+  cost_after v (x ∷ p) (a ∷ arcs) h s = ap₂ (λ (y z : ℕ). y + z) (at_weight A (s.step 0 (omega arith))) (cost_after x p arcs (omega arith) (record { step = λ i l. s.step (suc i) (omega arith) })) ∙ sym (sum_by-cons (λ i. get_or ws i 0) a (take (length p) arcs))
 
   steps_cost : (path arcs : List ℕ) → length path ≤ length arcs + 1 → Steps ts hs path arcs (length path) → cost (graph ts hs ws) path ≡ sum_of ws (take (length path - 1) arcs)
-  unfolding cost sum_of
+  unfolding cost
   steps_cost [] arcs h s = refl
   steps_cost (v ∷ p) arcs h s = let e : length (v ∷ p) - 1 ≡ length p = omega arith in rw e (cost_after v p arcs (omega arith) s)
 
@@ -102,7 +102,7 @@ module _ (bests : List ℕ) {n m : ℕ} {s costs path : List ℕ} (C : Columns n
       arcs_few = columns_few C;
       costs_long = C.costs_long;
       steps_few = omega (arith, length-take (length path - 1) arcs);
-      arcs_in = λ i h. let l = rw length-take at h in rw (get_or-take (length path - 1) arcs i 0 (omega arith)) (omega (arith, arcs_many, (steps.step i (omega arith)).below));
+      arcs_in = All-from_get_or (λ a. a < m) (take (length path - 1) arcs) 0 (λ i h. let l = rw length-take at h in rw (get_or-take (length path - 1) arcs i 0 (omega arith)) (omega (arith, arcs_many, (steps.step i (omega arith)).below)));
       bests_below = λ u from upto. omega (arith, low u from upto, cost_is u from upto);
     }
 

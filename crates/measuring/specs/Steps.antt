@@ -1,5 +1,5 @@
 -- The arcs of a path, found once and summed in each column. Assumes nothing.
-use Rattle.std.specs.Prelude.{ℕ, suc, ◌+◌, ◌*◌, ◌-◌, ◌≤◌, ◌<◌, ◌≡◌, List, [], ◌∷◌, map, length, get_or}
+use Rattle.std.specs.Prelude.{ℕ, suc, ◌+◌, ◌*◌, ◌-◌, ◌≤◌, ◌<◌, ◌≡◌, List, map, length, get_or, sum_by, All}
 use Rattle.terms.specs.Lists.{numbers}
 use Rattle.star.specs.Arcs.{At}
 use Rattle.measuring.specs.Columns.{column_costs}
@@ -14,9 +14,8 @@ pub record Steps (ts hs path arcs : List ℕ) (c : ℕ) : Type 0 where
   pub step : (i : ℕ) → suc i < c → At ts hs (get_or path i 0) (get_or path (suc i) 0) (get_or arcs i 0)
 
 -- what the arcs weigh together
-unfoldable pub sum_of : List ℕ → List ℕ → ℕ
-sum_of ws [] = 0
-sum_of ws (a ∷ arcs) = get_or ws a 0 + sum_of ws arcs
+abbrev pub sum_of : List ℕ → List ℕ → ℕ
+sum_of ws arcs = sum_by (λ a. get_or ws a 0) arcs
 
 -- what the arcs cost beyond the bests, in column u and in each
 unfoldable pub excess : ℕ → List ℕ → List ℕ → List ℕ → ℕ → ℕ
@@ -37,5 +36,5 @@ pub record Summed (m : ℕ) (costs bests arcs : List ℕ) : Type 0 where
   pub arcs_few : m ≤ 1000
   pub costs_long : length costs ≡ length bests * m
   pub steps_few : length arcs ≤ 1000
-  pub arcs_in : (i : ℕ) → i < length arcs → get_or arcs i 0 < m
+  pub arcs_in : All (λ a. a < m) arcs
   pub bests_below : (u : ℕ) → 1 ≤ u → u ≤ length bests → get_or bests (u - 1) 0 ≤ sum_of (column_costs m costs u) arcs

@@ -25,9 +25,7 @@ pub fn path_arcs(heads: &[u16], first_out: &[u16], path: &[u16], arcs: &mut [u16
     requires { Starred heads.now first_out.now path.now × (length path.now ≤ length arcs.old + 1) }
     ensures { (n : ℕ) (ts ws : List ℕ) → Arcs n ts heads.now ws → Star n ts heads.now first_out.now → ByArcs (graph ts heads.now ws) path.now → Steps ts heads.now path.now arcs.new (length path.now) }
 {
-    let mut i = 1;
-    while i < path.len() {
+    for i in 1..path.len() {
         arcs[i - 1] = arc_index(heads, first_out, path[i - 1] as usize, path[i]);
-        i += 1;
     }
 }

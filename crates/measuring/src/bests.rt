@@ -72,9 +72,7 @@ pub fn column_bests(
     ensures { bests.new ≡ terms.bests (network n m (length bests.old) star.now costs.now) start goal }
 {
     let k = bests.len();
-    let mut u = 1;
-    while u <= k {
-        bests[u - 1] = column_best(star, m, costs, overall, n, start, goal, r, k, u);
-        u += 1;
+    for (i, best) in bests.iter_mut().enumerate() {
+        *best = column_best(star, m, costs, overall, n, start, goal, r, k, i + 1);
     }
 }

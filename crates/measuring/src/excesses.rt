@@ -3,7 +3,7 @@ ghost use Rattle.std.specs.Prelude.{◌≡◌, suc, eqb};
 ghost use Rattle.terms.specs.Lists.{largest, index};
 ghost use Rattle.measuring.specs.Steps.{Summed, excesses, Measured};
 
-use super::sums::column_excess;
+use super::sums::arc_sum;
 
 // A path's greatest regret, and the lowest-numbered column that has it.
 #[derive(Clone, Copy)]
@@ -18,25 +18,22 @@ pub fn greatest_excess(m: usize, costs: &[u32], bests: &[u64], arcs: &[u16], lim
     requires { Summed m costs.now bests.now arcs.now }
     ensures { Measured limit (largest (excesses m costs.now bests.now arcs.now)) (suc (index (eqb (largest (excesses m costs.now bests.now arcs.now))) (excesses m costs.now bests.now arcs.now))) result.figure result.worst }
 {
-    let mut figure = 0;
-    let mut worst = 1;
-    let mut u = 1;
-    while u <= bests.len() {
-        let excess = column_excess(m, costs, bests, arcs, u);
-        if figure < excess {
+    let mut greatest = Measure {
+        figure: 0,
+        worst: 1,
+    };
+    for (i, &best) in bests.iter().enumerate() {
+        let from = i * m;
+        let excess = arc_sum(&costs[from..from + m], arcs) - best;
+        if greatest.figure < excess {
+            greatest = Measure {
+                figure: excess,
+                worst: i as u32 + 1,
+            };
             if limit <= excess {
-                return Measure {
-                    figure: excess,
-                    worst: u as u32,
-                };
+                return greatest;
             }
-            figure = excess;
-            worst = u;
         }
-        u += 1;
     }
-    Measure {
-        figure,
-        worst: worst as u32,
-    }
+    greatest
 }

@@ -1,13 +1,8 @@
--- `standing::touches`: what is left from place i on decides. Assumes nothing.
-use Prim.Native.Nat.{◌-◌, ◌≤◌}
+-- `standing::touches`: what is left of the route decides. Assumes nothing.
 use mathlib.Core.Path.{◌≡◌}
-use lib.ListN.{length}
+use Rattle.std.specs.Slice.Iter.{windows_rest, windows_size}
 use Rattle.closures.specs.Standing.{touches}
-use Rattle.closures.proofs.TestLaws.{touches_from}
 use Rattle.closures.proofs.standing.touches.Given as goal
 
-abbrev pub invariant-loop-i : goal.invariant-loop-i
-invariant-loop-i l = (1 ≤ l.i) × (1 ≤ length l.route → (l.i ≤ length l.route) × (touches (l.tail, l.head) l.route ≡ touches_from (l.tail, l.head) l.route l.i))
-
-abbrev pub decreases-loop-i : goal.decreases-loop-i
-decreases-loop-i l = length l.route - l.i
+abbrev pub invariant-loop-step : goal.invariant-loop-step
+invariant-loop-step l = (windows_size l.step-iterator ≡ 2) × (touches (l.tail, l.head) l.route ≡ touches (l.tail, l.head) (windows_rest l.step-iterator))
