@@ -1,5 +1,5 @@
 // Paths are counted in the ranking order, and the earliest with the least figure leads.
-ghost use Rattle.std.specs.Prelude.{◌≡◌, ◌+◌, ◌≤◌, ◌<◌, max, length};
+ghost use Rattle.std.specs.Prelude.{◌≡◌, ◌+◌, ◌≤◌, ◌<◌, length};
 ghost use Rattle.terms.specs.Network.{column};
 ghost use Rattle.terms.specs.Paths.{Path};
 ghost use Rattle.terms.specs.Regret.{figure_over, worst_over};
@@ -24,13 +24,6 @@ pub struct Leader {
     pub worst: u32,
 }
 
-// The larger of two numbers.
-pub fn larger(a: u64, b: u64) -> u64
-    ensures { result ≡ max a b }
-{
-    if a < b { b } else { a }
-}
-
 // Whether the path at a place is the next to be counted: there is one, its deviation in the column is
 // below the least figure so far, and it is wanted. `best` is the column's best.
 pub fn due(
@@ -46,14 +39,7 @@ pub fn due(
     requires best_bound { place < count → best ≤ (entry_at n work.now place).cost }
     ensures { Outlook n work.now count place (best + figure) wanted result }
 {
-    if place == count {
-        return false;
-    }
-    let deviation = cost_at(work, n, place) - best;
-    if figure <= deviation {
-        return false;
-    }
-    place < wanted
+    place < count && cost_at(work, n, place) - best < figure && place < wanted
 }
 
 // The most that the path at the place `rank` costs beyond the bests, and its worst column, if it is below the

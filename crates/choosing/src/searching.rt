@@ -10,7 +10,7 @@ ghost use Rattle.measuring.specs.Columns.{network};
 ghost use Rattle.choosing.specs.Counting.{Priced, InColumn};
 ghost use Rattle.choosing.specs.Finding.{Judged, Decided};
 
-use crate::counting::{Leader, count_path, due, larger};
+use crate::counting::{Leader, count_path, due};
 use crate::task::Task;
 use candidates::cost_at;
 use labels::FAR;
@@ -92,7 +92,7 @@ pub fn search(
         leader = count_path(task, star, m, costs, bests, work, j, leader);
         // the path that is ranked costs less than the limit, also where its own deviation reaches the
         // least figure
-        let limit = larger(best + leader.figure, cost_at(work, n, j) + 1);
+        let limit = (best + leader.figure).max(cost_at(work, n, j) + 1);
         let query = Query {
             start: task.start,
             goal: task.goal,

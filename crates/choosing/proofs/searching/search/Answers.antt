@@ -79,7 +79,7 @@ split-count-requires c =
     let counting : Counting c.args.task.n (c.args.task.wanted + 1) (graph_of c.args.star.now c.args.weights.now) c.args.task.start c.args.task.goal (get_or c.args.bests.now (c.args.task.column - 1) 0) (figure_over (network c.args.task.n (length c.args.weights.now) (length c.args.bests.now) c.args.star.now c.args.costs.now) c.args.bests.now) (worst_over (network c.args.task.n (length c.args.weights.now) (length c.args.bests.now) c.args.star.now c.args.costs.now) c.args.bests.now) c.loop-task.work c.loop-task.count c.loop-task.j c.loop-task.leader.place c.loop-task.leader.figure c.loop-task.leader.worst = c.loop-task.invariant.0 in
     let due_now : (c.loop-task.j < c.loop-task.count) × ((entry_at c.args.task.n c.loop-task.work c.loop-task.j).cost < (get_or c.args.bests.now (c.args.task.column - 1) 0) + c.loop-task.leader.figure) × (c.loop-task.j < c.args.task.wanted) = outlook_due c.due.ensures c.loop-task-test.true in
     let leading : Leading (figure_over (network c.args.task.n (length c.args.weights.now) (length c.args.bests.now) c.args.star.now c.args.costs.now) c.args.bests.now) (worst_over (network c.args.task.n (length c.args.weights.now) (length c.args.bests.now) c.args.star.now c.args.costs.now) c.args.bests.now) (ranked c.args.task.n (graph_of c.args.star.now c.args.weights.now) c.args.task.start c.args.task.goal) (c.loop-task.j + 1) c.count_path-leader.result.place c.count_path-leader.result.figure c.count_path-leader.result.worst = let u = due_now in c.count_path-leader.ensures.leads (ranked c.args.task.n (graph_of c.args.star.now c.args.weights.now) c.args.task.start c.args.task.goal) (next_within problem no_less counting u.0 u.1) (next_is problem no_less counting u.0 u.1) counting.leading in
-    let limit_is : c.larger-limit.result ≡ max ((get_or c.args.bests.now (c.args.task.column - 1) 0) + c.count_path-leader.result.figure) ((entry_at c.args.task.n c.loop-task.work c.loop-task.j).cost + 1) = c.larger-limit.ensures ∙ ap (λ (d : ℕ). max ((get_or c.args.bests.now (c.args.task.column - 1) 0) + c.count_path-leader.result.figure) (d + 1)) c.cost_at.ensures in
+    let limit_is : c.max-limit.result ≡ max ((get_or c.args.bests.now (c.args.task.column - 1) 0) + c.count_path-leader.result.figure) ((entry_at c.args.task.n c.loop-task.work c.loop-task.j).cost + 1) = c.max-limit.ensures ∙ ap (λ (d : ℕ). max ((get_or c.args.bests.now (c.args.task.column - 1) 0) + c.count_path-leader.result.figure) (d + 1)) c.cost_at.ensures in
     record { problem = problem; filled = counting.filled; due = split_due problem no_less counting due_now.0 due_now.1 leading c.count_path-leader.ensures.no_more limit_is }
 
 pub loop-task-smaller : goal.loop-task-smaller
@@ -96,7 +96,7 @@ loop-task-preserved c =
     let counting : Counting c.args.task.n (c.args.task.wanted + 1) (graph_of c.args.star.now c.args.weights.now) c.args.task.start c.args.task.goal (get_or c.args.bests.now (c.args.task.column - 1) 0) (figure_over (network c.args.task.n (length c.args.weights.now) (length c.args.bests.now) c.args.star.now c.args.costs.now) c.args.bests.now) (worst_over (network c.args.task.n (length c.args.weights.now) (length c.args.bests.now) c.args.star.now c.args.costs.now) c.args.bests.now) c.loop-task.work c.loop-task.count c.loop-task.j c.loop-task.leader.place c.loop-task.leader.figure c.loop-task.leader.worst = c.loop-task.invariant.0 in
     let due_now : (c.loop-task.j < c.loop-task.count) × ((entry_at c.args.task.n c.loop-task.work c.loop-task.j).cost < (get_or c.args.bests.now (c.args.task.column - 1) 0) + c.loop-task.leader.figure) × (c.loop-task.j < c.args.task.wanted) = outlook_due c.due.ensures c.loop-task-test.true in
     let leading : Leading (figure_over (network c.args.task.n (length c.args.weights.now) (length c.args.bests.now) c.args.star.now c.args.costs.now) c.args.bests.now) (worst_over (network c.args.task.n (length c.args.weights.now) (length c.args.bests.now) c.args.star.now c.args.costs.now) c.args.bests.now) (ranked c.args.task.n (graph_of c.args.star.now c.args.weights.now) c.args.task.start c.args.task.goal) (c.loop-task.j + 1) c.count_path-leader.result.place c.count_path-leader.result.figure c.count_path-leader.result.worst = let u = due_now in c.count_path-leader.ensures.leads (ranked c.args.task.n (graph_of c.args.star.now c.args.weights.now) c.args.task.start c.args.task.goal) (next_within problem no_less counting u.0 u.1) (next_is problem no_less counting u.0 u.1) counting.leading in
-    let limit_is : c.larger-limit.result ≡ max ((get_or c.args.bests.now (c.args.task.column - 1) 0) + c.count_path-leader.result.figure) ((entry_at c.args.task.n c.loop-task.work c.loop-task.j).cost + 1) = c.larger-limit.ensures ∙ ap (λ (d : ℕ). max ((get_or c.args.bests.now (c.args.task.column - 1) 0) + c.count_path-leader.result.figure) (d + 1)) c.cost_at.ensures in
+    let limit_is : c.max-limit.result ≡ max ((get_or c.args.bests.now (c.args.task.column - 1) 0) + c.count_path-leader.result.figure) ((entry_at c.args.task.n c.loop-task.work c.loop-task.j).cost + 1) = c.max-limit.ensures ∙ ap (λ (d : ℕ). max ((get_or c.args.bests.now (c.args.task.column - 1) 0) + c.count_path-leader.result.figure) (d + 1)) c.cost_at.ensures in
     let u = due_now in (
       counted_on problem no_less counting u.0 u.1 leading c.count_path-leader.ensures.no_more limit_is c.split-count.ensures.changed c.split-count.ensures.searching,
       c.split-count.ensures.changed.beyond ∙ c.loop-task.invariant.1,
