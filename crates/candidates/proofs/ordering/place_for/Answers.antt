@@ -2,9 +2,6 @@
 use Prim.Native.Nat.{◌+◌, ◌-◌, ◌/◌}
 use native.Mathlib.Omega.{arith}
 use mathlib.Core.Path.{◌≡◌, sym, ◌∙◌}
-use mathlib.Core.Bool.{true}
-use Rattle.candidates.specs.Slots.{entries}
-use Rattle.candidates.specs.Placing.{ahead}
 use Rattle.candidates.proofs.EntryLaws.{length_entries}
 use Rattle.candidates.proofs.RootedLaws.{family_rooted}
 use Rattle.candidates.proofs.PlacingLaws.{ahead_entries}
@@ -18,14 +15,12 @@ entry_before-requires c = family_rooted (c.loop-low.low + (c.loop-low.high - c.l
 
 pub loop-low-preserved-then-entry_before : goal.loop-low-preserved-then-entry_before
 loop-low-preserved-then-entry_before c =
-    let tested : c.entry_before.result ≡ ahead c.args.start (entries c.args.n c.args.work.now c.args.count) (c.loop-low.low + (c.loop-low.high - c.loop-low.low) / 2) c.args.cost c.args.route.now = c.entry_before.ensures ∙ ahead_entries c.args.start c.args.n c.args.work.now (c.loop-low.low + (c.loop-low.high - c.loop-low.low) / 2) c.args.count c.args.cost c.args.route.now (omega arith) in
-    let t : ahead c.args.start (entries c.args.n c.args.work.now c.args.count) (c.loop-low.low + (c.loop-low.high - c.loop-low.low) / 2) c.args.cost c.args.route.now ≡ true = sym tested ∙ c.if-entry_before.true in
+    let t = sym (c.entry_before.ensures ∙ ahead_entries _ _ _ _ c.args.count _ _ (omega arith)) ∙ c.if-entry_before.true in
     (omega arith, omega arith, c.loop-low.invariant.2, (λ q h z. let y : q ≡ (c.loop-low.low + (c.loop-low.high - c.loop-low.low) / 2) = omega arith in rw y t), c.loop-low.invariant.4)
 
 pub loop-low-preserved : goal.loop-low-preserved
 loop-low-preserved c =
-    let tested : c.entry_before.result ≡ ahead c.args.start (entries c.args.n c.args.work.now c.args.count) (c.loop-low.low + (c.loop-low.high - c.loop-low.low) / 2) c.args.cost c.args.route.now = c.entry_before.ensures ∙ ahead_entries c.args.start c.args.n c.args.work.now (c.loop-low.low + (c.loop-low.high - c.loop-low.low) / 2) c.args.count c.args.cost c.args.route.now (omega arith) in
-    (c.loop-low.invariant.0, omega arith, omega arith, c.loop-low.invariant.3, λ h. sym tested ∙ c.if-entry_before.false)
+    (c.loop-low.invariant.0, omega arith, omega arith, c.loop-low.invariant.3, λ h. sym (c.entry_before.ensures ∙ ahead_entries _ _ _ _ c.args.count _ _ (omega arith)) ∙ c.if-entry_before.false)
 
 pub returns : goal.returns
 returns c =
