@@ -21,14 +21,7 @@ fn too_dear(work: &[u32], n: usize, slots: usize, count: usize, bound: u64) -> b
     requires { Kept n slots work.now count × (1 ≤ slots) }
     ensures { TooDear slots count (entries n work.now count) bound result }
 {
-    if count < slots {
-        return false;
-    }
-    let dearest = cost_at(work, n, count - 1);
-    if bound <= dearest {
-        return false;
-    }
-    true
+    count == slots && cost_at(work, n, count - 1) < bound
 }
 
 // What the tail of a path may cost at the most, behind a beginning that costs `before`, so that the path

@@ -123,6 +123,7 @@ pub fn rank_paths(
 {
     let mut count = begin(query, star, weights, overall, work);
     let mut j = 0;
+    // no `for`: how many entries there are changes with each that is ranked
     while j < count {
         count = advance(query, star, weights, overall, work, count, j);
         j += 1;

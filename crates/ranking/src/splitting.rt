@@ -33,10 +33,8 @@ fn mark(path: &[u16], len: usize, used: &mut [u8])
     requires { Markable (length used.old) used.old path.now len }
     ensures { Laid (length used.old) used.new path.now len }
 {
-    let mut i = 0;
-    while i < len {
-        used[path[i] as usize] = 1;
-        i += 1;
+    for &v in &path[..len] {
+        used[v as usize] = 1;
     }
 }
 
@@ -44,7 +42,7 @@ fn mark(path: &[u16], len: usize, used: &mut [u8])
 fn step_back(star: &[u16], weights: &[u32], used: &mut [u8], path: &[u16], d: usize) -> u64
     requires network { Network (length used.old) star.now weights.now }
     requires laid { Laid (length used.old) used.old path.now (d + 1) × (1 ≤ d) }
-    ensures laid_2 { Laid (length used.old) used.new path.now d }
+    ensures one_less { Laid (length used.old) used.new path.now d }
     ensures value { linked (graph_of star.now weights.now) (get_or path.now (d - 1) 0) (get_or path.now d 0) ≡ true → result ≡ weight (graph_of star.now weights.now) (get_or path.now (d - 1) 0) (get_or path.now d 0) }
 {
     let m = weights.len();
@@ -118,12 +116,11 @@ fn deviations(
     ensures emptied { Emptied query.n (graph_of star.now weights.now) query.start query.goal query.slots query.limit (entries query.n work.old count) (stem.rank + 1) (waiting_to query.start (entries query.n work.old count) stem.rank stem.len) (entries query.n work.new result) }
 {
     let shared = stem.shared;
+    let len = stem.len;
     let mut now = count;
-    let mut d = stem.len;
     // what the path costs from its node d on
     let mut behind: u64 = 0;
-    while shared < d {
-        d -= 1;
+    for d in (shared..len).rev() {
         behind += step_back(star, weights, used, path, d);
         let fork = Fork {
             count: now,

@@ -6,72 +6,58 @@ use lib.ListN.{get_or}
 use Rattle.terms.specs.Network.{weight}
 use Rattle.star.specs.Layout.{graph_of}
 use Rattle.candidates.specs.Slots.{none, entries}
-use Rattle.ranking.specs.Ranking.{Filled, Along}
+use Rattle.ranking.specs.Ranking.{Along}
 use Rattle.ranking.proofs.BackLaws.{back_some, back_linked, back_rest, back_le, along_back, going_start, going_filled, going_shared, going_next, going_end}
 use Rattle.ranking.proofs.splitting.deviations.Goals as goal
 
 pub loop-d-init : goal.loop-d-init
-loop-d-init c =
-    let filled : Filled c.args.query.n c.args.query.slots (graph_of c.args.star.now c.args.weights.now) c.args.query.start (c.args.stem.rank + 1) c.args.work.now c.args.count = c.requires.filled in
-    (going_start filled c.requires.along, refl, refl)
+loop-d-init c = going_start c.requires.filled c.requires.along
 
 pub step_back-behind-requires : goal.step_back-behind-requires
 step_back-behind-requires c =
-    let filled : Filled c.args.query.n c.args.query.slots (graph_of c.args.star.now c.args.weights.now) c.args.query.start (c.args.stem.rank + 1) c.args.work.now c.args.count = c.requires.filled in
-    let now_filled : Filled c.args.query.n c.args.query.slots (graph_of c.args.star.now c.args.weights.now) c.args.query.start (c.args.stem.rank + 1) c.loop-d.work c.loop-d.now = going_filled filled c.loop-d.invariant.0 in
-    let place : Along c.args.query.n (graph_of c.args.star.now c.args.weights.now) c.args.query.start c.args.query.goal (entries c.args.query.n c.loop-d.work c.loop-d.now) c.args.stem.rank c.loop-d.used c.loop-d.barred c.loop-d.path c.loop-d.d (c.args.stem.cost - c.loop-d.behind) = c.loop-d.invariant.0.place in
-    let more : (get_or (entries c.args.query.n c.loop-d.work c.loop-d.now) c.args.stem.rank none).shared < c.loop-d.d = omega (arith, going_shared filled c.loop-d.invariant.0, c.requires.shared_value, c.loop-d-test.true) in
+    let now_filled = going_filled c.requires.filled c.loop-d.invariant in
+    let place = c.loop-d.invariant.place in
+    let more : (get_or (entries c.args.query.n c.loop-d.work c.loop-d.now) c.args.stem.rank none).shared < c.loop-d.d = omega (arith, going_shared c.requires.filled c.loop-d.invariant, c.requires.shared_value, c.loop-d-test.true) in
     let z : c.loop-d.d - 1 + 1 ≡ c.loop-d.d = omega (arith, c.loop-d-test.true) in
     rw place.laid.flags_long (record { network = c.requires.problem.network; laid = (rw z place.laid, back_some now_filled.entered place more) })
 
 pub deviate-now-requires : goal.deviate-now-requires
 deviate-now-requires c =
-    let filled : Filled c.args.query.n c.args.query.slots (graph_of c.args.star.now c.args.weights.now) c.args.query.start (c.args.stem.rank + 1) c.args.work.now c.args.count = c.requires.filled in
-    let now_filled : Filled c.args.query.n c.args.query.slots (graph_of c.args.star.now c.args.weights.now) c.args.query.start (c.args.stem.rank + 1) c.loop-d.work c.loop-d.now = going_filled filled c.loop-d.invariant.0 in
-    let place : Along c.args.query.n (graph_of c.args.star.now c.args.weights.now) c.args.query.start c.args.query.goal (entries c.args.query.n c.loop-d.work c.loop-d.now) c.args.stem.rank c.loop-d.used c.loop-d.barred c.loop-d.path c.loop-d.d (c.args.stem.cost - c.loop-d.behind) = c.loop-d.invariant.0.place in
-    let more : (get_or (entries c.args.query.n c.loop-d.work c.loop-d.now) c.args.stem.rank none).shared < c.loop-d.d = omega (arith, going_shared filled c.loop-d.invariant.0, c.requires.shared_value, c.loop-d-test.true) in
+    let now_filled = going_filled c.requires.filled c.loop-d.invariant in
+    let place = c.loop-d.invariant.place in
+    let more : (get_or (entries c.args.query.n c.loop-d.work c.loop-d.now) c.args.stem.rank none).shared < c.loop-d.d = omega (arith, going_shared c.requires.filled c.loop-d.invariant, c.requires.shared_value, c.loop-d-test.true) in
     let arc : c.step_back-behind.result ≡ weight (graph_of c.args.star.now c.args.weights.now) (get_or c.loop-d.path (c.loop-d.d - 1 - 1) 0) (get_or c.loop-d.path (c.loop-d.d - 1) 0) = c.step_back-behind.ensures.value (back_linked now_filled.entered place more) in
-    let back_place : Along c.args.query.n (graph_of c.args.star.now c.args.weights.now) c.args.query.start c.args.query.goal (entries c.args.query.n c.loop-d.work c.loop-d.now) c.args.stem.rank c.step_back-behind.new.used c.loop-d.barred c.loop-d.path (c.loop-d.d - 1) (c.args.stem.cost - (c.loop-d.behind + c.step_back-behind.result)) = along_back now_filled.entered place more c.loop-d.invariant.0.rest refl arc (rw place.laid.flags_long at c.step_back-behind.ensures.laid_2) in
+    let back_place : Along c.args.query.n (graph_of c.args.star.now c.args.weights.now) c.args.query.start c.args.query.goal (entries c.args.query.n c.loop-d.work c.loop-d.now) c.args.stem.rank c.step_back-behind.new.used c.loop-d.barred c.loop-d.path (c.loop-d.d - 1) (c.args.stem.cost - (c.loop-d.behind + c.step_back-behind.result)) = along_back now_filled.entered place more c.loop-d.invariant.rest refl arc (rw place.laid.flags_long at c.step_back-behind.ensures.one_less) in
     record { problem = c.requires.problem; filled = now_filled; along = back_place; d_bound = omega (arith, more, place.upper) }
-
-pub loop-d-smaller : goal.loop-d-smaller
-loop-d-smaller c = omega (arith, c.loop-d-test.true)
 
 pub loop-d-preserved : goal.loop-d-preserved
 loop-d-preserved c =
-    let filled : Filled c.args.query.n c.args.query.slots (graph_of c.args.star.now c.args.weights.now) c.args.query.start (c.args.stem.rank + 1) c.args.work.now c.args.count = c.requires.filled in
-    let now_filled : Filled c.args.query.n c.args.query.slots (graph_of c.args.star.now c.args.weights.now) c.args.query.start (c.args.stem.rank + 1) c.loop-d.work c.loop-d.now = going_filled filled c.loop-d.invariant.0 in
-    let place : Along c.args.query.n (graph_of c.args.star.now c.args.weights.now) c.args.query.start c.args.query.goal (entries c.args.query.n c.loop-d.work c.loop-d.now) c.args.stem.rank c.loop-d.used c.loop-d.barred c.loop-d.path c.loop-d.d (c.args.stem.cost - c.loop-d.behind) = c.loop-d.invariant.0.place in
-    let more : (get_or (entries c.args.query.n c.loop-d.work c.loop-d.now) c.args.stem.rank none).shared < c.loop-d.d = omega (arith, going_shared filled c.loop-d.invariant.0, c.requires.shared_value, c.loop-d-test.true) in
+    let now_filled = going_filled c.requires.filled c.loop-d.invariant in
+    let place = c.loop-d.invariant.place in
+    let more : (get_or (entries c.args.query.n c.loop-d.work c.loop-d.now) c.args.stem.rank none).shared < c.loop-d.d = omega (arith, going_shared c.requires.filled c.loop-d.invariant, c.requires.shared_value, c.loop-d-test.true) in
     let arc : c.step_back-behind.result ≡ weight (graph_of c.args.star.now c.args.weights.now) (get_or c.loop-d.path (c.loop-d.d - 1 - 1) 0) (get_or c.loop-d.path (c.loop-d.d - 1) 0) = c.step_back-behind.ensures.value (back_linked now_filled.entered place more) in
-    let back_place : Along c.args.query.n (graph_of c.args.star.now c.args.weights.now) c.args.query.start c.args.query.goal (entries c.args.query.n c.loop-d.work c.loop-d.now) c.args.stem.rank c.step_back-behind.new.used c.loop-d.barred c.loop-d.path (c.loop-d.d - 1) (c.args.stem.cost - (c.loop-d.behind + c.step_back-behind.result)) = along_back now_filled.entered place more c.loop-d.invariant.0.rest refl arc (rw place.laid.flags_long at c.step_back-behind.ensures.laid_2) in (
-      going_next filled c.loop-d.invariant.0 more back_place (back_rest now_filled.entered place more c.loop-d.invariant.0.rest refl arc) c.deviate-now.ensures.restored c.deviate-now.ensures.barred_unchanged c.deviate-now.ensures.changed c.deviate-now.ensures.settled c.deviate-now.auto.path,
-      c.deviate-now.auto.path ∙ c.loop-d.invariant.1,
-      c.deviate-now.auto.work ∙ c.loop-d.invariant.2,
-    )
+    let back_place : Along c.args.query.n (graph_of c.args.star.now c.args.weights.now) c.args.query.start c.args.query.goal (entries c.args.query.n c.loop-d.work c.loop-d.now) c.args.stem.rank c.step_back-behind.new.used c.loop-d.barred c.loop-d.path (c.loop-d.d - 1) (c.args.stem.cost - (c.loop-d.behind + c.step_back-behind.result)) = along_back now_filled.entered place more c.loop-d.invariant.rest refl arc (rw place.laid.flags_long at c.step_back-behind.ensures.one_less) in
+    going_next c.requires.filled c.loop-d.invariant more back_place (back_rest now_filled.entered place more c.loop-d.invariant.rest refl arc) c.deviate-now.ensures.restored c.deviate-now.ensures.barred_unchanged c.deviate-now.ensures.changed c.deviate-now.ensures.settled c.deviate-now.auto.path
 
 pub returns : goal.returns
 returns c =
-    let filled : Filled c.args.query.n c.args.query.slots (graph_of c.args.star.now c.args.weights.now) c.args.query.start (c.args.stem.rank + 1) c.args.work.now c.args.count = c.requires.filled in
-    let z : c.args.stem.shared ≡ c.loop-d.d = omega (arith, going_shared filled c.loop-d.invariant.0, c.requires.shared_value, c.loop-d.invariant.0.place.lower, c.loop-d-test.false) in
-    record { changed = c.loop-d.invariant.0.changed; emptied = going_end filled c.loop-d.invariant.0 (sym z ∙ c.requires.shared_value) }
+    let z : c.args.stem.shared ≡ c.loop-d.d = omega (arith, going_shared c.requires.filled c.loop-d.invariant, c.requires.shared_value, c.loop-d.invariant.place.lower, c.loop-d-test.false) in
+    record { changed = c.loop-d.invariant.changed; emptied = going_end c.requires.filled c.loop-d.invariant (sym z ∙ c.requires.shared_value) }
 
 pub overflow_add-behind : goal.overflow_add-behind
 overflow_add-behind c =
-    let filled : Filled c.args.query.n c.args.query.slots (graph_of c.args.star.now c.args.weights.now) c.args.query.start (c.args.stem.rank + 1) c.args.work.now c.args.count = c.requires.filled in
-    let now_filled : Filled c.args.query.n c.args.query.slots (graph_of c.args.star.now c.args.weights.now) c.args.query.start (c.args.stem.rank + 1) c.loop-d.work c.loop-d.now = going_filled filled c.loop-d.invariant.0 in
-    let place : Along c.args.query.n (graph_of c.args.star.now c.args.weights.now) c.args.query.start c.args.query.goal (entries c.args.query.n c.loop-d.work c.loop-d.now) c.args.stem.rank c.loop-d.used c.loop-d.barred c.loop-d.path c.loop-d.d (c.args.stem.cost - c.loop-d.behind) = c.loop-d.invariant.0.place in
-    let more : (get_or (entries c.args.query.n c.loop-d.work c.loop-d.now) c.args.stem.rank none).shared < c.loop-d.d = omega (arith, going_shared filled c.loop-d.invariant.0, c.requires.shared_value, c.loop-d-test.true) in
+    let now_filled = going_filled c.requires.filled c.loop-d.invariant in
+    let place = c.loop-d.invariant.place in
+    let more : (get_or (entries c.args.query.n c.loop-d.work c.loop-d.now) c.args.stem.rank none).shared < c.loop-d.d = omega (arith, going_shared c.requires.filled c.loop-d.invariant, c.requires.shared_value, c.loop-d-test.true) in
     let arc : c.step_back-behind.result ≡ weight (graph_of c.args.star.now c.args.weights.now) (get_or c.loop-d.path (c.loop-d.d - 1 - 1) 0) (get_or c.loop-d.path (c.loop-d.d - 1) 0) = c.step_back-behind.ensures.value (back_linked now_filled.entered place more) in
-    let rest_within : c.loop-d.behind + c.step_back-behind.result ≤ c.args.stem.cost = back_le now_filled.entered place more c.loop-d.invariant.0.rest refl arc in
+    let rest_within : c.loop-d.behind + c.step_back-behind.result ≤ c.args.stem.cost = back_le now_filled.entered place more c.loop-d.invariant.rest refl arc in
     omega (arith, rest_within, c.requires.along.small)
 
 pub overflow_sub-fork : goal.overflow_sub-fork
 overflow_sub-fork c =
-    let filled : Filled c.args.query.n c.args.query.slots (graph_of c.args.star.now c.args.weights.now) c.args.query.start (c.args.stem.rank + 1) c.args.work.now c.args.count = c.requires.filled in
-    let now_filled : Filled c.args.query.n c.args.query.slots (graph_of c.args.star.now c.args.weights.now) c.args.query.start (c.args.stem.rank + 1) c.loop-d.work c.loop-d.now = going_filled filled c.loop-d.invariant.0 in
-    let place : Along c.args.query.n (graph_of c.args.star.now c.args.weights.now) c.args.query.start c.args.query.goal (entries c.args.query.n c.loop-d.work c.loop-d.now) c.args.stem.rank c.loop-d.used c.loop-d.barred c.loop-d.path c.loop-d.d (c.args.stem.cost - c.loop-d.behind) = c.loop-d.invariant.0.place in
-    let more : (get_or (entries c.args.query.n c.loop-d.work c.loop-d.now) c.args.stem.rank none).shared < c.loop-d.d = omega (arith, going_shared filled c.loop-d.invariant.0, c.requires.shared_value, c.loop-d-test.true) in
+    let now_filled = going_filled c.requires.filled c.loop-d.invariant in
+    let place = c.loop-d.invariant.place in
+    let more : (get_or (entries c.args.query.n c.loop-d.work c.loop-d.now) c.args.stem.rank none).shared < c.loop-d.d = omega (arith, going_shared c.requires.filled c.loop-d.invariant, c.requires.shared_value, c.loop-d-test.true) in
     let arc : c.step_back-behind.result ≡ weight (graph_of c.args.star.now c.args.weights.now) (get_or c.loop-d.path (c.loop-d.d - 1 - 1) 0) (get_or c.loop-d.path (c.loop-d.d - 1) 0) = c.step_back-behind.ensures.value (back_linked now_filled.entered place more) in
-    let rest_within : c.loop-d.behind + c.step_back-behind.result ≤ c.args.stem.cost = back_le now_filled.entered place more c.loop-d.invariant.0.rest refl arc in
+    let rest_within : c.loop-d.behind + c.step_back-behind.result ≤ c.args.stem.cost = back_le now_filled.entered place more c.loop-d.invariant.rest refl arc in
     rest_within

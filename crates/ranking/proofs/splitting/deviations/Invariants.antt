@@ -1,13 +1,7 @@
 -- `splitting::deviations`. The loop: the parts that leave the path after d nodes or more have been looked into. Assumes nothing.
-use mathlib.Core.Path.{◌≡◌}
-use lib.ListN.{length}
 use Rattle.star.specs.Layout.{graph_of}
 use Rattle.ranking.proofs.BackLaws.{Going}
 use Rattle.ranking.proofs.splitting.deviations.Given as goal
 
 abbrev pub invariant-loop-d : goal.invariant-loop-d
 invariant-loop-d l = Going l.query.n l.query.slots (graph_of l.star l.weights) l.query.start l.query.goal l.query.limit l.stem.rank l.initial.work l.count l.initial.barred l.initial.path l.stem.len l.stem.cost l.work l.now l.used l.barred l.path l.d l.behind
-    × (length l.path ≡ length l.initial.path) × (length l.work ≡ length l.initial.work)
-
-abbrev pub decreases-loop-d : goal.decreases-loop-d
-decreases-loop-d l = l.d

@@ -1,11 +1,7 @@
--- `splitting::mark` flags node after node. The loop: the first i nodes are laid out. Assumes nothing.
-use Prim.Native.Nat.{◌-◌, ◌≤◌}
-use lib.ListN.{length}
+-- `splitting::mark` flags node after node. The loop: the nodes so far are laid out. Assumes nothing.
+use Rattle.std.proofs.Common.{length}
 use Rattle.branching.specs.Laid.{Laid}
 use Rattle.ranking.proofs.splitting.mark.Given as goal
 
-abbrev pub invariant-loop-i : goal.invariant-loop-i
-invariant-loop-i l = (l.i ≤ l.len) × Laid (length l.initial.used) l.used l.path l.i
-
-abbrev pub decreases-loop-i : goal.decreases-loop-i
-decreases-loop-i l = l.len - l.i
+abbrev pub invariant-loop-v : goal.invariant-loop-v
+invariant-loop-v l = Laid (length l.initial.used) l.used l.path l.v-index

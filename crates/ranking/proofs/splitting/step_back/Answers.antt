@@ -19,7 +19,7 @@ arc_weight-requires c =
 pub returns : goal.returns
 unfolding heads_of outs_of graph_of
 returns c =
-    record { laid_2 = laid_less refl c.requires.laid.0; value = λ k. c.arc_weight.ensures _ _ c.requires.network.arcs c.requires.network.star k }
+    record { one_less = laid_less refl c.requires.laid.0; value = λ k. c.arc_weight.ensures _ _ c.requires.network.arcs c.requires.network.star k }
 
 pub bounds-used-y : goal.bounds-used-y
 bounds-used-y c = omega (arith, laid_place c.args.d (omega arith) c.requires.laid.0)
