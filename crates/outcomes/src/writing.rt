@@ -5,14 +5,12 @@ ghost use Rattle.outcomes.specs.Labels.{Narrow, narrowed};
 use labels::FAR;
 
 // A label in 32 bits: Label's mark in the place of FAR.
+#[tactic(auto, unfolding(crate::specs::Labels::narrowed))]
 pub fn narrow(label: u64) -> u32
     requires { Narrow label }
     ensures { result ≡ narrowed label }
 {
-    if label == FAR {
-        return 4294967295;
-    }
-    label as u32
+    if label == FAR { u32::MAX } else { label as u32 }
 }
 
 // Writes the labels of the nodes 1, 2 and so on, in 32 bits.
@@ -21,10 +19,8 @@ pub fn write_narrow(exact: &[u64], labels: &mut [u32])
     requires by_index { (v : ℕ) → v < length exact.now → Narrow (get_or exact.now v 0) }
     ensures { labels.new ≡ map narrowed (drop 1 exact.now) ++ drop (length exact.now - 1) labels.old }
 {
-    let mut i = 0;
-    while i + 1 < exact.len() {
-        labels[i] = narrow(exact[i + 1]);
-        i += 1;
+    for i in 1..exact.len() {
+        labels[i - 1] = narrow(exact[i]);
     }
 }
 
@@ -33,9 +29,6 @@ pub fn write_path(route: &[u16], count: usize, path: &mut [u16])
     requires { (count ≤ length route.now) × (count ≤ length path.old) }
     ensures { path.new ≡ take count route.now ++ drop count path.old }
 {
-    let mut i = 0;
-    while i < count {
-        path[i] = route[i];
-        i += 1;
-    }
+    let nodes = &route[..count];
+    path[..nodes.len()].copy_from_slice(nodes);
 }

@@ -1,4 +1,4 @@
--- `writing::write_narrow` writes the labels from node 1 on. The loop: the first i places hold those of the nodes 1 to i. Assumes nothing.
+-- `writing::write_narrow`: the labels of the nodes before i are written. Assumes nothing.
 use Prim.Native.Nat.{◌-◌, ◌≤◌}
 use mathlib.Core.Path.{◌≡◌}
 use mathlib.Core.List.{◌++◌, map}
@@ -7,7 +7,7 @@ use Rattle.outcomes.specs.Labels.{narrowed}
 use Rattle.outcomes.proofs.writing.write_narrow.Given as goal
 
 abbrev pub invariant-loop-i : goal.invariant-loop-i
-invariant-loop-i l = (l.i ≤ length l.exact - 1) × (length l.labels ≡ length l.initial.labels) × (l.labels ≡ take l.i (map narrowed (drop 1 l.exact)) ++ drop l.i l.initial.labels)
-
-abbrev pub decreases-loop-i : goal.decreases-loop-i
-decreases-loop-i l = length l.exact - l.i
+invariant-loop-i l = record {
+  inside : l.i - 1 ≤ length l.exact - 1;
+  written : l.labels ≡ take (l.i - 1) (map narrowed (drop 1 l.exact)) ++ drop (l.i - 1) l.initial.labels;
+}
