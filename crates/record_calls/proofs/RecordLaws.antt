@@ -46,6 +46,10 @@ pub list_at : (l : List ℕ) (i : ℕ) → i < length l / 4 → get_or (record_l
 unfolding record_list
 list_at l i h = in_at (length l / 4) l i h
 
+-- record i of a list of numbers
+abbrev pub record_at : List ℕ → ℕ → Record
+record_at l i = record_of (get_or l (4 * i) 0) (get_or l (4 * i + 1) 0) (get_or l (4 * i + 2) 0) (get_or l (4 * i + 3) 0)
+
 -- ---- rows, one record after another
 module _ (e m k : ℕ) (records : List Record) (i : ℕ) where
   records_step : i < length records → records_fault e m k i (drop i records) ≡ (record_fault e m k i (get_or records i blank) then records_fault e m k (i + 1) (drop (i + 1) records))
@@ -91,6 +95,10 @@ fit_at no_more i h = absurd (omega arith)
 fit_at (one_more f all) zero h = f
 fit_at (one_more f all) (suc i) h = fit_at all i (omega arith)
 
+-- record i of a list of numbers that passes
+pub fit_here : {e m k : ℕ} (l : List ℕ) → records_fault e m k 0 (record_list l) ≡ sound → (i : ℕ) → i < length l / 4 → Fits e m k (record_at l i)
+fit_here {e} {m} {k} l h i low = rw (list_at l i low) at (fit_at (all_fit e m k 0 (record_list l) h) i (omega (arith, length_list l)))
+
 -- ---- the place of a cost
 abbrev pub place_of : ℕ → Record → ℕ
 place_of m r = (r.column - 1) * m + r.arc
@@ -103,6 +111,9 @@ place_to m k arc (suc u) h from to =
     let same : (suc u - 1) * m ≡ u * m = ap (λ (x : ℕ). x * m) one in
     omega (arith, mul_comm m k)
 place_to m k arc zero h from to = absurd (omega arith)
+
+pub place_fits : {e m k : ℕ} {r : Record} → Fits e m k r → place_of m r < m * k
+place_fits {m = m} {k} {r} f = place_to m k r.arc r.column f.arc_to f.column_from f.column_to
 
 -- the arc and the column of that place
 module _ (m arc column : ℕ) (h : arc < m) (from : 1 ≤ column) where

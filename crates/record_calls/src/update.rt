@@ -68,15 +68,13 @@ fn write_record(
 
 // Writes the winning costs of a list that passed, with room for the stamp of each cost, at first 0.
 fn write_records_in(image: &mut [u8], sizes: Sizes, records: &[u32], stamps: &mut [u32])
-    requires m_bound { (sizes.m ≤ 1000) × (sizes.k ≤ 8) × (length image.old ≡ total sizes.m sizes.k) × (records_fault sizes.edition sizes.m sizes.k 0 (record_list records.now) ≡ sound) }
-    requires stamps_len { (length stamps.old ≡ sizes.m * sizes.k) × ((x : ℕ) → get_or stamps.old x 0 ≡ 0) }
+    requires accepted { (sizes.m ≤ 1000) × (sizes.k ≤ 8) × (length image.old ≡ total sizes.m sizes.k) × (records_fault sizes.edition sizes.m sizes.k 0 (record_list records.now) ≡ sound) }
+    requires stamps_fresh { (length stamps.old ≡ sizes.m * sizes.k) × ((x : ℕ) → get_or stamps.old x 0 ≡ 0) }
     ensures { (costs : List ℕ) → length costs ≡ sizes.m * sizes.k → image.old ≡ take (costs_start sizes.m) image.old ++ encode 4 costs → image.new ≡ take (costs_start sizes.m) image.old ++ encode 4 (costs_after sizes.m (record_list records.now) 0 costs) }
 {
     let m = sizes.m as usize;
     let start = costs_start(sizes.m) as usize;
-    let count = records.len() / 4;
-    let mut i = 0;
-    while i < count {
+    for i in 0..records.len() / 4 {
         let column = records[4 * i + 1] as usize;
         let place = (column - 1) * m + records[4 * i] as usize;
         write_record(
@@ -87,7 +85,6 @@ fn write_records_in(image: &mut [u8], sizes: Sizes, records: &[u32], stamps: &mu
             records[4 * i + 2],
             records[4 * i + 3],
         );
-        i += 1;
     }
 }
 

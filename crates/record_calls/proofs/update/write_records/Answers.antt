@@ -5,4 +5,4 @@ use Rattle.record_calls.proofs.update.write_records.Goals as goal
 
 pub write_records_in-requires : goal.write_records_in-requires
 write_records_in-requires c =
-    record { m_bound = c.requires; stamps_len = (part_long 8000 _ c.cost_count-count.ensures.1 ∙ c.cost_count-count.ensures.0, part_zero 8000 c.cost_count-count.result) }
+    record { accepted = c.requires; stamps_fresh = (part_long 8000 _ c.cost_count-count.ensures.1 ∙ c.cost_count-count.ensures.0, part_zero 8000 c.cost_count-count.result) }
