@@ -4,6 +4,7 @@ use native.Mathlib.Omega.{arith}
 use mathlib.Core.Path.{◌≡◌, refl}
 use mathlib.Core.Bool.{not}
 use mathlib.Core.List.{List, [], ◌∷◌}
+use Rattle.std.specs.Prelude.{Result}
 use lib.ListN.{length, get_or, set, take, replicate, length-set}
 use Rattle.terms.specs.Lists.{elem, numbers}
 use Rattle.terms.specs.Network.{Net}
@@ -19,7 +20,7 @@ use Rattle.descent.specs.Rows.{Low}
 use Rattle.descent.specs.Tables.{Tables}
 use Rattle.descent.specs.Depth.{trail, Begun, none_held, Ends, goes, stopped, Given, Fresh, Outcome, whole, too_many}
 use Rattle.descent.specs.declared.depth.Held.{Held}
-use Rattle.descent.specs.declared.depth.Run.{Run}
+use Rattle.descent.specs.declared.depth.Cut.{Cut}
 use Rattle.descent.proofs.StepLaws.{trail_more, flag_more}
 
 -- nothing is held yet
@@ -51,11 +52,11 @@ module _ {places start : ℕ} {route used path : List ℕ} (f : Fresh places sta
   given_one tables zeros = record { tables = tables; goal_is = refl; nodes_are = trail_one; sums_are = λ u _. zeros u; matches = record { tried_is = refl; found_is = none_held refl refl } }
 
 -- the outcome, from how the limited run ended
-outcome_of : {limit : ℕ} {net : Net} {s t : ℕ} {path : List ℕ} {a : rule.Run} {r : Run} → search_within limit net s t ≡ a → Ends path a r → Outcome limit net s t path r
+outcome_of : {limit : ℕ} {net : Net} {s t : ℕ} {path : List ℕ} {a : rule.Run} {r : Result Held Cut} → search_within limit net s t ≡ a → Ends path a r → Outcome limit net s t path r
 outcome_of {limit} {net} {s} {t} e (goes m) = let g = going_few limit net s t e in whole (rw g.0 at m) g.1
 outcome_of {limit} {net} {s} {t} e stopped = too_many (cut_many limit net s t e)
 
-pub outcome_is : {limit : ℕ} {net : Net} {s t places : ℕ} {path : List ℕ} {r : Run} → places ≡ net.nodes + 1 → Ends path (descend_within limit (places - 1) net s t [] s fresh_state) r → Outcome limit net s t path r
+pub outcome_is : {limit : ℕ} {net : Net} {s t places : ℕ} {path : List ℕ} {r : Result Held Cut} → places ≡ net.nodes + 1 → Ends path (descend_within limit (places - 1) net s t [] s fresh_state) r → Outcome limit net s t path r
 unfolding search_within
 outcome_is {limit} {net} {s} {t} {places} {path} {r} n x =
     let k : places - 1 ≡ net.nodes = omega arith in

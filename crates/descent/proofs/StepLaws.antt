@@ -6,6 +6,7 @@ use mathlib.Core.Path.{◌≡◌, refl, sym, ◌∙◌, ap}
 use mathlib.Core.Bool.{true, false, not}
 use mathlib.Core.Logic.{⊎_elim}
 use mathlib.Core.List.Memᴰ
+use Rattle.std.specs.Prelude.{Result}
 use mathlib.Core.List.{List, [], ◌∷◌, reverse, reverse-reverse, reverse-append}
 use lib.ListN.{length, get_or, set, take, drop, length-set}
 use lib.Seq.{take-suc-set, take-set-le, take-take, set-set, set-get_or, drop-cons}
@@ -26,7 +27,7 @@ use Rattle.descent.proofs.LimitLaws.{cut_stays}
 use Rattle.descent.specs.Rows.{at_row, Low, Lengthened}
 use Rattle.descent.specs.Depth.{trail, Flagged, Begun, Kept, Matches, Ends, Given, at_arc, sweep}
 use Rattle.descent.specs.declared.depth.Held.{Held}
-use Rattle.descent.specs.declared.depth.Run.{Run}
+use Rattle.descent.specs.declared.depth.Cut.{Cut}
 use Rattle.star.proofs.Stores.{set_each}
 
 -- ---- the partial route
@@ -160,5 +161,5 @@ pub rest_none : (hs : List ℕ) (i to : ℕ) → to ≤ i → take (to - i) (dro
 rest_none hs i to l = let e : to - i ≡ 0 = omega arith in rw e refl
 
 -- ---- the end of a run
-pub ends_as : {path : List ℕ} {a b : rule.Run} {r : Run} → a ≡ b → Ends path b r → Ends path a r
+pub ends_as : {path : List ℕ} {a b : rule.Run} {r : Result Held Cut} → a ≡ b → Ends path b r → Ends path a r
 ends_as {path} {r} e x = rw e x

@@ -3,6 +3,7 @@ use Prim.Native.Nat.{ℕ, suc, ◌+◌, ◌-◌, ◌≤◌, ◌<◌}
 use native.Mathlib.Omega.{arith}
 use mathlib.Core.Path.{◌≡◌, refl, sym, ◌∙◌, ap, ap₂, subst}
 use mathlib.Core.List.{List, reverse}
+use Rattle.std.specs.Prelude.{Result, Ok, Err}
 use lib.ListN.{length, get_or, take, drop}
 use Rattle.terms.specs.Lists.{keep}
 use Rattle.descent.specs.Rule.{each}
@@ -15,8 +16,7 @@ use Rattle.descent.specs.Limit as rule
 use Rattle.descent.specs.Tables.{heads_at}
 use Rattle.descent.specs.Depth.{trail, Begun, Kept, Matches, Ends, goes, stopped, Given, at_arc, sweep}
 use Rattle.descent.specs.declared.depth.Held.{Held}
-use Rattle.descent.specs.declared.depth.Run.{Run}
-use Rattle.descent.specs.declared.depth.Run.TheVariants.{Going, Cut}
+use Rattle.descent.specs.declared.depth.Cut.{Cut}
 use Rattle.descent.proofs.StepLaws.{route_is, sweep_step, sweep_cut, descend_goal, descend_sweep, rest_step, rest_none}
 
 -- ---- what was kept
@@ -46,10 +46,10 @@ pub given_kept : {net : Net} {s t : ℕ} {seen : List ℕ} {z z' : State} {hs ou
 given_kept g k m = record { tables = g.tables; goal_is = g.goal_is; nodes_are = ap reverse k.nodes ∙ g.nodes_are; sums_are = g.sums_are; matches = m }
 
 -- ---- how a run ended
-pub ends_going : {path : List ℕ} {a : rule.Run} {h : Held} → Ends path a (Going h) → (z : State) × (a ≡ going z) × Matches path h z
+pub ends_going : {path : List ℕ} {a : rule.Run} {h : Held} → Ends path a (Ok h) → (z : State) × (a ≡ going z) × Matches path h z
 ends_going (goes {z} m) = (z, refl, m)
 
-pub ends_cut : {path : List ℕ} {a : rule.Run} → Ends path a Cut → a ≡ cut
+pub ends_cut : {path : List ℕ} {a : rule.Run} {e : Cut} → Ends path a (Err e) → a ≡ cut
 ends_cut stopped = refl
 
 -- ---- the arcs from i on lead from z where all arcs from i₀ on lead from z₀
@@ -62,11 +62,11 @@ module _ {limit f : ℕ} {net : Net} {s t : ℕ} {seen : List ℕ} {v : ℕ} {hs
   on : sweep limit f net s t seen v (take (to - (i + 1)) (drop (i + 1) hs)) (at_arc limit f net s t seen v (get_or hs i 0) l.now) ≡ sweep limit f net s t seen v (take (to - i₀) (drop i₀ hs)) (going z₀)
   on = sym (sweep_step limit f net s t seen v (get_or hs i 0) (take (to - (i + 1)) (drop (i + 1) hs)) l.now) ∙ ap (λ (r : List ℕ). sweep limit f net s t seen v r (going l.now)) (sym (rest_step hs i to more inside)) ∙ l.same
 
-  pub leads_on : {path' : List ℕ} {h' : Held} → Ends path' (at_arc limit f net s t seen v (get_or hs i 0) l.now) (Going h') → Leads limit f net s t seen v hs to i₀ (i + 1) z₀ path' h'
+  pub leads_on : {path' : List ℕ} {h' : Held} → Ends path' (at_arc limit f net s t seen v (get_or hs i 0) l.now) (Ok h') → Leads limit f net s t seen v hs to i₀ (i + 1) z₀ path' h'
   leads_on e = let g = ends_going e in
       record { now = g.0; matches = g.2; same = ap (sweep limit f net s t seen v (take (to - (i + 1)) (drop (i + 1) hs))) (sym g.1) ∙ on }
 
-  pub leads_cut : {path' : List ℕ} → Ends path' (at_arc limit f net s t seen v (get_or hs i 0) l.now) Cut → sweep limit f net s t seen v (take (to - i₀) (drop i₀ hs)) (going z₀) ≡ cut
+  pub leads_cut : {path' : List ℕ} {e : Cut} → Ends path' (at_arc limit f net s t seen v (get_or hs i 0) l.now) (Err e) → sweep limit f net s t seen v (take (to - i₀) (drop i₀ hs)) (going z₀) ≡ cut
   leads_cut e = sym on ∙ ap (sweep limit f net s t seen v (take (to - (i + 1)) (drop (i + 1) hs))) (ends_cut e) ∙ sweep_cut limit f net s t seen v (take (to - (i + 1)) (drop (i + 1) hs))
 
 pub leads_end : {limit f : ℕ} {net : Net} {s t : ℕ} {seen : List ℕ} {v : ℕ} {hs : List ℕ} {to i₀ i : ℕ} {z₀ : State} {path : List ℕ} {h : Held} (l : Leads limit f net s t seen v hs to i₀ i z₀ path h) → to ≤ i
@@ -74,7 +74,7 @@ pub leads_end : {limit f : ℕ} {net : Net} {s t : ℕ} {seen : List ℕ} {v : �
 unfolding sweep keep each
 leads_end {limit} {f} {net} {s} {t} {seen} {v} {hs} {to} {i} l e = sym l.same ∙ ap (λ (r : List ℕ). sweep limit f net s t seen v r (going l.now)) (rest_none hs i to e) ∙ refl
 
-pub ends_of : {path : List ℕ} {a : rule.Run} {q r : Run} → q ≡ r → Ends path a q → Ends path a r
+pub ends_of : {path : List ℕ} {a : rule.Run} {q r : Result Held Cut} → q ≡ r → Ends path a q → Ends path a r
 ends_of {path} {a} e x = subst (Ends path a) e x
 
 -- ---- the rule at a node, from what is given

@@ -1,5 +1,5 @@
 -- What the search holds in arrays, against the rule's states and runs. Assumes nothing.
-use Rattle.std.specs.Prelude.{ℕ, suc, ◌+◌, ◌-◌, ◌≤◌, ◌<◌, ◌≡◌, false, not, cond, List, ◌∷◌, reverse, length, get_or, take}
+use Rattle.std.specs.Prelude.{ℕ, suc, ◌+◌, ◌-◌, ◌≤◌, ◌<◌, ◌≡◌, false, not, cond, List, ◌∷◌, reverse, length, get_or, take, Result, Ok, Err}
 use Rattle.terms.specs.Lists.{◌∈◌, elem, keep}
 use Rattle.terms.specs.Network.{Net, column}
 use Rattle.terms.specs.Paths.{Route, cost}
@@ -10,11 +10,12 @@ use Rattle.descent.specs.Rule.{each, Best, nothing, held, State, laid, search}
 use Rattle.descent.specs.Limit.{going, cut, then_on, try_within, descend_within}
 use Rattle.descent.specs.Limit as rule
 use Rattle.descent.specs.Rows.{Low}
+use Rattle.descent.specs.Tables.{Tables, TablesIn}
+use Rattle.descent.specs.declared.columns.Columns.{Columns}
+use Rattle.descent.specs.declared.depth.Task.{Task}
 use Rattle.descent.specs.declared.depth.Partial.{Partial}
-use Rattle.descent.specs.Tables.{Tables}
 use Rattle.descent.specs.declared.depth.Held.{Held}
-use Rattle.descent.specs.declared.depth.Run.{Run}
-use Rattle.descent.specs.declared.depth.Run.TheVariants.{Going, Cut}
+use Rattle.descent.specs.declared.depth.Cut.{Cut}
 
 -- ---- the partial route: the first d places of route, here with the last node first
 abbrev pub trail : List ℕ → ℕ → List ℕ
@@ -50,9 +51,9 @@ pub record Matches (path : List ℕ) (h : Held) (z : State) : Type 0 where
   pub found_is : Holds path h.length h.figure z.found
 
 -- a run of the rule, and the code's
-pub data Ends (path : List ℕ) : rule.Run → Run → Type 0 where
-  goes : {h : Held} {z : State} → Matches path h z → Ends path (going z) (Going h)
-  stopped : Ends path cut Cut
+pub data Ends (path : List ℕ) : rule.Run → Result Held Cut → Type 0 where
+  goes : {h : Held} {z : State} → Matches path h z → Ends path (going z) (Ok h)
+  stopped : {e : Cut} → Ends path cut (Err e)
 
 -- ---- what is given: a network in the tables, the rule's partial route, which ends with v, and its state
 pub record Given (net : Net) (s t : ℕ) (seen : List ℕ) (z : State) (hs outs costs labels bests : List ℕ) (places goal v d : ℕ) (route path sums : List ℕ) (h : Held) : Type 0 where
@@ -62,10 +63,21 @@ pub record Given (net : Net) (s t : ℕ) (seen : List ℕ) (z : State) (hs outs 
   pub sums_are : (u : ℕ) → u < length bests → get_or sums u 0 ≡ cost (column net (suc u)) (laid seen v)
   pub matches : Matches path h z
 
--- the same with a star, and the partial route that the code has
-abbrev pub GivenIn : Net → ℕ → ℕ → List ℕ → State → List ℕ → List ℕ → List ℕ → List ℕ → ℕ → Partial → ℕ → List ℕ → List ℕ → Held → Type 0
-GivenIn net s t seen z star costs labels bests places p v route path h =
-    Given net s t seen z (heads_of p.arcs star) (outs_of places p.arcs star) costs labels bests places p.goal v p.depth route path p.sums h
+-- the heads of the arcs, and where the arcs out of each node begin
+abbrev pub heads_in : Columns → List ℕ
+heads_in c = heads_of c.arcs c.star.now
+
+abbrev pub outs_in : Columns → List ℕ
+outs_in c = outs_of c.places c.arcs c.star.now
+
+-- the columns say of the network what the rule asks of each
+abbrev pub Say : Net → ℕ → ℕ → Columns → Type 0
+Say net s t c = TablesIn net s t c.arcs c.places c.star.now c.costs.now c.labels.now c.bests.now
+
+-- the same as given, with the columns, the task and the partial route that the code has
+abbrev pub GivenIn : Net → ℕ → ℕ → List ℕ → State → Columns → Task → Partial → ℕ → List ℕ → List ℕ → Held → Type 0
+GivenIn net s t seen z c task p v route path h =
+    Given net s t seen z (heads_in c) (outs_in c) c.costs.now c.labels.now c.bests.now c.places task.goal v p.depth route path p.sums h
 
 -- the rule at one arc from v to h, at fuel f: nothing is tried if h is on the route
 unfoldable pub at_arc : ℕ → ℕ → Net → ℕ → ℕ → List ℕ → ℕ → ℕ → State → rule.Run
@@ -88,6 +100,6 @@ pub record Fresh (places start : ℕ) (route used path : List ℕ) : Type 0 wher
   pub none_used : (x : ℕ) → get_or used x 0 ≡ 0
 
 -- the rule's own answer and count, which is at most the limit; or cut, and then the rule tries more than the limit
-pub data Outcome (limit : ℕ) (net : Net) (s t : ℕ) (path : List ℕ) : Run → Type 0 where
-  whole : {h : Held} → Matches path h (search net s t) → (search net s t).tried ≤ limit → Outcome limit net s t path (Going h)
-  too_many : limit < (search net s t).tried → Outcome limit net s t path Cut
+pub data Outcome (limit : ℕ) (net : Net) (s t : ℕ) (path : List ℕ) : Result Held Cut → Type 0 where
+  whole : {h : Held} → Matches path h (search net s t) → (search net s t).tried ≤ limit → Outcome limit net s t path (Ok h)
+  too_many : {e : Cut} → limit < (search net s t).tried → Outcome limit net s t path (Err e)

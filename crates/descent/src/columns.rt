@@ -1,96 +1,73 @@
-// What the columns say of one arc, and of a completed path.
-ghost use Rattle.std.specs.Prelude.{◌≡◌, map, ◌+◌, ◌*◌, ◌-◌, ◌≤◌, ◌<◌, length, get_or};
+// A network in arrays: its arcs, and what its columns say of one arc, and of a completed path.
+ghost use Rattle.std.specs.Prelude.{◌≡◌, map, ◌-◌, ◌≤◌, ◌<◌, length, get_or};
 ghost use Rattle.terms.specs.Lists.{largest, numbers};
 ghost use Rattle.labels.specs.Labels.{far};
-ghost use Rattle.descent.specs.Rows.{stops, Rows, Low, Drops, Lengthened};
+ghost use Rattle.descent.specs.Rows.{stops, Low, Drops, Lengthened};
+ghost use Rattle.descent.specs.Tables.{Fits};
 
+use image::CLOSED;
 use labels::FAR;
-
-// The mark, in the place of the cost of an arc that is closed in a column.
-const CLOSED: u32 = 4294967295;
-
-// What x is above b, 0 if it is not.
-fn over(x: u64, b: u64) -> u64
-    ensures { result ≡ x - b }
-{
-    if x > b { x - b } else { 0 }
-}
 
 // Whether in one column an arc is closed, its head can't reach the goal, or the outlook is at least the
 // figure.
+#[tactic(auto, unfolding(crate::specs::Rows::stops))]
 fn drops_in(cost: u32, label: u64, best: u64, sum: u64, figure: u64) -> bool
     requires { (sum ≤ 1000000000000) × (label < far → label ≤ 1000000000000) }
     ensures { result ≡ stops cost label best sum figure }
 {
-    if cost == CLOSED {
-        return true;
-    }
-    if label == FAR {
-        return true;
-    }
-    over(sum + cost as u64 + label, best) >= figure
+    cost == CLOSED || label == FAR || (sum + u64::from(cost) + label).saturating_sub(best) >= figure
 }
 
-// Whether the head of arc i, which is node h, is dropped. arcs and places are how many costs and labels
-// each column has.
-pub fn drops(
-    costs: &[u32],
-    labels: &[u64],
-    bests: &[u64],
-    arcs: usize,
-    places: usize,
-    i: usize,
-    h: usize,
-    sums: [u64; 8],
-    figure: u64,
-) -> bool
-    requires rows { Rows arcs places costs.now labels.now bests.now }
-    requires i_lt_arcs { (i < arcs) × (h < places) × Low 200 sums }
-    ensures { Drops arcs places i h costs.now labels.now bests.now sums figure result }
-{
-    let mut u = 0;
-    while u < bests.len() {
-        if drops_in(
-            costs[u * arcs + i],
-            labels[u * places + h],
-            bests[u],
-            sums[u],
-            figure,
-        ) {
-            return true;
+// The star has all arcs of a network, open or not. The costs of its columns, marks included, and the labels to
+// the goal stand one column after the other: a cost for each arc, a label for each node and one place that is
+// not used. bests has the best of each column.
+#[derive(Clone, Copy)]
+pub struct Columns<'a> {
+    pub arcs: usize,
+    pub places: usize,
+    pub star: &'a [u16],
+    pub costs: &'a [u32],
+    pub labels: &'a [u64],
+    pub bests: &'a [u64],
+    pub ghost fits: { Fits arcs places star.now costs.now labels.now bests.now },
+}
+
+impl Columns<'_> {
+    // Whether the head of arc i, which is node h, is dropped.
+    pub fn drops(&self, i: usize, h: usize, sums: &[u64; 8], figure: u64) -> bool
+        requires { (i < self.now.arcs) × (h < self.now.places) × Low 200 sums.now }
+        ensures { Drops self.now.arcs self.now.places i h self.now.costs.now self.now.labels.now self.now.bests.now sums.now figure result }
+    {
+        for u in 0..self.bests.len() {
+            let cost = self.costs[u * self.arcs + i];
+            let label = self.labels[u * self.places + h];
+            if drops_in(cost, label, self.bests[u], sums[u], figure) {
+                return true;
+            }
         }
-        u += 1;
+        false
     }
-    false
-}
 
-// The costs of the partial route with arc i, in each column.
-pub fn lengthen(costs: &[u32], columns: usize, arcs: usize, i: usize, sums: [u64; 8]) -> [u64; 8]
-    requires { (columns ≤ 8) × (length costs.now ≡ columns * arcs) × (i < arcs) × Low 200 sums }
-    ensures { Lengthened arcs i columns costs.now sums result }
-{
-    let mut longer = sums;
-    let mut u = 0;
-    while u < columns {
-        longer[u] = longer[u] + costs[u * arcs + i] as u64;
-        u += 1;
-    }
-    longer
-}
-
-// The figure of a path, from its cost in each column.
-pub fn figure_of(bests: &[u64], sums: [u64; 8]) -> u64
-    requires { (1 ≤ length bests.now) × (length bests.now ≤ 8) }
-    ensures { result ≡ largest (map (λ u. get_or sums (u - 1) 0 - get_or bests.now (u - 1) 0) (numbers 1 (length bests.now))) }
-{
-    let mut figure = 0;
-    let mut u = 0;
-    while u < bests.len() {
-        let x = over(sums[u], bests[u]);
-        if figure < x {
-            figure = x;
+    // The costs of the partial route with arc i, in each column.
+    pub fn lengthen(&self, i: usize, sums: &[u64; 8]) -> [u64; 8]
+        requires { (i < self.now.arcs) × Low 200 sums.now }
+        ensures { Lengthened self.now.arcs i (length self.now.bests.now) self.now.costs.now sums.now result }
+    {
+        let mut longer = *sums;
+        for u in 0..self.bests.len() {
+            longer[u] += u64::from(self.costs[u * self.arcs + i]);
         }
-        u += 1;
+        longer
     }
-    figure
+
+    // The figure of a path, from its cost in each column.
+    pub fn figure_of(&self, sums: &[u64; 8]) -> u64
+        ensures { result ≡ largest (map (λ u. get_or sums.now (u - 1) 0 - get_or self.now.bests.now (u - 1) 0) (numbers 1 (length self.now.bests.now))) }
+    {
+        let mut figure: u64 = 0;
+        for u in 0..self.bests.len() {
+            figure = figure.max(sums[u].saturating_sub(self.bests[u]));
+        }
+        figure
+    }
 }

@@ -4,6 +4,7 @@ use native.Mathlib.Omega.{arith}
 use mathlib.Core.Path.{◌≡◌, sym, ◌∙◌, ap, ap₂, subst}
 use mathlib.Core.Logic.{⊎_elim}
 use mathlib.Core.List.{List, [], ◌∷◌, ◌++◌}
+use Rattle.std.specs.Prelude.{Result, Ok, Err}
 use lib.ListN.{length, take, drop}
 use lib.Seq.{length-take-le}
 use borrow.Author.Tests.{lt-ltb, le-ltb}
@@ -21,6 +22,9 @@ use Rattle.image.specs.Calls.{image_fault}
 use Rattle.image.proofs.NetworkLaws.{accepted_network}
 use Rattle.image.proofs.OutcomeLaws.{then_next, then_fault, then_sound, outcome_sound, after_sound}
 use Rattle.loading.specs.Accepted.{Ends}
+use Rattle.loading.specs.Networks.{net}
+use Rattle.loading.specs.declared.network.Network.{Network}
+use Rattle.loading.proofs.DecodeLaws.{admitted}
 use Rattle.outcomes.specs.Calls.{no_path_row, robust_of}
 use Rattle.outcomes.proofs.RowLaws.{ends_sound, roomy}
 use Rattle.outcomes.proofs.ShortestLaws.{row_none, row_some}
@@ -28,8 +32,8 @@ use Rattle.network_calls.specs.Held.{Reached}
 use Rattle.descent.specs.Rule.{Best, FirstLeast, Answers, none_open, first_open}
 use Rattle.descent.specs.Depth.{Holds, none_held, one_held, Outcome, whole, too_many}
 use Rattle.descent.specs.declared.depth.Held.{Held}
-use Rattle.descent.specs.declared.depth.Run.{Run}
-use Rattle.descent.specs.declared.depth.Run.TheVariants.{Going, Cut}
+use Rattle.descent.specs.declared.depth.Task.{Task}
+use Rattle.descent.specs.declared.depth.Cut.{Cut}
 use Rattle.descent.proofs.DescentLaws.{search_answers, settled_equal, settled_of}
 use Rattle.search_calls.specs.Calls.{entry_rows, search_of, limit_of, decided_rows, search_fault, path_of, search_path, search_values}
 use Rattle.search_calls.specs.Demands.{KeptSearch}
@@ -65,7 +69,7 @@ pub record Found (b : List ℕ) (s t limit : ℕ) (best : List ℕ) (h : Held) :
   pub few : h.tried ≤ limit
 
 module _ (b : List ℕ) (s t limit : ℕ) where
-  pub found : {best : List ℕ} {r : Run} → Admitted (edition b) (net_of b) → Reached (net_of b) s t → (h : Held) → Outcome limit (net_of b) s t best r → r ≡ Going h → Found b s t limit best h
+  pub found : {best : List ℕ} {r : Result Held Cut} → Admitted (edition b) (net_of b) → Reached (net_of b) s t → (h : Held) → Outcome limit (net_of b) s t best r → r ≡ Ok h → Found b s t limit best h
   unfolding search_path search_of
   found {best} ok R h (whole {h = g} m few) e =
       let same : g ≡ h = cc in
@@ -81,10 +85,14 @@ module _ (b : List ℕ) (s t limit : ℕ) where
       subst (Found b s t limit best) same r
   found ok R h (too_many _) e = let z : ◌≡◌ {A = ℕ} 0 1 = cc in absurd (omega arith)
 
-  pub cut_many : {best : List ℕ} {r : Run} → Outcome limit (net_of b) s t best r → r ≡ Cut → limit_of b s t limit ≡ fault 19 limit
+  pub cut_many : {best : List ℕ} {r : Result Held Cut} {e : Cut} → Outcome limit (net_of b) s t best r → r ≡ Err e → limit_of b s t limit ≡ fault 19 limit
   unfolding search_of
   cut_many (whole _ _) e = let z : ◌≡◌ {A = ℕ} 0 1 = cc in absurd (omega arith)
   cut_many (too_many h) e = many_tried b s t limit h
+
+-- the same of an accepted image and a task
+pub found_in : (n : Network) (task : Task) {best : List ℕ} {r : Result Held Cut} {h : Held} → Reached (net n) task.start task.goal → Outcome task.limit (net n) task.start task.goal best r → r ≡ Ok h → Found n.image.now task.start task.goal task.limit best h
+found_in n task {h = h} R o e = found n.image.now task.start task.goal task.limit (admitted n.accepted) R h o e
 
 module _ {b : List ℕ} {s t limit : ℕ} {best : List ℕ} {h : Held} (F : Found b s t limit best h) where
   within : limit_of b s t limit ≡ sound

@@ -34,8 +34,7 @@ use Rattle.network_calls.specs.Held.{Reached}
 use Rattle.descent.specs.Rule.{drawn}
 use Rattle.descent.specs.Rows.{at_row}
 use Rattle.descent.specs.Tables.{CostIn, closed_there, open_there, LabelIn, no_way, reached, heads_at, TablesIn, Fits}
-use Rattle.descent.specs.declared.depth.Task.{Task}
-use Rattle.search_calls.specs.Labelled.{LabelRows, Asks}
+use Rattle.search_calls.specs.Labelled.{LabelRows}
 
 -- ---- what a test keeps is a part, if what passes stands together
 keep_part : {A : Type 0} (f : A → Bool) (d : A) (l : List A) (a b : ℕ) → b ≤ length l → ((i : ℕ) → a ≤ i → i < b → f (get_or l i d) ≡ true) → ((i : ℕ) → i < length l → f (get_or l i d) ≡ true → (a ≤ i) × (i < b)) → keep f l ≡ take (b - a) (drop a l)
@@ -222,22 +221,16 @@ module _ {e : ℕ} {net : Net} (ok : Admitted e net) {star : List ℕ} (S : Shap
         bests_are = λ u h. taken u h ∙ best_at u R h;
       }
 
--- ---- of an accepted image, as a task has them
-module _ {b : List ℕ} {sizes : Sizes} (a : Accepted b sizes) (task : Task) (A : Asks sizes task) {star costs labels : List ℕ} (S : Shape (net_of b) star) (are : costs ≡ in_a_row (net_of b).columns)
-    (L : LabelRows (net_of b) task.goal sizes.k (sizes.n + 1) labels) (bests : List ℕ) (count : length bests ≡ sizes.k) where
-  labelled : LabelRows (net_of b) task.goal (length bests) ((net_of b).nodes + 1) labels
-  labelled = subst₂ (λ (k n : ℕ). LabelRows (net_of b) task.goal k (n + 1) labels) (sym count) a.nodes_are L
+-- ---- of an accepted image, with its sizes
+module _ {b : List ℕ} {sizes : Sizes} (a : Accepted b sizes) (s : ℕ) {t : ℕ} {star costs labels : List ℕ} (S : Shape (net_of b) star) (are : costs ≡ in_a_row (net_of b).columns)
+    (L : LabelRows (net_of b) t sizes.k (sizes.n + 1) labels) (bests : List ℕ) (count : length bests ≡ sizes.k) where
+  labelled : LabelRows (net_of b) t (length bests) ((net_of b).nodes + 1) labels
+  labelled = subst₂ (λ (k n : ℕ). LabelRows (net_of b) t k (n + 1) labels) (sym count) a.nodes_are L
 
-  arcs_are : length (net_of b).arcs ≡ task.arcs
-  arcs_are = sym (A.arcs_are ∙ a.arcs_are)
+  pub image_fits : Fits sizes.m (sizes.n + 1) star costs labels bests
+  image_fits = subst₂ (λ (m n : ℕ). Fits m (n + 1) star costs labels bests) (sym a.arcs_are) (sym a.nodes_are) (fits (admitted a) S are s bests labelled (count ∙ a.columns_are))
 
-  nodes_are : (net_of b).nodes ≡ task.n
-  nodes_are = sym (A.nodes_are ∙ a.nodes_are)
-
-  pub task_fits : Fits task.arcs (task.n + 1) star costs labels bests
-  task_fits = subst₂ (λ (m n : ℕ). Fits m (n + 1) star costs labels bests) arcs_are nodes_are (fits (admitted a) S are task.start bests labelled (count ∙ a.columns_are))
-
-  pub task_tables : Reached (net_of b) task.start task.goal → ((u : ℕ) → u < length bests → get_or bests u 0 ≡ at_row (task.n + 1) labels u task.start) → TablesIn (net_of b) task.start task.goal task.arcs (task.n + 1) star costs labels bests
-  task_tables R taken =
-      subst₂ (λ (m n : ℕ). TablesIn (net_of b) task.start task.goal m (n + 1) star costs labels bests) arcs_are nodes_are
-      (tables (admitted a) S are task.start bests labelled (count ∙ a.columns_are) R (λ u h. taken u h ∙ ap (λ (n : ℕ). at_row (n + 1) labels u task.start) (sym nodes_are)))
+  pub image_tables : Reached (net_of b) s t → ((u : ℕ) → u < length bests → get_or bests u 0 ≡ at_row (sizes.n + 1) labels u s) → TablesIn (net_of b) s t sizes.m (sizes.n + 1) star costs labels bests
+  image_tables R taken =
+      subst₂ (λ (m n : ℕ). TablesIn (net_of b) s t m (n + 1) star costs labels bests) (sym a.arcs_are) (sym a.nodes_are)
+      (tables (admitted a) S are s bests labelled (count ∙ a.columns_are) R (λ u h. taken u h ∙ ap (λ (n : ℕ). at_row (n + 1) labels u s) a.nodes_are))

@@ -1,18 +1,10 @@
--- What the search is asked and lent, and the labels of all columns. Assumes nothing.
+-- What the search is lent, and the labels of all columns. Assumes nothing.
 use Rattle.std.specs.Prelude.{ℕ, suc, ◌+◌, ◌*◌, ◌≤◌, ◌<◌, ◌≡◌, List, length, get_or}
 use Rattle.terms.specs.Network.{Net, column}
-use Rattle.image.specs.declared.check.Sizes.{Sizes}
 use Rattle.labels.specs.Labels.{far}
 use Rattle.loading.specs.Loaded.{star_size}
 use Rattle.descent.specs.Rows.{at_row}
 use Rattle.descent.specs.Tables.{LabelIn}
-use Rattle.descent.specs.declared.depth.Task.{Task}
-
--- the task is one in a network of these sizes, and its limit has 32 bits
-pub record Asks (sizes : Sizes) (task : Task) : Type 0 where
-  pub nodes_are : task.n ≡ sizes.n
-  pub arcs_are : task.arcs ≡ sizes.m
-  pub limit_to : task.limit ≤ 4294967295
 
 -- room for a star of m arcs between n nodes, and for k columns of m costs and n + 1 labels with their bests
 pub record TableRoom (n m k : ℕ) (star costs labels bests : List ℕ) : Type 0 where

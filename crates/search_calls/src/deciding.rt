@@ -8,10 +8,9 @@ ghost use Rattle.loading.specs.Loaded.{Shared};
 ghost use Rattle.network_calls.specs.Held.{Reached, ChoiceRoom};
 ghost use Rattle.search_calls.specs.Answers.{found_list};
 ghost use Rattle.search_calls.specs.Calls.{limit_of, decided_rows, search_path, search_values};
-ghost use Rattle.search_calls.specs.Labelled.{Asks};
 
 use super::tables::search_image;
-use descent::{Run, Task};
+use descent::Task;
 use image::Refusal;
 use labels::FAR;
 use loading::{Network, label_nodes, load_common};
@@ -39,29 +38,25 @@ fn answer(
     best: &mut [u16],
     path: &mut [u16],
 ) -> Result<Found, Refusal>
-    requires asks { Asks network.now.sizes task }
     requires reached { Reached (net network.now) task.start task.goal }
     requires shared { Shared (net network.now) m star.now costs.now × (length bests.old ≡ network.now.sizes.k) }
     requires n_in_bounds { (network.now.sizes.n ≤ length best.old) × (network.now.sizes.n ≤ length path.old) }
     ensures result_value { answer found_list result ≡ outcome (limit_of network.now.image.now task.start task.goal task.limit) (search_values network.now.image.now task.start task.goal) }
     ensures path_after { path.new ≡ after (limit_of network.now.image.now task.start task.goal task.limit) (search_path network.now.image.now task.start task.goal) path.old }
 {
-    let limit = task.limit;
-    let start = task.start as usize;
-    let goal = task.goal;
     let run = search_image(network, task, best);
-    let Run::Going(held) = run else {
-        return Err(Refusal::TooManyArcs(limit));
+    let Ok(held) = run else {
+        return Err(Refusal::TooManyArcs(task.limit));
     };
-    let length = held.length;
-    let tried = held.tried;
-    let found = measure_path(network, m, start, goal, &best[..length], star, costs, bests);
-    write_path(best, length, path);
+    let start = usize::from(task.start);
+    let route = &best[..held.length];
+    let found = measure_path(network, m, start, task.goal, route, star, costs, bests);
+    write_path(best, held.length, path);
     Ok(Found {
-        length: length as u32,
+        length: held.length as u32,
         figure: found.figure,
         worst: found.worst,
-        tried: tried as u32,
+        tried: held.tried as u32,
     })
 }
 
@@ -78,7 +73,6 @@ fn decide_shared(
     best: &mut [u16],
     path: &mut [u16],
 ) -> Result<Found, Refusal>
-    requires asks { Asks network.now.sizes task }
     requires ends { Ends (net network.now).nodes task.start task.goal }
     requires shared { Shared (net network.now) m star.now costs.now × (length overall.old ≡ network.now.sizes.n + 1) × (length bests.old ≡ network.now.sizes.k) }
     requires n_in_bounds { (network.now.sizes.n ≤ length best.old) × (network.now.sizes.n ≤ length path.old) }
@@ -86,7 +80,7 @@ fn decide_shared(
     ensures path_after { path.new ≡ after (decided_rows network.now.image.now task.start task.goal task.limit) (search_path network.now.image.now task.start task.goal) path.old }
 {
     label_nodes(star, &costs[..m], task.goal, overall);
-    let start = task.start as usize;
+    let start = usize::from(task.start);
     if overall[start] == FAR {
         return Err(Refusal::NoPath);
     }
@@ -104,7 +98,6 @@ fn decide_in(
     best: &mut [u16],
     path: &mut [u16],
 ) -> Result<Found, Refusal>
-    requires asks { Asks network.now.sizes task }
     requires ends { Ends (net network.now).nodes task.start task.goal }
     requires choice_room { ChoiceRoom network.now.sizes.n network.now.sizes.m network.now.sizes.k star.old costs.old bests.old × (length overall.old ≡ network.now.sizes.n + 1) }
     requires n_in_bounds { (network.now.sizes.n ≤ length best.old) × (network.now.sizes.n ≤ length path.old) }
@@ -148,13 +141,10 @@ pub fn decide(
     let mut best = [0u16; 200];
     let m = network.sizes.m as usize;
     let k = network.sizes.k as usize;
-    let n = network.sizes.n as usize;
-    let places = n + 1;
+    let places = network.sizes.n as usize + 1;
     let size = 3 * m + places + 1 + places;
     let all = m * k;
     let task = Task {
-        n,
-        arcs: m,
         start: start as u16,
         goal: goal as usize,
         limit,

@@ -7,9 +7,9 @@ ghost use Rattle.loading.specs.Loaded.{star_size};
 ghost use Rattle.network_calls.specs.Held.{Reached};
 ghost use Rattle.descent.specs.Rows.{at_row};
 ghost use Rattle.descent.specs.Depth.{Outcome};
-ghost use Rattle.search_calls.specs.Labelled.{LabelRows, TableRoom, Asks};
+ghost use Rattle.search_calls.specs.Labelled.{LabelRows, TableRoom};
 
-use descent::{Run, Task};
+use descent::{Columns, Cut, Held, Task};
 use loading::{Network, load, load_all};
 
 // Labels each node with its least cost to the goal, in each column by itself, one column after the other,
@@ -26,14 +26,11 @@ fn label_columns_in(
     requires labels_len { length labels.old ≡ network.now.sizes.k * (network.now.sizes.n + 1) }
     ensures { LabelRows (net network.now) goal network.now.sizes.k (network.now.sizes.n + 1) labels.new }
 {
-    let k = network.sizes.k;
     let places = network.sizes.n as usize + 1;
-    let mut u = 0;
-    while u < k {
-        let from = (u as usize) * places;
+    for u in 0..network.sizes.k {
+        let from = u as usize * places;
         let to = from + places;
-        u += 1;
-        load(network, u, goal, star, weights, &mut labels[from..to]);
+        load(network, u + 1, goal, star, weights, &mut labels[from..to]);
     }
 }
 
@@ -62,10 +59,8 @@ fn take_bests(labels: &[u64], places: usize, start: usize, bests: &mut [u64])
     requires { (length labels.now ≡ length bests.old * places) × (start < places) × (length bests.old ≤ 8) × (places ≤ 201) }
     ensures { (u : ℕ) → u < length bests.new → get_or bests.new u 0 ≡ at_row places labels.now u start }
 {
-    let mut u = 0;
-    while u < bests.len() {
-        bests[u] = labels[u * places + start];
-        u += 1;
+    for (u, best) in bests.iter_mut().enumerate() {
+        *best = labels[u * places + start];
     }
 }
 
@@ -78,21 +73,28 @@ fn search_tables(
     labels: &mut [u64],
     bests: &mut [u64],
     best: &mut [u16],
-) -> Run
-    requires asks { Asks network.now.sizes task }
+) -> Result<Held, Cut>
     requires reached { Reached (net network.now) task.start task.goal }
     requires table_room { TableRoom network.now.sizes.n network.now.sizes.m network.now.sizes.k star.old costs.old labels.old bests.old × (network.now.sizes.n ≤ length best.old) }
     ensures { Outcome task.limit (net network.now) task.start task.goal best.new result }
 {
     load_all(network, star, costs);
     label_columns(network, task.goal, labels);
-    take_bests(labels, task.n + 1, task.start as usize, bests);
-    descent::search(star, costs, labels, bests, task, best)
+    let places = network.sizes.n as usize + 1;
+    take_bests(labels, places, usize::from(task.start), bests);
+    let columns = Columns {
+        arcs: network.sizes.m as usize,
+        places,
+        star,
+        costs,
+        labels,
+        bests,
+    };
+    descent::search(&columns, task, best)
 }
 
 // Searches an image: the rule's own answer, and the path that goes with it in best.
-pub fn search_image(network: &Network<'_>, task: Task, best: &mut [u16]) -> Run
-    requires asks { Asks network.now.sizes task }
+pub fn search_image(network: &Network<'_>, task: Task, best: &mut [u16]) -> Result<Held, Cut>
     requires reached { Reached (net network.now) task.start task.goal }
     requires n_in_bounds { network.now.sizes.n ≤ length best.old }
     ensures { Outcome task.limit (net network.now) task.start task.goal best.new result }

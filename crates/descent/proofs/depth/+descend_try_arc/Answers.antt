@@ -1,304 +1,163 @@
 -- The proof of the cycle of calls {descend, try_arc}. A node deeper the measure is smaller, and an arc has less than its node. Assumes nothing.
-use Prim.Native.Nat.{ℕ, suc, ◌+◌, ◌*◌, ◌-◌, ◌≤◌, ◌<◌}
+use Prim.Native.Nat.{ℕ, suc, ◌+◌, ◌≤◌, ◌<◌}
 use native.Mathlib.Omega.{arith}
-use mathlib.Core.Path.{◌≡◌, refl, sym, ◌∙◌, ap}
+use mathlib.Core.Path.{◌≡◌, sym, ◌∙◌, ap}
+use mathlib.Core.Bool.{Bool, false}
 use mathlib.Core.List.{List, ◌∷◌}
-use lib.ListN.{length, get_or, set, length-set}
+use lib.ListN.{length, get_or, length-set}
+use Rattle.std.specs.Prelude.{Result}
+use Rattle.std.proofs.lemmas.Result.{err_from_is_err_and}
 use Rattle.terms.specs.Network.{Net, weight, column}
 use Rattle.terms.specs.Regret.{figure}
 use Rattle.descent.specs.Rule.{State, one_more, dropped, laid}
-use Rattle.descent.specs.declared.depth.Run.{Run}
-use Rattle.descent.specs.Rows.{Low}
-use Rattle.star.specs.Layout.{heads_of, outs_of}
-use Rattle.descent.specs.Depth.{GivenIn, Ends, goes, stopped, at_arc}
+use Rattle.descent.specs.declared.columns.Columns.{Columns}
+use Rattle.descent.specs.declared.depth.Task.{Task}
+use Rattle.descent.specs.declared.depth.Partial.{Partial}
+use Rattle.descent.specs.declared.depth.Held.{Held}
+use Rattle.descent.specs.declared.depth.Cut.{Cut}
+use Rattle.descent.specs.Rows.{Drops, at_row}
+use Rattle.descent.specs.Depth.{Begun, heads_in, outs_in, GivenIn, Ends, goes, stopped, at_arc}
 use Rattle.descent.proofs.RowLaws.{low_more}
-use Rattle.descent.proofs.StarLaws.{heads_long, head_at, out_at, next_out_at, star_rows, star_drops, star_longer}
+use Rattle.descent.proofs.StarLaws.{heads_long, head_is, head_from, head_in, begins_at, ends_at, ends_in, star_drops, star_longer}
 use Rattle.descent.proofs.TableLaws.{drops_is, kept_open, figure_is}
 use Rattle.descent.proofs.StepLaws.{flag_on, flag_off, more_room, begun_more, kept_back, matches_counted, given_more, at_used, at_full, at_dropped, at_taken, route_is, ends_as}
-use Rattle.descent.proofs.SweepLaws.{leads_start, descend_arrived, descend_onward, ends_of, kept_none, kept_both, begun_kept, given_kept, leads_on, leads_cut, leads_end}
+use Rattle.descent.proofs.SweepLaws.{descend_arrived, descend_onward, kept_both, begun_kept, given_kept, leads_on, leads_cut, leads_end}
 use Rattle.descent.proofs.depth.+descend_try_arc.Goals as goal
 
 -- the rule at the node is the rule at the arc's head
-at_node : (limit left : ℕ) (net : Net) (s' t' v : ℕ) (seen : List ℕ) (z : State) {node head : ℕ} {path : List ℕ} {r : Run} → node ≡ head
+at_node : (limit left : ℕ) (net : Net) (s' t' v : ℕ) (seen : List ℕ) (z : State) {node head : ℕ} {path : List ℕ} {r : Result Held Cut} → node ≡ head
     → Ends path (at_arc limit left net s' t' seen v node z) r → Ends path (at_arc limit left net s' t' seen v head z) r
 at_node limit left net s' t' v seen z e x = ends_as (ap (λ (h : ℕ). at_arc limit left net s' t' seen v h z) (sym e)) x
 
-pub descend-complete-requires : goal.descend-complete-requires
-descend-complete-requires t c =
-    let few : c.args.partial.depth < length c.args.used.now = omega (arith, c.requires.begun.room) in
-    record { in_bounds = (c.requires.fits.ground.columns_from, c.requires.fits.ground.rows.columns_to, low_more (omega (arith, c.requires.begun.room, c.requires.fits.ground.few)) c.requires.begun.sums_low); le_depth = (c.requires.begun.some, omega (arith, few, c.requires.begun.route_long, c.requires.begun.used_long), omega (arith, few, c.requires.begun.path_long, c.requires.begun.used_long)) }
+-- node h is the head of arc i, out of the last node of the partial route
+module _ (C : Columns) (task : Task) (p : Partial) (i h : ℕ) (l : i < C.arcs) (e : h ≡ get_or C.star.now (C.arcs + i) 0) where
+  module _ {net : Net} {s' t' v : ℕ} {seen : List ℕ} {z : State} {route path used : List ℕ} {held : Held} {r : Bool}
+      (g : GivenIn net s' t' seen z C task p v route path held) (b : Begun C.places route used path p.sums p.depth) (v-in : v < C.places) (from : get_or (outs_in C) v 0 ≤ i) (to : i < get_or (outs_in C) (v + 1) 0)
+      (drops : Drops C.arcs C.places i h C.costs.now C.labels.now C.bests.now p.sums held.figure r) where
+    few : p.depth ≤ 200
+    few = omega (arith, b.room, C.fits.ground.few)
 
-pub descend-returns-then-v-partial : goal.descend-returns-then-v-partial
-descend-returns-then-v-partial t c =
-    let few : c.args.partial.depth < length c.args.used.now = omega (arith, c.requires.begun.room) in
-    record {
-      kept = kept_none;
-      ends = λ net s' t' seen z g. ends_as (descend_arrived c.args.partial.limit g few c.if-v-partial.true)
-          (goes (c.complete.ensures (figure net s' t') z (ap (figure net s' t') (route_is c.args.route.now c.args.partial.depth g.nodes_are) ∙ figure_is g) g.matches));
-    }
+    i-in : i < length (heads_in C)
+    i-in = omega (arith, heads_long C.fits)
 
-pub descend-overflow_mul-outs : goal.descend-overflow_mul-outs
-descend-overflow_mul-outs t c =
-    let indexed : (3 * c.args.partial.arcs + c.args.v + 1 < length c.args.star.now) × (length c.args.star.now ≤ 3403) = (omega (arith, c.requires.fits.star_long, c.requires.v_in_bounds), omega (arith, c.requires.fits.star_long, c.requires.fits.arcs_to, c.requires.fits.ground.few)) in
-    omega (arith, indexed)
+    -- the rule drops it exactly if the code does
+    rule_drops : dropped net s' t' (laid seen v) v h z.found ≡ r
+    rule_drops = ap (λ (x : ℕ). dropped net s' t' (laid seen v) v x z.found) (head_is C.fits l e) ∙ drops_is g C.fits.ground few b.sums_low i v-in from to i-in (star_drops C.fits (head_is C.fits l e) drops)
 
-pub descend-overflow_add-to : goal.descend-overflow_add-to
-descend-overflow_add-to t c =
-    let indexed : (3 * c.args.partial.arcs + c.args.v + 1 < length c.args.star.now) × (length c.args.star.now ≤ 3403) = (omega (arith, c.requires.fits.star_long, c.requires.v_in_bounds), omega (arith, c.requires.fits.star_long, c.requires.fits.arcs_to, c.requires.fits.ground.few)) in
-    omega (arith, indexed)
+    -- and if it doesn't, the arc is open in each column, at its cost
+    weighs : r ≡ false → (u : ℕ) → u < length C.bests.now → weight (column net (suc u)) v h ≡ at_row (length (heads_in C)) C.costs.now u i
+    weighs k u m = ap (λ (x : ℕ). weight (column net (suc u)) v x) (head_is C.fits l e) ∙ kept_open g C.fits.ground few b.sums_low i v-in from to i-in (star_drops C.fits (head_is C.fits l e) drops) k u m
 
-pub descend-overflow_add-to-2 : goal.descend-overflow_add-to-2
-descend-overflow_add-to-2 t c =
-    let indexed : (3 * c.args.partial.arcs + c.args.v + 1 < length c.args.star.now) × (length c.args.star.now ≤ 3403) = (omega (arith, c.requires.fits.star_long, c.requires.v_in_bounds), omega (arith, c.requires.fits.star_long, c.requires.fits.arcs_to, c.requires.fits.ground.few)) in
-    omega (arith, indexed)
+pub descend-returns-then-v-task-clause-ends : goal.descend-returns-then-v-task-clause-ends
+descend-returns-then-v-task-clause-ends t c = λ net s' t' seen z g.
+    ends_as (descend_arrived c.args.task.limit g (omega (arith, c.requires.begun.room)) c.if-v-task.true)
+    (goes (c.complete.ensures (figure net s' t') z (ap (figure net s' t') (route_is c.args.route.now c.args.partial.now.depth g.nodes_are) ∙ figure_is g) g.matches))
 
-pub descend-offset_bounds-star-outs : goal.descend-offset_bounds-star-outs
-descend-offset_bounds-star-outs t c =
-    let indexed : (3 * c.args.partial.arcs + c.args.v + 1 < length c.args.star.now) × (length c.args.star.now ≤ 3403) = (omega (arith, c.requires.fits.star_long, c.requires.v_in_bounds), omega (arith, c.requires.fits.star_long, c.requires.fits.arcs_to, c.requires.fits.ground.few)) in
-    omega (arith, indexed)
+pub descend-try_arc-requires : goal.descend-try_arc-requires
+descend-try_arc-requires t c = (
+  omega (arith, c.decreases),
+  (begun_kept c.requires.begun c.loop-i.invariant.kept c.loop-i.auto.route c.loop-i.auto.path, omega (arith, ends_in c.args.columns.now.fits c.requires.v_lt_places c.from-to.ensures, heads_long c.args.columns.now.fits, c.loop-i-test.true)),
+)
 
-pub descend-bounds-star-outs : goal.descend-bounds-star-outs
-descend-bounds-star-outs t c =
-    let indexed : (3 * c.args.partial.arcs + c.args.v + 1 < length c.args.star.now) × (length c.args.star.now ≤ 3403) = (omega (arith, c.requires.fits.star_long, c.requires.v_in_bounds), omega (arith, c.requires.fits.star_long, c.requires.fits.arcs_to, c.requires.fits.ground.few)) in
-    omega (arith, indexed)
-
-pub descend-overflow_cast-to : goal.descend-overflow_cast-to
-descend-overflow_cast-to t c = omega (arith, c.type_inv.star (3 * c.args.partial.arcs + c.args.v + 1))
-
-pub descend-overflow_add-i : goal.descend-overflow_add-i
-descend-overflow_add-i t c =
-    let indexed : (3 * c.args.partial.arcs + c.args.v + 1 < length c.args.star.now) × (length c.args.star.now ≤ 3403) = (omega (arith, c.requires.fits.star_long, c.requires.v_in_bounds), omega (arith, c.requires.fits.star_long, c.requires.fits.arcs_to, c.requires.fits.ground.few)) in
-    omega (arith, indexed)
-
-pub descend-offset_bounds-star-outs-2 : goal.descend-offset_bounds-star-outs-2
-descend-offset_bounds-star-outs-2 t c =
-    let indexed : (3 * c.args.partial.arcs + c.args.v + 1 < length c.args.star.now) × (length c.args.star.now ≤ 3403) = (omega (arith, c.requires.fits.star_long, c.requires.v_in_bounds), omega (arith, c.requires.fits.star_long, c.requires.fits.arcs_to, c.requires.fits.ground.few)) in
-    omega (arith, indexed)
-
-pub descend-bounds-star-outs-2 : goal.descend-bounds-star-outs-2
-descend-bounds-star-outs-2 t c =
-    let indexed : (3 * c.args.partial.arcs + c.args.v + 1 < length c.args.star.now) × (length c.args.star.now ≤ 3403) = (omega (arith, c.requires.fits.star_long, c.requires.v_in_bounds), omega (arith, c.requires.fits.star_long, c.requires.fits.arcs_to, c.requires.fits.ground.few)) in
-    omega (arith, indexed)
-
-pub descend-overflow_cast-i : goal.descend-overflow_cast-i
-descend-overflow_cast-i t c = omega (arith, c.type_inv.star (3 * c.args.partial.arcs + c.args.v))
-
-pub descend-loop-i-init : goal.descend-loop-i-init
-descend-loop-i-init t c = (omega arith, kept_none, refl, refl, λ net s' t' seen z g. leads_start g.matches)
-
-pub descend-try_arc-run-requires : goal.descend-try_arc-run-requires
-descend-try_arc-run-requires t c =
-    let ends : get_or c.args.star.now (3 * c.args.partial.arcs + c.args.v + 1) 0 ≡ get_or (outs_of (length c.args.used.now) c.args.partial.arcs c.args.star.now) (c.args.v + 1) 0 = next_out_at c.requires.fits c.args.v c.requires.v_in_bounds in
-    let out_in : get_or c.args.star.now (3 * c.args.partial.arcs + c.args.v + 1) 0 ≤ length (heads_of c.args.partial.arcs c.args.star.now) = omega (arith, ends, c.requires.fits.ground.outs_within (c.args.v + 1) (omega (arith, c.requires.v_in_bounds))) in
-    let same_flags : length c.loop-i.used ≡ length c.args.used.now = ap length c.loop-i.invariant.1.flags in (
-      omega (arith, c.decreases, same_flags),
-      (rw same_flags c.requires.fits, (rw same_flags (begun_kept c.requires.begun c.loop-i.invariant.1 c.loop-i.invariant.2 c.loop-i.invariant.3), omega (arith, out_in, heads_long c.requires.fits, c.loop-i-test))),
-    )
-
-pub descend-shape_of-used-in_default : goal.descend-shape_of-used-in_default
-descend-shape_of-used-in_default t c =
-    let same_flags : length c.loop-i.used ≡ length c.args.used.now = ap length c.loop-i.invariant.1.flags in
-    omega (arith, ap length c.try_arc-run.ensures.kept.flags, same_flags)
-
-pub descend-returns-in_default : goal.descend-returns-in_default
-descend-returns-in_default t c =
-    let few : c.args.partial.depth < length c.args.used.now = omega (arith, c.requires.begun.room) in
-    let begins : get_or c.args.star.now (3 * c.args.partial.arcs + c.args.v) 0 ≡ get_or (outs_of (length c.args.used.now) c.args.partial.arcs c.args.star.now) c.args.v 0 = out_at c.requires.fits c.args.v (omega (arith, c.requires.v_in_bounds)) in
-    let ends : get_or c.args.star.now (3 * c.args.partial.arcs + c.args.v + 1) 0 ≡ get_or (outs_of (length c.args.used.now) c.args.partial.arcs c.args.star.now) (c.args.v + 1) 0 = next_out_at c.requires.fits c.args.v c.requires.v_in_bounds in
-    let out_in : get_or c.args.star.now (3 * c.args.partial.arcs + c.args.v + 1) 0 ≤ length (heads_of c.args.partial.arcs c.args.star.now) = omega (arith, ends, c.requires.fits.ground.outs_within (c.args.v + 1) (omega (arith, c.requires.v_in_bounds))) in
-    let same_flags : length c.loop-i.used ≡ length c.args.used.now = ap length c.loop-i.invariant.1.flags in
-    let arc_ends : (net : Net) (s' t' : ℕ) (seen : List ℕ) (z : State) (g : GivenIn net s' t' seen z c.args.star.now c.args.costs.now c.args.labels.now c.args.bests.now (length c.args.used.now) c.args.partial c.args.v c.args.route.now c.args.path.now c.args.held) → Ends c.try_arc-run.new.path (at_arc c.args.partial.limit (length c.args.used.now - (c.args.partial.depth + 1)) net s' t' seen c.args.v (get_or (heads_of c.args.partial.arcs c.args.star.now) c.loop-i.i 0) (c.loop-i.invariant.4 net s' t' seen z g).now) c.try_arc-run.result = λ net s' t' seen z g. let e = rw same_flags at (c.try_arc-run.ensures.ends net s' t' c.args.v seen (c.loop-i.invariant.4 net s' t' seen z g).now) in e c.requires.v_in_bounds (omega (arith, begins, c.loop-i.invariant.0)) (omega (arith, ends, c.loop-i-test.true)) (given_kept g c.loop-i.invariant.1 (c.loop-i.invariant.4 net s' t' seen z g).matches) in
-    record {
-      kept = kept_both c.loop-i.invariant.1 c.try_arc-run.ensures.kept;
-      ends = λ net s' t' seen z g. ends_as
-          (descend_onward c.args.partial.limit g few _ _ c.if-v-partial.false c.requires.v_in_bounds begins ends ∙ leads_cut (c.loop-i.invariant.4 net s' t' seen z g) c.loop-i-test.true out_in (ends_of c.in_default.is (arc_ends net s' t' seen z g)))
-          stopped;
-    }
-
-pub descend-overflow_add-i-in-loop-i : goal.descend-overflow_add-i-in-loop-i
-descend-overflow_add-i-in-loop-i t c =
-    let ends : get_or c.args.star.now (3 * c.args.partial.arcs + c.args.v + 1) 0 ≡ get_or (outs_of (length c.args.used.now) c.args.partial.arcs c.args.star.now) (c.args.v + 1) 0 = next_out_at c.requires.fits c.args.v c.requires.v_in_bounds in
-    let out_in : get_or c.args.star.now (3 * c.args.partial.arcs + c.args.v + 1) 0 ≤ length (heads_of c.args.partial.arcs c.args.star.now) = omega (arith, ends, c.requires.fits.ground.outs_within (c.args.v + 1) (omega (arith, c.requires.v_in_bounds))) in
-    omega (arith, out_in, heads_long c.requires.fits, c.requires.fits.arcs_to, c.loop-i-test)
+pub descend-returns-in_err-now-clause-ends : goal.descend-returns-in_err-now-clause-ends
+descend-returns-in_err-now-clause-ends t c =
+    let fits = c.args.columns.now.fits in
+    let begins = begins_at fits c.requires.v_lt_places c.from-from.ensures in
+    let ends = ends_at fits c.requires.v_lt_places c.from-to.ensures in
+    let p = err_from_is_err_and c.from_residual.result c.from_residual.ensures.1 in
+    rw p.1
+    (λ net s' t' seen z g. let d = c.loop-i.invariant.leads net s' t' seen z g in
+    ends_as
+    (descend_onward c.args.task.limit g (omega (arith, c.requires.begun.room)) _ _ c.if-v-task.false c.requires.v_lt_places begins ends
+    ∙ leads_cut d c.loop-i-test.true (ends_in fits c.requires.v_lt_places c.from-to.ensures)
+    (c.in_err-now.ensures.ends net s' t' c.args.v seen d.now c.requires.v_lt_places (omega (arith, begins, c.loop-i.auto.i)) (omega (arith, ends, c.loop-i-test.true)) (given_kept g c.loop-i.invariant.kept d.matches)))
+    stopped)
 
 pub descend-loop-i-preserved : goal.descend-loop-i-preserved
 descend-loop-i-preserved t c =
-    let ends : get_or c.args.star.now (3 * c.args.partial.arcs + c.args.v + 1) 0 ≡ get_or (outs_of (length c.args.used.now) c.args.partial.arcs c.args.star.now) (c.args.v + 1) 0 = next_out_at c.requires.fits c.args.v c.requires.v_in_bounds in
-    let out_in : get_or c.args.star.now (3 * c.args.partial.arcs + c.args.v + 1) 0 ≤ length (heads_of c.args.partial.arcs c.args.star.now) = omega (arith, ends, c.requires.fits.ground.outs_within (c.args.v + 1) (omega (arith, c.requires.v_in_bounds))) in
-    let begins : get_or c.args.star.now (3 * c.args.partial.arcs + c.args.v) 0 ≡ get_or (outs_of (length c.args.used.now) c.args.partial.arcs c.args.star.now) c.args.v 0 = out_at c.requires.fits c.args.v (omega (arith, c.requires.v_in_bounds)) in
-    let same_flags : length c.loop-i.used ≡ length c.args.used.now = ap length c.loop-i.invariant.1.flags in
-    let arc_ends : (net : Net) (s' t' : ℕ) (seen : List ℕ) (z : State) (g : GivenIn net s' t' seen z c.args.star.now c.args.costs.now c.args.labels.now c.args.bests.now (length c.args.used.now) c.args.partial c.args.v c.args.route.now c.args.path.now c.args.held) → Ends c.try_arc-run.new.path (at_arc c.args.partial.limit (length c.args.used.now - (c.args.partial.depth + 1)) net s' t' seen c.args.v (get_or (heads_of c.args.partial.arcs c.args.star.now) c.loop-i.i 0) (c.loop-i.invariant.4 net s' t' seen z g).now) c.try_arc-run.result = λ net s' t' seen z g. let e = rw same_flags at (c.try_arc-run.ensures.ends net s' t' c.args.v seen (c.loop-i.invariant.4 net s' t' seen z g).now) in e c.requires.v_in_bounds (omega (arith, begins, c.loop-i.invariant.0)) (omega (arith, ends, c.loop-i-test.true)) (given_kept g c.loop-i.invariant.1 (c.loop-i.invariant.4 net s' t' seen z g).matches) in (
-      omega arith,
-      kept_both c.loop-i.invariant.1 c.try_arc-run.ensures.kept,
-      omega (arith, c.try_arc-run.auto, c.loop-i.invariant.2),
-      omega (arith, c.try_arc-run.auto, c.loop-i.invariant.3),
-      λ net s' t' seen z g. leads_on (c.loop-i.invariant.4 net s' t' seen z g) c.loop-i-test.true out_in (ends_of c.in-Going.is (arc_ends net s' t' seen z g)),
-    )
-
-pub descend-shape_of-used : goal.descend-shape_of-used
-descend-shape_of-used t c =
-    let same_flags : length c.loop-i.used ≡ length c.args.used.now = ap length c.loop-i.invariant.1.flags in
-    same_flags
-
-pub descend-returns : goal.descend-returns
-descend-returns t c =
-    let few : c.args.partial.depth < length c.args.used.now = omega (arith, c.requires.begun.room) in
-    let begins : get_or c.args.star.now (3 * c.args.partial.arcs + c.args.v) 0 ≡ get_or (outs_of (length c.args.used.now) c.args.partial.arcs c.args.star.now) c.args.v 0 = out_at c.requires.fits c.args.v (omega (arith, c.requires.v_in_bounds)) in
-    let ends : get_or c.args.star.now (3 * c.args.partial.arcs + c.args.v + 1) 0 ≡ get_or (outs_of (length c.args.used.now) c.args.partial.arcs c.args.star.now) (c.args.v + 1) 0 = next_out_at c.requires.fits c.args.v c.requires.v_in_bounds in
-    record { kept = c.loop-i.invariant.1; ends = λ net s' t' seen z g. let d = c.loop-i.invariant.4 net s' t' seen z g in ends_as (descend_onward c.args.partial.limit g few _ _ c.if-v-partial.false c.requires.v_in_bounds begins ends ∙ leads_end d c.loop-i-test.false) (goes d.matches) }
-
-pub try_arc-overflow_add-head : goal.try_arc-overflow_add-head
-try_arc-overflow_add-head t c =
-    let indexed_arc : (c.args.partial.arcs + c.args.i < length c.args.star.now) × (length c.args.star.now ≤ 3403) = (omega (arith, c.requires.fits.star_long, c.requires.i_lt_arcs), omega (arith, c.requires.fits.star_long, c.requires.fits.arcs_to, c.requires.fits.ground.few)) in
-    omega (arith, indexed_arc)
-
-pub try_arc-offset_bounds-star-arcs : goal.try_arc-offset_bounds-star-arcs
-try_arc-offset_bounds-star-arcs t c =
-    let indexed_arc : (c.args.partial.arcs + c.args.i < length c.args.star.now) × (length c.args.star.now ≤ 3403) = (omega (arith, c.requires.fits.star_long, c.requires.i_lt_arcs), omega (arith, c.requires.fits.star_long, c.requires.fits.arcs_to, c.requires.fits.ground.few)) in
-    omega (arith, indexed_arc)
-
-pub try_arc-bounds-star-arcs : goal.try_arc-bounds-star-arcs
-try_arc-bounds-star-arcs t c =
-    let indexed_arc : (c.args.partial.arcs + c.args.i < length c.args.star.now) × (length c.args.star.now ≤ 3403) = (omega (arith, c.requires.fits.star_long, c.requires.i_lt_arcs), omega (arith, c.requires.fits.star_long, c.requires.fits.arcs_to, c.requires.fits.ground.few)) in
-    omega (arith, indexed_arc)
-
-pub try_arc-overflow_cast-h : goal.try_arc-overflow_cast-h
-try_arc-overflow_cast-h t c = omega (arith, c.type_inv.star (c.args.partial.arcs + c.args.i))
-
-pub try_arc-bounds-used-h : goal.try_arc-bounds-used-h
-try_arc-bounds-used-h t c =
-    let node_is : (get_or c.args.star.now (c.args.partial.arcs + c.args.i) 0) ≡ get_or (heads_of c.args.partial.arcs c.args.star.now) c.args.i 0 = head_at c.requires.fits c.args.i c.requires.i_lt_arcs in
-    let head_in : c.args.i < length (heads_of c.args.partial.arcs c.args.star.now) = omega (arith, heads_long c.requires.fits, c.requires.i_lt_arcs) in
-    let node_in : (get_or c.args.star.now (c.args.partial.arcs + c.args.i) 0) < length c.args.used.now = omega (arith, node_is, c.requires.fits.ground.head_in c.args.i head_in) in
-    node_in
-
-pub try_arc-returns-then-used-h-ne0 : goal.try_arc-returns-then-used-h-ne0
-try_arc-returns-then-used-h-ne0 t c =
-    let node_is : (get_or c.args.star.now (c.args.partial.arcs + c.args.i) 0) ≡ get_or (heads_of c.args.partial.arcs c.args.star.now) c.args.i 0 = head_at c.requires.fits c.args.i c.requires.i_lt_arcs in
-    record { kept = kept_none; ends = λ net s' t' v seen z l from to g. at_node c.args.partial.limit (length c.args.used.now - (c.args.partial.depth + 1)) net s' t' v seen z node_is (ends_as (at_used c.args.partial.limit _ net s' t' seen v (get_or c.args.star.now (c.args.partial.arcs + c.args.i) 0) z (rw g.nodes_are at (flag_on (get_or c.args.star.now (c.args.partial.arcs + c.args.i) 0) c.requires.begun.flagged c.if-used-h-ne0.true))) (goes g.matches)) }
-
-pub try_arc-returns-then-limit-tried : goal.try_arc-returns-then-limit-tried
-try_arc-returns-then-limit-tried t c =
-    let node_is : (get_or c.args.star.now (c.args.partial.arcs + c.args.i) 0) ≡ get_or (heads_of c.args.partial.arcs c.args.star.now) c.args.i 0 = head_at c.requires.fits c.args.i c.requires.i_lt_arcs in
-    record { kept = kept_none; ends = λ net s' t' v seen z l from to g. at_node c.args.partial.limit (length c.args.used.now - (c.args.partial.depth + 1)) net s' t' v seen z node_is (ends_as (at_full c.args.partial.limit _ net s' t' seen v (get_or c.args.star.now (c.args.partial.arcs + c.args.i) 0) z (rw g.nodes_are at (flag_off (get_or c.args.star.now (c.args.partial.arcs + c.args.i) 0) c.requires.begun.flagged c.if-used-h-ne0.false)) (omega (arith, g.matches.tried_is, c.if-limit-tried.true))) stopped) }
-
-pub try_arc-drops-requires : goal.try_arc-drops-requires
-try_arc-drops-requires t c =
-    let node_is : (get_or c.args.star.now (c.args.partial.arcs + c.args.i) 0) ≡ get_or (heads_of c.args.partial.arcs c.args.star.now) c.args.i 0 = head_at c.requires.fits c.args.i c.requires.i_lt_arcs in
-    let head_in : c.args.i < length (heads_of c.args.partial.arcs c.args.star.now) = omega (arith, heads_long c.requires.fits, c.requires.i_lt_arcs) in
-    let node_in : (get_or c.args.star.now (c.args.partial.arcs + c.args.i) 0) < length c.args.used.now = omega (arith, node_is, c.requires.fits.ground.head_in c.args.i head_in) in
-    let low_200 : Low 200 c.args.partial.sums = low_more (omega (arith, c.requires.begun.room, c.requires.fits.ground.few)) c.requires.begun.sums_low in
-    record { rows = star_rows c.requires.fits; i_lt_arcs = (c.requires.i_lt_arcs, node_in, low_200) }
-
-pub try_arc-returns-then-drops : goal.try_arc-returns-then-drops
-try_arc-returns-then-drops t c =
-    let node_is : (get_or c.args.star.now (c.args.partial.arcs + c.args.i) 0) ≡ get_or (heads_of c.args.partial.arcs c.args.star.now) c.args.i 0 = head_at c.requires.fits c.args.i c.requires.i_lt_arcs in
-    let head_in : c.args.i < length (heads_of c.args.partial.arcs c.args.star.now) = omega (arith, heads_long c.requires.fits, c.requires.i_lt_arcs) in
-    let drops_node : (net : Net) (s' t' v : ℕ) (seen : List ℕ) (z : State) → v < length c.args.used.now → get_or (outs_of (length c.args.used.now) c.args.partial.arcs c.args.star.now) v 0 ≤ c.args.i → c.args.i < get_or (outs_of (length c.args.used.now) c.args.partial.arcs c.args.star.now) (v + 1) 0 → GivenIn net s' t' seen z c.args.star.now c.args.costs.now c.args.labels.now c.args.bests.now (length c.args.used.now) c.args.partial v c.args.route.now c.args.path.now c.args.held → dropped net s' t' (laid seen v) v (get_or c.args.star.now (c.args.partial.arcs + c.args.i) 0) z.found ≡ c.drops.result = λ net s' t' v seen z l from to g. ap (λ (h : ℕ). dropped net s' t' (laid seen v) v h z.found) node_is ∙ drops_is g c.requires.fits.ground (omega (arith, c.requires.begun.room, c.requires.fits.ground.few)) c.requires.begun.sums_low c.args.i l from to head_in (star_drops c.requires.fits node_is c.drops.ensures) in
+    let fits = c.args.columns.now.fits in
+    let begins = begins_at fits c.requires.v_lt_places c.from-from.ensures in
+    let ends = ends_at fits c.requires.v_lt_places c.from-to.ensures in
     record {
-      kept = kept_none;
-      ends = λ net s' t' v seen z l from to g. at_node c.args.partial.limit (length c.args.used.now - (c.args.partial.depth + 1)) net s' t' v seen z node_is (ends_as
-          (at_dropped c.args.partial.limit _ net s' t' seen v (get_or c.args.star.now (c.args.partial.arcs + c.args.i) 0) z (rw g.nodes_are at (flag_off (get_or c.args.star.now (c.args.partial.arcs + c.args.i) 0) c.requires.begun.flagged c.if-used-h-ne0.false)) (omega (arith, g.matches.tried_is, c.if-limit-tried.false))
-          (drops_node net s' t' v seen z l from to g ∙ c.if-drops.true))
-          (goes (matches_counted g.matches)));
+      kept = kept_both c.loop-i.invariant.kept c.in_ok-now.ensures.kept;
+      leads = λ net s' t' seen z g. let d = c.loop-i.invariant.leads net s' t' seen z g in
+          leads_on d c.loop-i-test.true (ends_in fits c.requires.v_lt_places c.from-to.ensures)
+          (c.in_ok-now.ensures.ends net s' t' c.args.v seen d.now c.requires.v_lt_places (omega (arith, begins, c.loop-i.auto.i)) (omega (arith, ends, c.loop-i-test.true)) (given_kept g c.loop-i.invariant.kept d.matches));
     }
 
+pub descend-returns-clause-ends : goal.descend-returns-clause-ends
+descend-returns-clause-ends t c =
+    let begins = begins_at c.args.columns.now.fits c.requires.v_lt_places c.from-from.ensures in
+    let ends = ends_at c.args.columns.now.fits c.requires.v_lt_places c.from-to.ensures in
+    λ net s' t' seen z g. let d = c.loop-i.invariant.leads net s' t' seen z g in
+    ends_as (descend_onward c.args.task.limit g (omega (arith, c.requires.begun.room)) _ _ c.if-v-task.false c.requires.v_lt_places begins ends ∙ leads_end d c.loop-i-test.false) (goes d.matches)
+
+pub try_arc-bounds-used-h : goal.try_arc-bounds-used-h
+try_arc-bounds-used-h t c = omega (arith, head_in c.args.columns.now.fits c.requires.i_lt_arcs c.from-h.ensures, c.requires.begun.used_long)
+
+pub try_arc-returns-then-used-h-ne0-clause-ends : goal.try_arc-returns-then-used-h-ne0-clause-ends
+try_arc-returns-then-used-h-ne0-clause-ends t c = λ net s' t' v seen z l from to g.
+    let on = rw g.nodes_are at (flag_on c.from-h.result c.requires.begun.flagged c.if-used-h-ne0.true) in
+    at_node c.args.task.limit _ net s' t' v seen z (head_is c.args.columns.now.fits c.requires.i_lt_arcs c.from-h.ensures)
+    (ends_as (at_used c.args.task.limit _ net s' t' seen v c.from-h.result z on) (goes g.matches))
+
+pub try_arc-returns-then-from-held-clause-ends : goal.try_arc-returns-then-from-held-clause-ends
+try_arc-returns-then-from-held-clause-ends t c = λ net s' t' v seen z l from to g.
+    let off = rw g.nodes_are at (flag_off c.from-h.result c.requires.begun.flagged c.if-used-h-ne0.false) in
+    at_node c.args.task.limit _ net s' t' v seen z (head_is c.args.columns.now.fits c.requires.i_lt_arcs c.from-h.ensures)
+    (ends_as (at_full c.args.task.limit _ net s' t' seen v c.from-h.result z off (omega (arith, g.matches.tried_is, c.from.ensures, c.if-from-held.true))) stopped)
+
+pub try_arc-drops-requires : goal.try_arc-drops-requires
+try_arc-drops-requires t c = (
+  c.requires.i_lt_arcs,
+  head_in c.args.columns.now.fits c.requires.i_lt_arcs c.from-h.ensures,
+  low_more (omega (arith, c.requires.begun.room, c.args.columns.now.fits.ground.few)) c.requires.begun.sums_low,
+)
+
+pub try_arc-returns-then-drops-clause-ends : goal.try_arc-returns-then-drops-clause-ends
+try_arc-returns-then-drops-clause-ends t c = λ net s' t' v seen z l from to g.
+    let off = rw g.nodes_are at (flag_off c.from-h.result c.requires.begun.flagged c.if-used-h-ne0.false) in
+    at_node c.args.task.limit _ net s' t' v seen z (head_is c.args.columns.now.fits c.requires.i_lt_arcs c.from-h.ensures)
+    (ends_as
+    (at_dropped c.args.task.limit _ net s' t' seen v c.from-h.result z off (omega (arith, g.matches.tried_is, c.from.ensures, c.if-from-held.false))
+    (rule_drops c.args.columns.now c.args.task c.args.partial.now c.args.i c.from-h.result c.requires.i_lt_arcs c.from-h.ensures g c.requires.begun l from to c.drops.ensures ∙ c.if-drops.true))
+    (goes (matches_counted g.matches)))
+
 pub try_arc-bounds-used-h-2 : goal.try_arc-bounds-used-h-2
-try_arc-bounds-used-h-2 t c =
-    let node_is : (get_or c.args.star.now (c.args.partial.arcs + c.args.i) 0) ≡ get_or (heads_of c.args.partial.arcs c.args.star.now) c.args.i 0 = head_at c.requires.fits c.args.i c.requires.i_lt_arcs in
-    let head_in : c.args.i < length (heads_of c.args.partial.arcs c.args.star.now) = omega (arith, heads_long c.requires.fits, c.requires.i_lt_arcs) in
-    let node_in : (get_or c.args.star.now (c.args.partial.arcs + c.args.i) 0) < length c.args.used.now = omega (arith, node_is, c.requires.fits.ground.head_in c.args.i head_in) in
-    node_in
+try_arc-bounds-used-h-2 t c = omega (arith, head_in c.args.columns.now.fits c.requires.i_lt_arcs c.from-h.ensures, c.requires.begun.used_long)
 
-pub try_arc-offset_bounds-route-depth : goal.try_arc-offset_bounds-route-depth
-try_arc-offset_bounds-route-depth t c =
-    let node_is : (get_or c.args.star.now (c.args.partial.arcs + c.args.i) 0) ≡ get_or (heads_of c.args.partial.arcs c.args.star.now) c.args.i 0 = head_at c.requires.fits c.args.i c.requires.i_lt_arcs in
-    let head_in : c.args.i < length (heads_of c.args.partial.arcs c.args.star.now) = omega (arith, heads_long c.requires.fits, c.requires.i_lt_arcs) in
-    let node_in : (get_or c.args.star.now (c.args.partial.arcs + c.args.i) 0) < length c.args.used.now = omega (arith, node_is, c.requires.fits.ground.head_in c.args.i head_in) in
-    let node_from : 1 ≤ (get_or c.args.star.now (c.args.partial.arcs + c.args.i) 0) = omega (arith, node_is, c.requires.fits.ground.head_from c.args.i head_in) in
-    let free : get_or c.args.used.now (get_or c.args.star.now (c.args.partial.arcs + c.args.i) 0) 0 ≡ 0 = c.if-used-h-ne0.false in
-    let room : c.args.partial.depth + 1 < length c.args.used.now = more_room (get_or c.args.star.now (c.args.partial.arcs + c.args.i) 0) c.requires.begun node_from node_in free in
-    omega (arith, room, c.requires.fits.ground.few)
-
-pub try_arc-bounds-route-depth : goal.try_arc-bounds-route-depth
-try_arc-bounds-route-depth t c =
-    let node_is : (get_or c.args.star.now (c.args.partial.arcs + c.args.i) 0) ≡ get_or (heads_of c.args.partial.arcs c.args.star.now) c.args.i 0 = head_at c.requires.fits c.args.i c.requires.i_lt_arcs in
-    let head_in : c.args.i < length (heads_of c.args.partial.arcs c.args.star.now) = omega (arith, heads_long c.requires.fits, c.requires.i_lt_arcs) in
-    let node_in : (get_or c.args.star.now (c.args.partial.arcs + c.args.i) 0) < length c.args.used.now = omega (arith, node_is, c.requires.fits.ground.head_in c.args.i head_in) in
-    let node_from : 1 ≤ (get_or c.args.star.now (c.args.partial.arcs + c.args.i) 0) = omega (arith, node_is, c.requires.fits.ground.head_from c.args.i head_in) in
-    let free : get_or c.args.used.now (get_or c.args.star.now (c.args.partial.arcs + c.args.i) 0) 0 ≡ 0 = c.if-used-h-ne0.false in
-    let room : c.args.partial.depth + 1 < length c.args.used.now = more_room (get_or c.args.star.now (c.args.partial.arcs + c.args.i) 0) c.requires.begun node_from node_in free in
-    omega (arith, room, c.requires.begun.route_long)
-
-pub try_arc-overflow_add-next : goal.try_arc-overflow_add-next
-try_arc-overflow_add-next t c =
-    let node_is : (get_or c.args.star.now (c.args.partial.arcs + c.args.i) 0) ≡ get_or (heads_of c.args.partial.arcs c.args.star.now) c.args.i 0 = head_at c.requires.fits c.args.i c.requires.i_lt_arcs in
-    let head_in : c.args.i < length (heads_of c.args.partial.arcs c.args.star.now) = omega (arith, heads_long c.requires.fits, c.requires.i_lt_arcs) in
-    let node_in : (get_or c.args.star.now (c.args.partial.arcs + c.args.i) 0) < length c.args.used.now = omega (arith, node_is, c.requires.fits.ground.head_in c.args.i head_in) in
-    let node_from : 1 ≤ (get_or c.args.star.now (c.args.partial.arcs + c.args.i) 0) = omega (arith, node_is, c.requires.fits.ground.head_from c.args.i head_in) in
-    let free : get_or c.args.used.now (get_or c.args.star.now (c.args.partial.arcs + c.args.i) 0) 0 ≡ 0 = c.if-used-h-ne0.false in
-    let room : c.args.partial.depth + 1 < length c.args.used.now = more_room (get_or c.args.star.now (c.args.partial.arcs + c.args.i) 0) c.requires.begun node_from node_in free in
-    omega (arith, room, c.requires.fits.ground.few)
-
-pub try_arc-lengthen-requires : goal.try_arc-lengthen-requires
-try_arc-lengthen-requires t c =
-    let low_200 : Low 200 c.args.partial.sums = low_more (omega (arith, c.requires.begun.room, c.requires.fits.ground.few)) c.requires.begun.sums_low in
-    (c.requires.fits.ground.rows.columns_to, (star_rows c.requires.fits).costs_long, c.requires.i_lt_arcs, low_200)
+pub try_arc-bounds-route-partial : goal.try_arc-bounds-route-partial
+try_arc-bounds-route-partial t c =
+    let fits = c.args.columns.now.fits in
+    omega (arith, more_room c.from-h.result c.requires.begun (head_from fits c.requires.i_lt_arcs c.from-h.ensures) (head_in fits c.requires.i_lt_arcs c.from-h.ensures) c.if-used-h-ne0.false, c.requires.begun.route_long)
 
 pub try_arc-descend-run-requires : goal.try_arc-descend-run-requires
 try_arc-descend-run-requires t c =
-    let node_is : (get_or c.args.star.now (c.args.partial.arcs + c.args.i) 0) ≡ get_or (heads_of c.args.partial.arcs c.args.star.now) c.args.i 0 = head_at c.requires.fits c.args.i c.requires.i_lt_arcs in
-    let head_in : c.args.i < length (heads_of c.args.partial.arcs c.args.star.now) = omega (arith, heads_long c.requires.fits, c.requires.i_lt_arcs) in
-    let node_in : (get_or c.args.star.now (c.args.partial.arcs + c.args.i) 0) < length c.args.used.now = omega (arith, node_is, c.requires.fits.ground.head_in c.args.i head_in) in
-    let node_from : 1 ≤ (get_or c.args.star.now (c.args.partial.arcs + c.args.i) 0) = omega (arith, node_is, c.requires.fits.ground.head_from c.args.i head_in) in
-    let free : get_or c.args.used.now (get_or c.args.star.now (c.args.partial.arcs + c.args.i) 0) 0 ≡ 0 = c.if-used-h-ne0.false in
-    let room : c.args.partial.depth + 1 < length c.args.used.now = more_room (get_or c.args.star.now (c.args.partial.arcs + c.args.i) 0) c.requires.begun node_from node_in free in
-    let flags_long : length (set c.args.used.now (get_or c.args.star.now (c.args.partial.arcs + c.args.i) 0) 1) ≡ length c.args.used.now = length-set c.args.used.now (get_or c.args.star.now (c.args.partial.arcs + c.args.i) 0) 1 in (
-      omega (arith, c.decreases, room, flags_long),
-      (
-        rw flags_long c.requires.fits,
-        (
-          rw flags_long (begun_more (get_or c.args.star.now (c.args.partial.arcs + c.args.i) 0) c.requires.begun node_from node_in free (c.lengthen.ensures.low c.args.partial.depth c.requires.begun.sums_low)),
-          omega (arith, node_in, flags_long),
-        ),
-      ),
+    let fits = c.args.columns.now.fits in
+    let from = head_from fits c.requires.i_lt_arcs c.from-h.ensures in
+    let inside = head_in fits c.requires.i_lt_arcs c.from-h.ensures in (
+      omega (arith, c.decreases, more_room c.from-h.result c.requires.begun from inside c.if-used-h-ne0.false),
+      (rw (← c.from-h.ensures) (begun_more c.from-h.result c.requires.begun from inside c.if-used-h-ne0.false (c.lengthen.ensures.low c.args.partial.now.depth c.requires.begun.sums_low)), inside),
     )
 
 pub try_arc-bounds-used-h-3 : goal.try_arc-bounds-used-h-3
-try_arc-bounds-used-h-3 t c =
-    let node_is : (get_or c.args.star.now (c.args.partial.arcs + c.args.i) 0) ≡ get_or (heads_of c.args.partial.arcs c.args.star.now) c.args.i 0 = head_at c.requires.fits c.args.i c.requires.i_lt_arcs in
-    let head_in : c.args.i < length (heads_of c.args.partial.arcs c.args.star.now) = omega (arith, heads_long c.requires.fits, c.requires.i_lt_arcs) in
-    let node_in : (get_or c.args.star.now (c.args.partial.arcs + c.args.i) 0) < length c.args.used.now = omega (arith, node_is, c.requires.fits.ground.head_in c.args.i head_in) in
-    let flags_long : length (set c.args.used.now (get_or c.args.star.now (c.args.partial.arcs + c.args.i) 0) 1) ≡ length c.args.used.now = length-set c.args.used.now (get_or c.args.star.now (c.args.partial.arcs + c.args.i) 0) 1 in
-    omega (arith, ap length c.descend-run.ensures.kept.flags, flags_long, node_in)
+try_arc-bounds-used-h-3 t c = omega (arith, head_in c.args.columns.now.fits c.requires.i_lt_arcs c.from-h.ensures, c.requires.begun.used_long, ap length c.descend-run.ensures.kept.flags, length-set c.args.used.now c.from-h.result 1)
 
-pub try_arc-shape_of-route : goal.try_arc-shape_of-route
-try_arc-shape_of-route t c = omega (arith, c.descend-run.auto, length-set c.args.route.now c.args.partial.depth (get_or c.args.star.now (c.args.partial.arcs + c.args.i) 0))
+pub try_arc-returns-clause-kept : goal.try_arc-returns-clause-kept
+try_arc-returns-clause-kept t c =
+    let fits = c.args.columns.now.fits in
+    kept_back c.from-h.result c.requires.begun (head_from fits c.requires.i_lt_arcs c.from-h.ensures) (head_in fits c.requires.i_lt_arcs c.from-h.ensures) c.if-used-h-ne0.false (rw (← c.from-h.ensures) at c.descend-run.ensures.kept)
 
-pub try_arc-shape_of-used : goal.try_arc-shape_of-used
-try_arc-shape_of-used t c =
-    let flags_long : length (set c.args.used.now (get_or c.args.star.now (c.args.partial.arcs + c.args.i) 0) 1) ≡ length c.args.used.now = length-set c.args.used.now (get_or c.args.star.now (c.args.partial.arcs + c.args.i) 0) 1 in
-    simp length-set (omega (arith, ap length c.descend-run.ensures.kept.flags, flags_long))
-
-pub try_arc-returns : goal.try_arc-returns
-try_arc-returns t c =
-    let node_is : (get_or c.args.star.now (c.args.partial.arcs + c.args.i) 0) ≡ get_or (heads_of c.args.partial.arcs c.args.star.now) c.args.i 0 = head_at c.requires.fits c.args.i c.requires.i_lt_arcs in
-    let head_in : c.args.i < length (heads_of c.args.partial.arcs c.args.star.now) = omega (arith, heads_long c.requires.fits, c.requires.i_lt_arcs) in
-    let node_in : (get_or c.args.star.now (c.args.partial.arcs + c.args.i) 0) < length c.args.used.now = omega (arith, node_is, c.requires.fits.ground.head_in c.args.i head_in) in
-    let node_from : 1 ≤ (get_or c.args.star.now (c.args.partial.arcs + c.args.i) 0) = omega (arith, node_is, c.requires.fits.ground.head_from c.args.i head_in) in
-    let free : get_or c.args.used.now (get_or c.args.star.now (c.args.partial.arcs + c.args.i) 0) 0 ≡ 0 = c.if-used-h-ne0.false in
-    let room : c.args.partial.depth + 1 < length c.args.used.now = more_room (get_or c.args.star.now (c.args.partial.arcs + c.args.i) 0) c.requires.begun node_from node_in free in
-    let flags_long : length (set c.args.used.now (get_or c.args.star.now (c.args.partial.arcs + c.args.i) 0) 1) ≡ length c.args.used.now = length-set c.args.used.now (get_or c.args.star.now (c.args.partial.arcs + c.args.i) 0) 1 in
-    let drops_node : (net : Net) (s' t' v : ℕ) (seen : List ℕ) (z : State) → v < length c.args.used.now → get_or (outs_of (length c.args.used.now) c.args.partial.arcs c.args.star.now) v 0 ≤ c.args.i → c.args.i < get_or (outs_of (length c.args.used.now) c.args.partial.arcs c.args.star.now) (v + 1) 0 → GivenIn net s' t' seen z c.args.star.now c.args.costs.now c.args.labels.now c.args.bests.now (length c.args.used.now) c.args.partial v c.args.route.now c.args.path.now c.args.held → dropped net s' t' (laid seen v) v (get_or c.args.star.now (c.args.partial.arcs + c.args.i) 0) z.found ≡ c.drops.result = λ net s' t' v seen z l from to g. ap (λ (h : ℕ). dropped net s' t' (laid seen v) v h z.found) node_is ∙ drops_is g c.requires.fits.ground (omega (arith, c.requires.begun.room, c.requires.fits.ground.few)) c.requires.begun.sums_low c.args.i l from to head_in (star_drops c.requires.fits node_is c.drops.ensures) in
-    let few : c.args.partial.depth ≤ 200 = omega (arith, c.requires.begun.room, c.requires.fits.ground.few) in
-    let drops = star_drops c.requires.fits node_is c.drops.ensures in
-    record {
-      kept = kept_back (get_or c.args.star.now (c.args.partial.arcs + c.args.i) 0) c.requires.begun node_from node_in free c.descend-run.ensures.kept;
-      ends = λ net s' t' v seen z l from to g.
-          let deeper = rw flags_long at (c.descend-run.ensures.ends net s' t' (v ∷ seen) (one_more z)) in
-          let weighs = kept_open g c.requires.fits.ground few c.requires.begun.sums_low c.args.i l from to head_in drops c.if-drops.false in
-          at_node c.args.partial.limit (length c.args.used.now - (c.args.partial.depth + 1)) net s' t' v seen z node_is (ends_as
-          (at_taken c.args.partial.limit _ net s' t' seen v (get_or c.args.star.now (c.args.partial.arcs + c.args.i) 0) z (rw g.nodes_are at (flag_off (get_or c.args.star.now (c.args.partial.arcs + c.args.i) 0) c.requires.begun.flagged free)) (omega (arith, g.matches.tried_is, c.if-limit-tried.false))
-          (drops_node net s' t' v seen z l from to g ∙ c.if-drops.false))
-          (deeper (given_more (get_or c.args.star.now (c.args.partial.arcs + c.args.i) 0) g c.args.i (omega (arith, room, c.requires.begun.route_long)) (star_longer c.requires.fits c.lengthen.ensures) (λ u k. ap (λ (h : ℕ). weight (column net (suc u)) v h) node_is ∙ weighs u k))));
-    }
+pub try_arc-returns-clause-ends : goal.try_arc-returns-clause-ends
+try_arc-returns-clause-ends t c = λ net s' t' v seen z l from to g.
+    let fits = c.args.columns.now.fits in
+    let off = rw g.nodes_are at (flag_off c.from-h.result c.requires.begun.flagged c.if-used-h-ne0.false) in
+    let deeper = rw (← c.from-h.ensures) at (c.descend-run.ensures.ends net s' t' (v ∷ seen) (one_more z)) in
+    let room = more_room c.from-h.result c.requires.begun (head_from fits c.requires.i_lt_arcs c.from-h.ensures) (head_in fits c.requires.i_lt_arcs c.from-h.ensures) c.if-used-h-ne0.false in
+    at_node c.args.task.limit _ net s' t' v seen z (head_is fits c.requires.i_lt_arcs c.from-h.ensures)
+    (ends_as
+    (at_taken c.args.task.limit _ net s' t' seen v c.from-h.result z off (omega (arith, g.matches.tried_is, c.from.ensures, c.if-from-held.false))
+    (rule_drops c.args.columns.now c.args.task c.args.partial.now c.args.i c.from-h.result c.requires.i_lt_arcs c.from-h.ensures g c.requires.begun l from to c.drops.ensures ∙ c.if-drops.false))
+    (deeper
+    (given_more c.from-h.result g c.args.i (omega (arith, room, c.requires.begun.route_long)) (star_longer fits c.lengthen.ensures)
+    (weighs c.args.columns.now c.args.task c.args.partial.now c.args.i c.from-h.result c.requires.i_lt_arcs c.from-h.ensures g c.requires.begun l from to c.drops.ensures c.if-drops.false))))

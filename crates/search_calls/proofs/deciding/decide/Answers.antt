@@ -1,6 +1,6 @@
 -- `deciding::decide` lends parts of local arrays: a star, and a place for each cost, node and column. Assumes nothing.
 use native.Mathlib.Omega.{arith}
-use mathlib.Core.Path.{sym, refl}
+use mathlib.Core.Path.{sym}
 use Rattle.terms.proofs.RoomLaws.{part_long}
 use Rattle.loading.specs.Accepted.{Accepted}
 use Rattle.loading.proofs.DecodeLaws.{few_nodes, few_columns}
@@ -12,7 +12,7 @@ pub decide_in-requires : goal.decide_in-requires
 decide_in-requires c =
     let ready : Accepted c.args.network.now.image.now c.args.network.now.sizes = c.args.network.now.accepted in
     let a = ready in
-    record { asks = record { nodes_are = refl; arcs_are = refl; limit_to = omega arith }; ends = c.requires.ends; choice_room = (choice_room a, part_long 201 _ (places_fit a)); n_in_bounds = (omega (arith, few_nodes a), omega (arith, a.nodes_are, c.requires.path_len)) }
+    record { ends = c.requires.ends; choice_room = (choice_room a, part_long 201 _ (places_fit a)); n_in_bounds = (omega (arith, few_nodes a), omega (arith, a.nodes_are, c.requires.path_len)) }
 
 pub overflow_cast-task : goal.overflow_cast-task
 overflow_cast-task c =

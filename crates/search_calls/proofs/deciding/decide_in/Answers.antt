@@ -14,4 +14,4 @@ pub decide_shared-requires : goal.decide_shared-requires
 decide_shared-requires c =
     let stars : star_size c.args.network.now.sizes.n c.load_common-m.result ≡ 3 * c.load_common-m.result + length c.args.overall.now + 1 + length c.args.overall.now = ap (λ (x : ℕ). 3 * c.load_common-m.result + x + 1 + x) (sym c.requires.choice_room.1) in
     let all = ap (λ (x : ℕ). c.load_common-m.result * x) (sym c.requires.choice_room.0.bests_long) in
-    record { asks = c.requires.asks; ends = c.requires.ends; shared = (subst₂ (λ (x y : ℕ). Shared (net_of c.args.network.now.image.now) c.load_common-m.result (take x c.load_common-m.new.star) (take y c.load_common-m.new.costs)) stars all c.load_common-m.ensures.1, c.requires.choice_room.1, c.requires.choice_room.0.bests_long); n_in_bounds = c.requires.n_in_bounds }
+    record { ends = c.requires.ends; shared = (subst₂ (λ (x y : ℕ). Shared (net_of c.args.network.now.image.now) c.load_common-m.result (take x c.load_common-m.new.star) (take y c.load_common-m.new.costs)) stars all c.load_common-m.ensures.1, c.requires.choice_room.1, c.requires.choice_room.0.bests_long); n_in_bounds = c.requires.n_in_bounds }

@@ -24,19 +24,19 @@ pub returns-then-overall-start : goal.returns-then-overall-start
 unfolding decided_rows
 returns-then-overall-start c =
     let labelled : Labelled c.args.network.now.sizes.n c.args.m c.args.star.now c.args.costs.now c.args.task.goal 1 c.label_nodes.new.overall = first_labelled (c.label_nodes.auto.overall ∙ c.requires.shared.1) c.label_nodes.ensures in
-    let e = then_fault (limit_of c.args.network.now.image.now c.args.task.start c.args.task.goal c.args.task.limit) (unreached_row (admitted c.args.network.now.accepted) c.args.network.now.accepted.columns_are c.requires.shared.0 c.args.network.now.accepted.nodes_are c.requires.ends (omega arith) (column_bounds c.args.network.now.accepted).0 labelled c.if-overall-start.true) in
+    let e = then_fault (limit_of c.args.network.now.image.now c.args.task.start c.args.task.goal c.args.task.limit) (unreached_row (admitted c.args.network.now.accepted) c.args.network.now.accepted.columns_are c.requires.shared.0 c.args.network.now.accepted.nodes_are c.requires.ends (omega arith) (column_bounds c.args.network.now.accepted).0 labelled (rw c.from-start.ensures at c.if-overall-start.true)) in
     record { result_value = sym (outcome_fault _ e); path_after = sym (after_fault _ _ e) }
 
 pub answer-requires : goal.answer-requires
 answer-requires c =
     let labelled : Labelled c.args.network.now.sizes.n c.args.m c.args.star.now c.args.costs.now c.args.task.goal 1 c.label_nodes.new.overall = first_labelled (c.label_nodes.auto.overall ∙ c.requires.shared.1) c.label_nodes.ensures in
-    record { asks = c.requires.asks; reached = reached (admitted c.args.network.now.accepted) c.args.network.now.accepted.columns_are c.requires.shared.0 c.args.network.now.accepted.nodes_are c.requires.ends (omega arith) (column_bounds c.args.network.now.accepted).0 labelled c.if-overall-start.false; shared = (c.requires.shared.0, c.requires.shared.2); n_in_bounds = c.requires.n_in_bounds }
+    record { reached = reached (admitted c.args.network.now.accepted) c.args.network.now.accepted.columns_are c.requires.shared.0 c.args.network.now.accepted.nodes_are c.requires.ends (omega arith) (column_bounds c.args.network.now.accepted).0 labelled (rw c.from-start.ensures at c.if-overall-start.false); shared = (c.requires.shared.0, c.requires.shared.2); n_in_bounds = c.requires.n_in_bounds }
 
 pub returns : goal.returns
 unfolding decided_rows
 returns c =
     let labelled : Labelled c.args.network.now.sizes.n c.args.m c.args.star.now c.args.costs.now c.args.task.goal 1 c.label_nodes.new.overall = first_labelled (c.label_nodes.auto.overall ∙ c.requires.shared.1) c.label_nodes.ensures in
-    let e = sym (then_next (limit_of c.args.network.now.image.now c.args.task.start c.args.task.goal c.args.task.limit) (reached_row (admitted c.args.network.now.accepted) c.args.network.now.accepted.columns_are c.requires.shared.0 c.args.network.now.accepted.nodes_are c.requires.ends (omega arith) (column_bounds c.args.network.now.accepted).0 labelled c.if-overall-start.false)) in
+    let e = sym (then_next (limit_of c.args.network.now.image.now c.args.task.start c.args.task.goal c.args.task.limit) (reached_row (admitted c.args.network.now.accepted) c.args.network.now.accepted.columns_are c.requires.shared.0 c.args.network.now.accepted.nodes_are c.requires.ends (omega arith) (column_bounds c.args.network.now.accepted).0 labelled (rw c.from-start.ensures at c.if-overall-start.false))) in
     record { result_value = c.answer.ensures.result_value ∙ ap (λ f. outcome f (search_values c.args.network.now.image.now c.args.task.start c.args.task.goal)) e; path_after = c.answer.ensures.path_after ∙ ap (λ f. after f (search_path c.args.network.now.image.now c.args.task.start c.args.task.goal) c.args.path.now) e }
 
 pub slice_bounds-label_nodes-end : goal.slice_bounds-label_nodes-end

@@ -13,7 +13,7 @@ search_tables-requires c =
     let ready : Accepted c.args.network.now.image.now c.args.network.now.sizes = c.args.network.now.accepted in
     let rows_fit : c.args.network.now.sizes.k * (c.args.network.now.sizes.n + 1) ≤ 1608 = mul-le-mul (few_columns ready) (places_fit ready) in
     let a = ready in
-    record { asks = c.requires.asks; reached = c.requires.reached; table_room = (record { star_long = part_long 3403 _ (star_fits a); costs_long = part_long 8000 _ (all_fit a); labels_long = part_long 1608 _ rows_fit; bests_long = part_long 8 _ (few_columns a) }, c.requires.n_in_bounds) }
+    record { reached = c.requires.reached; table_room = (record { star_long = part_long 3403 _ (star_fits a); costs_long = part_long 8000 _ (all_fit a); labels_long = part_long 1608 _ rows_fit; bests_long = part_long 8 _ (few_columns a) }, c.requires.n_in_bounds) }
 
 pub slice_bounds-star-end : goal.slice_bounds-star-end
 slice_bounds-star-end c =
