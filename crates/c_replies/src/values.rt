@@ -94,13 +94,6 @@ impl Values for search_calls::Found {
     ghost values = { search.found_list };
 
     fn in_reply(self) -> [u32; 6] {
-        [
-            self.length,
-            self.figure,
-            self.worst,
-            self.tried,
-            0,
-            0,
-        ]
+        [self.length, self.figure, self.worst, self.tried, 0, 0]
     }
 }

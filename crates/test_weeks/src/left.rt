@@ -1,9 +1,9 @@
 // What is left of a network without its closed arcs: its lists, Robust on their image, and each column's best.
 use super::map::is_closed;
 use arrayvec::ArrayVec;
-use network_calls::robust::robust;
 use image::Refusal;
 use network_calls::Decision;
+use network_calls::robust::robust;
 use test_calls::rank_calls::{Request, WORK_PLACES};
 use test_enumerate::{Costs, Paths};
 use test_fixtures::networks::SmallNetwork;
