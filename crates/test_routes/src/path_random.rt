@@ -33,11 +33,12 @@ fn note_first(
     paths: &[Path],
 ) -> Report {
     let room = n as usize + 9 * (u % 2) as usize;
-    let Some(Path { row, costs }) = test_enumerate::first_open(u, paths) else {
+    let Some(path) = test_enumerate::first_open(u, paths) else {
         let agrees = shortest_agrees(image, u, start, goal, room, refusal(15, 0), &[]);
         return report.note(Call::Shortest, agrees);
     };
-    let cost = test_enumerate::in_column(costs, u);
+    let cost = test_enumerate::in_column(path.costs, u);
+    let row = path.row;
     let length = test_enumerate::length(row);
     let found = pair(count(length), narrow(cost));
     let agrees = shortest_agrees(image, u, start, goal, room, found, &row[..length]);
