@@ -66,13 +66,11 @@ fn check_arcs(records: &[u8], n: u32, m: usize) -> Result<(), Refusal>
     ensures { verdict result ≡ arcs_fault n (0, 0) 0 (pairs m (decode 2 (2 * m) records.now)) }
 {
     let mut last = (0, 0);
-    let mut i: usize = 0;
-    while i < m {
+    for i in 0..m {
         let tail = read16(records, 4 * i);
         let head = read16(records, 4 * i + 2);
         check_arc(n, last, i as u32, (tail, head))?;
         last = (tail, head);
-        i += 1;
     }
     Ok(())
 }
@@ -82,12 +80,10 @@ fn check_costs(costs: &[u8], count: usize, edition: u32) -> Result<(), Refusal>
     requires { (4 * count ≤ length costs.now) × (count ≤ 8000) }
     ensures { verdict result ≡ costs_fault edition 0 (decode 4 count costs.now) }
 {
-    let mut i: usize = 0;
-    while i < count {
+    for i in 0..count {
         if !is_cost(edition, read32(costs, 4 * i)) {
             return Err(Refusal::CostTooLarge(i as u32));
         }
-        i += 1;
     }
     Ok(())
 }

@@ -9,9 +9,7 @@ pub fn read_costs(source: &[u8], count: usize, costs: &mut [u32])
     requires { (4 * count ≤ length source.now) × (count ≤ length costs.old) }
     ensures { costs.new ≡ decode 4 count source.now ++ drop count costs.old }
 {
-    let mut i = 0;
-    while i < count {
+    for i in 0..count {
         costs[i] = read32(source, 4 * i);
-        i += 1;
     }
 }

@@ -20,13 +20,11 @@ fn check_arc_list(nodes: &[u16], n: u32, m: usize) -> Result<(), Refusal>
     ensures { verdict result ≡ arcs_fault n (0, 0) 0 (pairs m nodes.now) }
 {
     let mut last = (0, 0);
-    let mut i: usize = 0;
-    while i < m {
+    for i in 0..m {
         let tail = nodes[2 * i] as u32;
         let head = nodes[2 * i + 1] as u32;
         check_arc(n, last, i as u32, (tail, head))?;
         last = (tail, head);
-        i += 1;
     }
     Ok(())
 }
@@ -36,12 +34,10 @@ fn check_cost_list(costs: &[u32], edition: u32) -> Result<(), Refusal>
     requires { length costs.now ≤ 8000 }
     ensures { verdict result ≡ costs_fault edition 0 costs.now }
 {
-    let mut i: usize = 0;
-    while i < costs.len() {
-        if !is_cost(edition, costs[i]) {
+    for (i, &cost) in costs.iter().enumerate() {
+        if !is_cost(edition, cost) {
             return Err(Refusal::CostTooLarge(i as u32));
         }
-        i += 1;
     }
     Ok(())
 }
@@ -95,10 +91,8 @@ fn write_nodes(image: &mut [u8], start: usize, nodes: &[u16])
     requires { start + 2 * length nodes.now ≤ length image.old }
     ensures { image.new ≡ take start image.old ++ (encode 2 nodes.now ++ drop (start + 2 * length nodes.now) image.old) }
 {
-    let mut i = 0;
-    while i < nodes.len() {
-        write16(image, start + 2 * i, nodes[i] as u32);
-        i += 1;
+    for (i, &node) in nodes.iter().enumerate() {
+        write16(image, start + 2 * i, node as u32);
     }
 }
 
@@ -107,10 +101,8 @@ fn write_costs(image: &mut [u8], start: usize, costs: &[u32])
     requires { start + 4 * length costs.now ≤ length image.old }
     ensures { image.new ≡ take start image.old ++ (encode 4 costs.now ++ drop (start + 4 * length costs.now) image.old) }
 {
-    let mut i = 0;
-    while i < costs.len() {
-        write32(image, start + 4 * i, costs[i]);
-        i += 1;
+    for (i, &cost) in costs.iter().enumerate() {
+        write32(image, start + 4 * i, cost);
     }
 }
 

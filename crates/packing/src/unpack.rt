@@ -15,10 +15,8 @@ fn read_nodes(source: &[u8], count: usize, nodes: &mut [u16])
     requires { (2 * count ≤ length source.now) × (count ≤ length nodes.old) }
     ensures { nodes.new ≡ decode 2 count source.now ++ drop count nodes.old }
 {
-    let mut i = 0;
-    while i < count {
+    for i in 0..count {
         nodes[i] = read16(source, 2 * i) as u16;
-        i += 1;
     }
 }
 

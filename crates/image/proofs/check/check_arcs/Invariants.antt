@@ -8,6 +8,3 @@ use Rattle.image.proofs.check.check_arcs.Given as goal
 
 abbrev pub invariant-loop-i : goal.invariant-loop-i
 invariant-loop-i l = (l.i ≤ l.m) × (arcs_fault l.n (0, 0) 0 (pairs l.m (decode 2 (2 * l.m) l.records)) ≡ arcs_fault l.n l.last l.i (drop l.i (pairs l.m (decode 2 (2 * l.m) l.records))))
-
-abbrev pub decreases-loop-i : goal.decreases-loop-i
-decreases-loop-i l = l.m - l.i

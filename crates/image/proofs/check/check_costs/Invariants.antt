@@ -8,6 +8,3 @@ use Rattle.image.proofs.check.check_costs.Given as goal
 
 abbrev pub invariant-loop-i : goal.invariant-loop-i
 invariant-loop-i l = (l.i ≤ l.count) × (costs_fault l.edition 0 (decode 4 l.count l.costs) ≡ costs_fault l.edition l.i (drop l.i (decode 4 l.count l.costs)))
-
-abbrev pub decreases-loop-i : goal.decreases-loop-i
-decreases-loop-i l = l.count - l.i

@@ -8,6 +8,3 @@ use Rattle.image.proofs.reading.read_costs.Given as goal
 
 abbrev pub invariant-loop-i : goal.invariant-loop-i
 invariant-loop-i l = (l.i ≤ l.count) × (length l.costs ≡ length l.initial.costs) × (l.costs ≡ take l.i (decode 4 l.count l.source) ++ drop l.i l.initial.costs)
-
-abbrev pub decreases-loop-i : goal.decreases-loop-i
-decreases-loop-i l = l.count - l.i

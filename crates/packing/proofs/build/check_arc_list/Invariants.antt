@@ -7,6 +7,3 @@ use Rattle.packing.proofs.build.check_arc_list.Given as goal
 
 abbrev pub invariant-loop-i : goal.invariant-loop-i
 invariant-loop-i l = (l.i ≤ l.m) × (arcs_fault l.n (0, 0) 0 (pairs l.m l.nodes) ≡ arcs_fault l.n l.last l.i (drop l.i (pairs l.m l.nodes)))
-
-abbrev pub decreases-loop-i : goal.decreases-loop-i
-decreases-loop-i l = l.m - l.i

@@ -7,6 +7,3 @@ use Rattle.packing.proofs.build.check_cost_list.Given as goal
 
 abbrev pub invariant-loop-i : goal.invariant-loop-i
 invariant-loop-i l = (l.i ≤ length l.costs) × (costs_fault l.edition 0 l.costs ≡ costs_fault l.edition l.i (drop l.i l.costs))
-
-abbrev pub decreases-loop-i : goal.decreases-loop-i
-decreases-loop-i l = length l.costs - l.i

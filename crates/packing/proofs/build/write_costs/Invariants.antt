@@ -8,6 +8,3 @@ use Rattle.packing.proofs.build.write_costs.Given as goal
 
 abbrev pub invariant-loop-i : goal.invariant-loop-i
 invariant-loop-i l = (l.i ≤ length l.costs) × (length l.image ≡ length l.initial.image) × (l.image ≡ (take l.start l.initial.image ++ encode 4 (take l.i l.costs)) ++ drop (l.start + 4 * l.i) l.initial.image)
-
-abbrev pub decreases-loop-i : goal.decreases-loop-i
-decreases-loop-i l = length l.costs - l.i

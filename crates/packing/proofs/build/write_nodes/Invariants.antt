@@ -8,6 +8,3 @@ use Rattle.packing.proofs.build.write_nodes.Given as goal
 
 abbrev pub invariant-loop-i : goal.invariant-loop-i
 invariant-loop-i l = (l.i ≤ length l.nodes) × (length l.image ≡ length l.initial.image) × (l.image ≡ (take l.start l.initial.image ++ encode 2 (take l.i l.nodes)) ++ drop (l.start + 2 * l.i) l.initial.image)
-
-abbrev pub decreases-loop-i : goal.decreases-loop-i
-decreases-loop-i l = length l.nodes - l.i

@@ -8,6 +8,3 @@ use Rattle.packing.proofs.unpack.read_nodes.Given as goal
 
 abbrev pub invariant-loop-i : goal.invariant-loop-i
 invariant-loop-i l = (l.i ≤ l.count) × (length l.nodes ≡ length l.initial.nodes) × (l.nodes ≡ take l.i (decode 2 l.count l.source) ++ drop l.i l.initial.nodes)
-
-abbrev pub decreases-loop-i : goal.decreases-loop-i
-decreases-loop-i l = l.count - l.i
