@@ -5,7 +5,7 @@ ghost use Rattle.branching.specs.Branches.{everything};
 ghost use Rattle.branching.specs.Found.{Idle, Ends, Extent, FirstFound};
 ghost use Rattle.star.specs.Layout.{graph_of, Network};
 
-use crate::first::{Found, along};
+use crate::first::{Tail, along};
 use exits::least_exit;
 use star::Graph;
 
@@ -19,7 +19,7 @@ fn shortest_in(
     used: &mut [u8],
     barred: &[u8],
     path: &mut [u16],
-) -> Found
+) -> Option<Tail>
     requires network { Network (length used.old) star.now weights.now }
     requires idle { Idle (length used.old) used.old barred.now × (length used.old ≤ length path.old + 1) }
     requires ends { Ends (length used.old) start goal }
@@ -36,7 +36,7 @@ fn shortest_in(
         weights,
     };
     let Some(step) = least_exit(&graph, v, overall, used, barred) else {
-        return Found::Empty;
+        return None;
     };
     along(star, weights, goal, overall, used, barred, path, 1, step)
 }
@@ -49,7 +49,7 @@ pub fn shortest(
     goal: usize,
     overall: &[u64],
     path: &mut [u16],
-) -> Found
+) -> Option<Tail>
     requires network { Network (length overall.now) star.now weights.now }
     requires ends { Ends (length overall.now) start goal × (length overall.now ≤ length path.old + 1) }
     requires least { Least (graph_of star.now weights.now) [] goal overall.now }

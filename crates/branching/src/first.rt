@@ -17,12 +17,11 @@ use labels::least;
 use sharpening::{LONGEST, Quest, sharpen};
 use star::Graph;
 
-#[derive(Clone, Copy)]
-pub enum Found {
-    // The length of the path, and what its tail costs, from the end of the beginning on.
-    Tail(usize, u64),
-    // The branch has no path, or none that is wanted.
-    Empty,
+// The path of a branch: its length, and what it costs from the end of the beginning on.
+#[derive(Clone, Copy, Debug, PartialEq, Eq)]
+pub struct Tail {
+    pub len: usize,
+    pub cost: u64,
 }
 
 // From path[at - 1], each step to the node that labels made anew show to be the next.
@@ -98,7 +97,7 @@ fn by_labels(
     path: &mut [u16],
     d: usize,
     labels: &mut [u64],
-) -> Found
+) -> Option<Tail>
     requires network { Network (length used.old) star.now weights.now }
     requires begun { Begun (length used.old) used.old barred.now path.old d }
     requires ahead { Ahead (length used.old) goal used.old }
@@ -114,13 +113,19 @@ fn by_labels(
     least(&graph, used, goal, labels);
     let v = path[d - 1] as usize;
     let Some(step) = least_exit(&graph, v, labels, used, barred) else {
-        return Found::Empty;
+        return None;
     };
     if let Some(len) = attempt(star, weights, goal, labels, used, path, d, step.node) {
-        return Found::Tail(len, step.rest);
+        return Some(Tail {
+            len,
+            cost: step.rest,
+        });
     }
     let len = by_steps(star, weights, goal, used, path, d, step.node, labels);
-    Found::Tail(len, step.rest)
+    Some(Tail {
+        len,
+        cost: step.rest,
+    })
 }
 
 // The same, with room made for the labels.
@@ -132,7 +137,7 @@ fn exact_path(
     barred: &[u8],
     path: &mut [u16],
     d: usize,
-) -> Found
+) -> Option<Tail>
     requires network { Network (length used.old) star.now weights.now }
     requires begun { Begun (length used.old) used.old barred.now path.old d }
     requires ahead { Ahead (length used.old) goal used.old }
@@ -165,7 +170,7 @@ pub fn along(
     path: &mut [u16],
     d: usize,
     step: Step,
-) -> Found
+) -> Option<Tail>
     requires network { Network (length used.old) star.now weights.now }
     requires begun { Begun (length used.old) used.old barred.now path.old d }
     requires ahead { Ahead (length used.old) goal used.old }
@@ -175,7 +180,10 @@ pub fn along(
     ensures by_index { (s : ℕ) (F : List ℕ) → Beginning (graph_of star.now weights.now) s goal (take d path.old) → Flagged barred.now F → FirstFound (graph_of star.now weights.now) s goal (branch (take d path.old) F) path.new result }
 {
     if let Some(len) = attempt(star, weights, goal, overall, used, path, d, step.node) {
-        return Found::Tail(len, step.rest);
+        return Some(Tail {
+            len,
+            cost: step.rest,
+        });
     }
     exact_path(star, weights, goal, used, barred, path, d)
 }
@@ -200,7 +208,7 @@ fn by_sharper(
     d: usize,
     labels: &mut [u64],
     most: u64,
-) -> Found
+) -> Option<Tail>
     requires network { Network (length used.old) star.now weights.now }
     requires begun { Begun (length used.old) used.old barred.now path.old d }
     requires ahead { Ahead (length used.old) goal used.old }
@@ -225,10 +233,10 @@ fn by_sharper(
         return exact_path(star, weights, goal, used, barred, path, d);
     }
     let Some(step) = least_exit(&graph, v, labels, used, barred) else {
-        return Found::Empty;
+        return None;
     };
     if is_dear(step.rest, most) {
-        return Found::Empty;
+        return None;
     }
     along(star, weights, goal, labels, used, barred, path, d, step)
 }
@@ -244,7 +252,7 @@ fn sharp_path(
     path: &mut [u16],
     d: usize,
     most: u64,
-) -> Found
+) -> Option<Tail>
     requires network { Network (length used.old) star.now weights.now }
     requires begun { Begun (length used.old) used.old barred.now path.old d }
     requires ahead { Ahead (length used.old) goal used.old }
@@ -282,7 +290,7 @@ pub fn first_path(
     d: usize,
     step: Step,
     most: u64,
-) -> Found
+) -> Option<Tail>
     requires network { Network (length used.old) star.now weights.now }
     requires begun { Begun (length used.old) used.old barred.now path.old d }
     requires ahead { Ahead (length used.old) goal used.old }
@@ -292,7 +300,10 @@ pub fn first_path(
     ensures by_index { (s : ℕ) (F : List ℕ) → Beginning (graph_of star.now weights.now) s goal (take d path.old) → Flagged barred.now F → FirstWithin (graph_of star.now weights.now) s goal (branch (take d path.old) F) path.new most result }
 {
     if let Some(len) = attempt(star, weights, goal, overall, used, path, d, step.node) {
-        return Found::Tail(len, step.rest);
+        return Some(Tail {
+            len,
+            cost: step.rest,
+        });
     }
     sharp_path(star, weights, goal, overall, used, barred, path, d, most)
 }

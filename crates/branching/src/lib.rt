@@ -9,4 +9,4 @@ mod walk;
 
 pub use all::shortest;
 pub use exits::Step;
-pub use first::{Found, first_path};
+pub use first::{Tail, first_path};

@@ -25,7 +25,8 @@ use Rattle.image.proofs.NetworkLaws.{accepted_network}
 use Rattle.image.proofs.OutcomeLaws.{then_fault, then_next, then_sound, after_sound}
 use Rattle.branching.specs.Branches.{everything}
 use Rattle.branching.specs.Found.{FirstFound}
-use Rattle.branching.specs.declared.first.Found.{Found}
+use Rattle.std.specs.Prelude.{Option}
+use Rattle.branching.specs.declared.first.Tail.{Tail}
 use Rattle.ranking.specs.Ranking.{Ranked}
 use Rattle.ranking.proofs.ResultLaws.{ranked_count, ranked_cost}
 use Rattle.terms.proofs.PathLaws.{column_within}
@@ -188,7 +189,7 @@ module _ {b : List ℕ} {u s t : ℕ} (accepted : image_fault b ≡ sound) (c : 
     column_costs old e = e ∙ ap₂ (λ g (l : List Route). after sound (map (cost g) l) old) l.graph_is same
 
 -- what is found in the slices is found in the image's column
-pub found_in_column : {net : Net} {u s t : ℕ} {star ws ls path : List ℕ} {r : Found} → Loaded net u t star ws ls → FirstFound (graph_of star ws) s t (everything s) path r → FirstFound (column net u) s t (everything s) path r
+pub found_in_column : {net : Net} {u s t : ℕ} {star ws ls path : List ℕ} {r : Option Tail} → Loaded net u t star ws ls → FirstFound (graph_of star ws) s t (everything s) path r → FirstFound (column net u) s t (everything s) path r
 found_in_column {s = s} {t} {path = path} {r} l f = subst (λ g. FirstFound g s t (everything s) path r) l.graph_is f
 
 -- ---- the entries of the workspace, written out

@@ -7,7 +7,7 @@ ghost use Rattle.loading.specs.Networks.{net};
 ghost use Rattle.loading.specs.Accepted.{InColumn, Ends};
 ghost use Rattle.loading.specs.Loaded.{Room};
 
-use branching::{Found, shortest as first_path};
+use branching::{Tail, shortest as first_path};
 use loading::{Network, load};
 
 // The first path from start to goal in column u, laid out in route, with room for all that the
@@ -21,7 +21,7 @@ fn find_in(
     weights: &mut [u32],
     overall: &mut [u64],
     route: &mut [u16],
-) -> Found
+) -> Option<Tail>
     requires column { InColumn network.now.image.now u }
     requires ends { Ends (net network.now).nodes start goal }
     requires room { Room network.now.sizes.n network.now.sizes.m star.old weights.old overall.old }
@@ -36,7 +36,7 @@ fn find_in(
 }
 
 // The same, with room made for it.
-pub fn find(network: &Network<'_>, u: u32, start: u32, goal: u32, route: &mut [u16]) -> Found
+pub fn find(network: &Network<'_>, u: u32, start: u32, goal: u32, route: &mut [u16]) -> Option<Tail>
     requires column { InColumn network.now.image.now u }
     requires ends { Ends (net network.now).nodes start goal }
     requires route_len { length route.old ≡ (net network.now).nodes }

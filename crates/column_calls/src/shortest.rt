@@ -10,7 +10,7 @@ ghost use Rattle.loading.specs.Networks.{net};
 ghost use Rattle.loading.specs.Accepted.{InColumn, Ends};
 
 use super::first_path::find;
-use branching::Found;
+use branching::Tail;
 use image::{Refusal, Sizes};
 use loading::Network;
 use outcomes::{check_search, write_path};
@@ -56,7 +56,7 @@ fn write_first(
     ensures path_after { path.new ≡ after (path_row network.now.image.now column start goal) (shortest_of network.now.image.now column start goal) path.old }
 {
     let found = find(network, column, start, goal, route);
-    let Found::Tail(len, cost) = found else {
+    let Some(Tail { len, cost }) = found else {
         return Err(Refusal::NoPath);
     };
     write_path(route, len, path);

@@ -10,7 +10,7 @@ ghost use Rattle.ranking.specs.State.{branch_of, taking_over};
 ghost use Rattle.exits.specs.Walks.{Choice};
 
 use crate::query::{Detour, Query};
-use branching::{Found, Step, first_path};
+use branching::{Step, Tail, first_path};
 use candidates::{cost_at, insert, place_for};
 use exits::least_exit;
 use sharpening::LONGEST;
@@ -74,7 +74,7 @@ fn enter(
     let d = detour.d;
     let before = detour.before;
     let most = most_wanted(work, n, slots, count, before);
-    let Found::Tail(len, rest) = first_path(
+    let Some(Tail { len, cost: rest }) = first_path(
         star, weights, query.goal, overall, used, barred, path, d, step, most,
     ) else {
         return count;
