@@ -22,23 +22,23 @@ returns-in_default c =
 
 pub write_path-requires : goal.write_path-requires
 write_path-requires c =
-    let reach : (1 < c.in-Some.len) × (c.in-Some.len ≤ length c.find-found.new.route) = extent_tail c.find-found.ensures.extent c.in-Some.is in
+    let reach : (1 < c.in-Some.field-0.len) × (c.in-Some.field-0.len ≤ length c.find-found.new.route) = extent_tail c.find-found.ensures.extent c.in-Some.is in
     (reach.1, omega (arith, reach.1, c.find-found.auto, c.requires.route_len, c.requires.room))
 
 pub returns : goal.returns
 returns c =
-    let first : let g = column (net_of c.args.network.now.image.now) c.args.column in First g c.args.start c.args.goal (everything c.args.start) (take c.in-Some.len c.find-found.new.route) × (cost g (take c.in-Some.len c.find-found.new.route) ≡ cost g (c.args.start ∷ []) + c.in-Some.cost) = found_tail c.find-found.ensures.first_found c.in-Some.is in
-    let reach : (1 < c.in-Some.len) × (c.in-Some.len ≤ length c.find-found.new.route) = extent_tail c.find-found.ensures.extent c.in-Some.is in
+    let first : let g = column (net_of c.args.network.now.image.now) c.args.column in First g c.args.start c.args.goal (everything c.args.start) (take c.in-Some.field-0.len c.find-found.new.route) × (cost g (take c.in-Some.field-0.len c.find-found.new.route) ≡ cost g (c.args.start ∷ []) + c.in-Some.field-0.cost) = found_tail c.find-found.ensures.first_found c.in-Some.is in
+    let reach : (1 < c.in-Some.field-0.len) × (c.in-Some.field-0.len ≤ length c.find-found.new.route) = extent_tail c.find-found.ensures.extent c.in-Some.is in
     let f = first in
     record { result_value = ap gives (values_are c.args.network.now.accepted.passes c.requires.column c.requires.ends f.0 _ _ refl reach.1 f.1) ∙ sym (outcome_sound _ (path_some c.args.network.now.accepted.passes c.requires.column c.requires.ends f.0)); path_after = c.write_path.ensures ∙ written_is c.args.network.now.accepted.passes c.requires.column c.requires.ends f.0 _ _ refl reach.1 f.1 _ }
 
 pub overflow_cast-result-2 : goal.overflow_cast-result-2
 overflow_cast-result-2 c =
-    let first : let g = column (net_of c.args.network.now.image.now) c.args.column in First g c.args.start c.args.goal (everything c.args.start) (take c.in-Some.len c.find-found.new.route) × (cost g (take c.in-Some.len c.find-found.new.route) ≡ cost g (c.args.start ∷ []) + c.in-Some.cost) = found_tail c.find-found.ensures.first_found c.in-Some.is in
-    let reach : (1 < c.in-Some.len) × (c.in-Some.len ≤ length c.find-found.new.route) = extent_tail c.find-found.ensures.extent c.in-Some.is in
+    let first : let g = column (net_of c.args.network.now.image.now) c.args.column in First g c.args.start c.args.goal (everything c.args.start) (take c.in-Some.field-0.len c.find-found.new.route) × (cost g (take c.in-Some.field-0.len c.find-found.new.route) ≡ cost g (c.args.start ∷ []) + c.in-Some.field-0.cost) = found_tail c.find-found.ensures.first_found c.in-Some.is in
+    let reach : (1 < c.in-Some.field-0.len) × (c.in-Some.field-0.len ≤ length c.find-found.new.route) = extent_tail c.find-found.ensures.extent c.in-Some.is in
     omega (arith, rest_is c.args.network.now.accepted.passes c.requires.column c.requires.ends first.0 _ _ refl reach.1 first.1, path_cost c.args.network.now.accepted.passes c.requires.column c.requires.ends first.0)
 
 pub overflow_cast-result : goal.overflow_cast-result
 overflow_cast-result c =
-    let reach : (1 < c.in-Some.len) × (c.in-Some.len ≤ length c.find-found.new.route) = extent_tail c.find-found.ensures.extent c.in-Some.is in
+    let reach : (1 < c.in-Some.field-0.len) × (c.in-Some.field-0.len ≤ length c.find-found.new.route) = extent_tail c.find-found.ensures.extent c.in-Some.is in
     omega (arith, c.find-found.auto.route, c.requires.route_len, c.args.network.now.accepted.nodes_are, few_nodes c.args.network.now.accepted)

@@ -65,11 +65,11 @@ returns-then-place-slots c =
     let deviation : Deviation c.args.query.n (graph_of c.args.star.now c.args.weights.now) c.args.query.start c.args.query.goal (entries c.args.query.n c.args.work.now c.args.detour.count) c.args.detour.parent c.args.used.now c.args.barred.now c.args.path.now c.args.detour.parent c.args.detour.d c.args.detour.before = c.requires.deviation in
     let restored : Restored c.args.used.now c.args.path.now c.args.detour.d c.first_path.new.used c.first_path.new.path = record { flags = c.first_path.ensures.kept.flags; kept = c.first_path.ensures.kept.kept } in
     let result : FirstWithin (graph_of c.args.star.now c.args.weights.now) c.args.query.start c.args.query.goal (branch (take c.args.detour.d c.args.path.now) (barred (entries c.args.query.n c.args.work.now c.args.detour.count) (taking_over c.args.detour.d c.args.detour.parent))) c.first_path.new.path c.most_wanted-most.result c.first_path.result = let D = deviation in c.first_path.ensures.by_index _ _ D.begins D.flagged in
-    let first : First (graph_of c.args.star.now c.args.weights.now) c.args.query.start c.args.query.goal (branch (take c.args.detour.d c.args.path.now) (barred (entries c.args.query.n c.args.work.now c.args.detour.count) (taking_over c.args.detour.d c.args.detour.parent))) (take c.in-Some.len c.first_path.new.path) × (cost (graph_of c.args.star.now c.args.weights.now) (take c.in-Some.len c.first_path.new.path) ≡ cost (graph_of c.args.star.now c.args.weights.now) (take c.args.detour.d c.args.path.now) + c.in-Some.rest) = within_tail result c.in-Some.is in
-    let extent : (c.args.detour.d < c.in-Some.len) × (c.in-Some.len ≤ length c.first_path.new.path) = extent_tail c.first_path.ensures.kept.reach c.in-Some.is in
+    let first : First (graph_of c.args.star.now c.args.weights.now) c.args.query.start c.args.query.goal (branch (take c.args.detour.d c.args.path.now) (barred (entries c.args.query.n c.args.work.now c.args.detour.count) (taking_over c.args.detour.d c.args.detour.parent))) (take c.in-Some.field-0.len c.first_path.new.path) × (cost (graph_of c.args.star.now c.args.weights.now) (take c.in-Some.field-0.len c.first_path.new.path) ≡ cost (graph_of c.args.star.now c.args.weights.now) (take c.args.detour.d c.args.path.now) + c.in-Some.field-0.cost) = within_tail result c.in-Some.is in
+    let extent : (c.args.detour.d < c.in-Some.field-0.len) × (c.in-Some.field-0.len ≤ length c.first_path.new.path) = extent_tail c.first_path.ensures.kept.reach c.in-Some.is in
     let count_is : length (entries c.args.query.n c.args.work.now c.args.detour.count) ≡ c.args.detour.count = length_entries c.args.query.n c.args.work.now c.args.detour.count in
     let F = filled in
-    record { restored = restored; changed = unchanged F; by_index = settled_out problem deviation c.first_path.new.path c.in-Some.len restored.kept extent.0 extent.1 c.in-Some.rest _ first.0 first.1 refl _ _ F.entered c.place_for-place.ensures c.if-place-slots.true (omega (arith, count_is, F.kept.upto)) }
+    record { restored = restored; changed = unchanged F; by_index = settled_out problem deviation c.first_path.new.path c.in-Some.field-0.len restored.kept extent.0 extent.1 c.in-Some.field-0.cost _ first.0 first.1 refl _ _ F.entered c.place_for-place.ensures c.if-place-slots.true (omega (arith, count_is, F.kept.upto)) }
 
 pub insert-requires : goal.insert-requires
 insert-requires c =
@@ -78,10 +78,10 @@ insert-requires c =
     let deviation : Deviation c.args.query.n (graph_of c.args.star.now c.args.weights.now) c.args.query.start c.args.query.goal (entries c.args.query.n c.args.work.now c.args.detour.count) c.args.detour.parent c.args.used.now c.args.barred.now c.args.path.now c.args.detour.parent c.args.detour.d c.args.detour.before = c.requires.deviation in
     let restored : Restored c.args.used.now c.args.path.now c.args.detour.d c.first_path.new.used c.first_path.new.path = record { flags = c.first_path.ensures.kept.flags; kept = c.first_path.ensures.kept.kept } in
     let result : FirstWithin (graph_of c.args.star.now c.args.weights.now) c.args.query.start c.args.query.goal (branch (take c.args.detour.d c.args.path.now) (barred (entries c.args.query.n c.args.work.now c.args.detour.count) (taking_over c.args.detour.d c.args.detour.parent))) c.first_path.new.path c.most_wanted-most.result c.first_path.result = let D = deviation in c.first_path.ensures.by_index _ _ D.begins D.flagged in
-    let first : First (graph_of c.args.star.now c.args.weights.now) c.args.query.start c.args.query.goal (branch (take c.args.detour.d c.args.path.now) (barred (entries c.args.query.n c.args.work.now c.args.detour.count) (taking_over c.args.detour.d c.args.detour.parent))) (take c.in-Some.len c.first_path.new.path) × (cost (graph_of c.args.star.now c.args.weights.now) (take c.in-Some.len c.first_path.new.path) ≡ cost (graph_of c.args.star.now c.args.weights.now) (take c.args.detour.d c.args.path.now) + c.in-Some.rest) = within_tail result c.in-Some.is in
-    let extent : (c.args.detour.d < c.in-Some.len) × (c.in-Some.len ≤ length c.first_path.new.path) = extent_tail c.first_path.ensures.kept.reach c.in-Some.is in
+    let first : First (graph_of c.args.star.now c.args.weights.now) c.args.query.start c.args.query.goal (branch (take c.args.detour.d c.args.path.now) (barred (entries c.args.query.n c.args.work.now c.args.detour.count) (taking_over c.args.detour.d c.args.detour.parent))) (take c.in-Some.field-0.len c.first_path.new.path) × (cost (graph_of c.args.star.now c.args.weights.now) (take c.in-Some.field-0.len c.first_path.new.path) ≡ cost (graph_of c.args.star.now c.args.weights.now) (take c.args.detour.d c.args.path.now) + c.in-Some.field-0.cost) = within_tail result c.in-Some.is in
+    let extent : (c.args.detour.d < c.in-Some.field-0.len) × (c.in-Some.field-0.len ≤ length c.first_path.new.path) = extent_tail c.first_path.ensures.kept.reach c.in-Some.is in
     let count_is : length (entries c.args.query.n c.args.work.now c.args.detour.count) ≡ c.args.detour.count = length_entries c.args.query.n c.args.work.now c.args.detour.count in
-    record { kept = filled.kept; place_le_count = (omega (arith, c.place_for-place.ensures.upper, count_is), omega (arith, c.place_for-place.ensures.upper, count_is, filled.kept.upto), rest_short problem deviation c.first_path.new.path c.in-Some.len restored.kept extent.0 extent.1 first.0.member.path) }
+    record { kept = filled.kept; place_le_count = (omega (arith, c.place_for-place.ensures.upper, count_is), omega (arith, c.place_for-place.ensures.upper, count_is, filled.kept.upto), rest_short problem deviation c.first_path.new.path c.in-Some.field-0.len restored.kept extent.0 extent.1 first.0.member.path) }
 
 pub returns : goal.returns
 returns c =
@@ -90,8 +90,8 @@ returns c =
     let deviation : Deviation c.args.query.n (graph_of c.args.star.now c.args.weights.now) c.args.query.start c.args.query.goal (entries c.args.query.n c.args.work.now c.args.detour.count) c.args.detour.parent c.args.used.now c.args.barred.now c.args.path.now c.args.detour.parent c.args.detour.d c.args.detour.before = c.requires.deviation in
     let restored : Restored c.args.used.now c.args.path.now c.args.detour.d c.first_path.new.used c.first_path.new.path = record { flags = c.first_path.ensures.kept.flags; kept = c.first_path.ensures.kept.kept } in
     let result : FirstWithin (graph_of c.args.star.now c.args.weights.now) c.args.query.start c.args.query.goal (branch (take c.args.detour.d c.args.path.now) (barred (entries c.args.query.n c.args.work.now c.args.detour.count) (taking_over c.args.detour.d c.args.detour.parent))) c.first_path.new.path c.most_wanted-most.result c.first_path.result = let D = deviation in c.first_path.ensures.by_index _ _ D.begins D.flagged in
-    let first : First (graph_of c.args.star.now c.args.weights.now) c.args.query.start c.args.query.goal (branch (take c.args.detour.d c.args.path.now) (barred (entries c.args.query.n c.args.work.now c.args.detour.count) (taking_over c.args.detour.d c.args.detour.parent))) (take c.in-Some.len c.first_path.new.path) × (cost (graph_of c.args.star.now c.args.weights.now) (take c.in-Some.len c.first_path.new.path) ≡ cost (graph_of c.args.star.now c.args.weights.now) (take c.args.detour.d c.args.path.now) + c.in-Some.rest) = within_tail result c.in-Some.is in
-    let extent : (c.args.detour.d < c.in-Some.len) × (c.in-Some.len ≤ length c.first_path.new.path) = extent_tail c.first_path.ensures.kept.reach c.in-Some.is in
+    let first : First (graph_of c.args.star.now c.args.weights.now) c.args.query.start c.args.query.goal (branch (take c.args.detour.d c.args.path.now) (barred (entries c.args.query.n c.args.work.now c.args.detour.count) (taking_over c.args.detour.d c.args.detour.parent))) (take c.in-Some.field-0.len c.first_path.new.path) × (cost (graph_of c.args.star.now c.args.weights.now) (take c.in-Some.field-0.len c.first_path.new.path) ≡ cost (graph_of c.args.star.now c.args.weights.now) (take c.args.detour.d c.args.path.now) + c.in-Some.field-0.cost) = within_tail result c.in-Some.is in
+    let extent : (c.args.detour.d < c.in-Some.field-0.len) × (c.in-Some.field-0.len ≤ length c.first_path.new.path) = extent_tail c.first_path.ensures.kept.reach c.in-Some.is in
     let count_is : length (entries c.args.query.n c.args.work.now c.args.detour.count) ≡ c.args.detour.count = length_entries c.args.query.n c.args.work.now c.args.detour.count in
     let P = problem in
     let D = deviation in
@@ -101,25 +101,25 @@ returns c =
     let e = extent in
     let f = first in
     let T = F.entered in
-    record { restored = R; changed = changed_put c.insert.ensures (entered_found P D c.first_path.new.path c.in-Some.len R.kept e.0 e.1 c.in-Some.rest _ f.0 f.1 refl _ _ T c.place_for-place.ensures room) (same_found P D c.first_path.new.path c.in-Some.len R.kept e.0 e.1 c.in-Some.rest _ f.0 f.1 refl _ _ T c.place_for-place.ensures room); by_index = λ limit. settled_put c.insert.ensures (settled_found P D c.first_path.new.path c.in-Some.len R.kept e.0 e.1 c.in-Some.rest _ f.0 f.1 refl _ _ T c.place_for-place.ensures limit) }
+    record { restored = R; changed = changed_put c.insert.ensures (entered_found P D c.first_path.new.path c.in-Some.field-0.len R.kept e.0 e.1 c.in-Some.field-0.cost _ f.0 f.1 refl _ _ T c.place_for-place.ensures room) (same_found P D c.first_path.new.path c.in-Some.field-0.len R.kept e.0 e.1 c.in-Some.field-0.cost _ f.0 f.1 refl _ _ T c.place_for-place.ensures room); by_index = λ limit. settled_put c.insert.ensures (settled_found P D c.first_path.new.path c.in-Some.field-0.len R.kept e.0 e.1 c.in-Some.field-0.cost _ f.0 f.1 refl _ _ T c.place_for-place.ensures limit) }
 
 pub overflow_add-cost : goal.overflow_add-cost
 overflow_add-cost c =
     let problem : Problem c.args.query.n c.args.query.start c.args.query.goal c.args.star.now c.args.weights.now c.args.overall.now = c.requires.problem in
     let deviation : Deviation c.args.query.n (graph_of c.args.star.now c.args.weights.now) c.args.query.start c.args.query.goal (entries c.args.query.n c.args.work.now c.args.detour.count) c.args.detour.parent c.args.used.now c.args.barred.now c.args.path.now c.args.detour.parent c.args.detour.d c.args.detour.before = c.requires.deviation in
     let result : FirstWithin (graph_of c.args.star.now c.args.weights.now) c.args.query.start c.args.query.goal (branch (take c.args.detour.d c.args.path.now) (barred (entries c.args.query.n c.args.work.now c.args.detour.count) (taking_over c.args.detour.d c.args.detour.parent))) c.first_path.new.path c.most_wanted-most.result c.first_path.result = let D = deviation in c.first_path.ensures.by_index _ _ D.begins D.flagged in
-    let first : First (graph_of c.args.star.now c.args.weights.now) c.args.query.start c.args.query.goal (branch (take c.args.detour.d c.args.path.now) (barred (entries c.args.query.n c.args.work.now c.args.detour.count) (taking_over c.args.detour.d c.args.detour.parent))) (take c.in-Some.len c.first_path.new.path) × (cost (graph_of c.args.star.now c.args.weights.now) (take c.in-Some.len c.first_path.new.path) ≡ cost (graph_of c.args.star.now c.args.weights.now) (take c.args.detour.d c.args.path.now) + c.in-Some.rest) = within_tail result c.in-Some.is in
+    let first : First (graph_of c.args.star.now c.args.weights.now) c.args.query.start c.args.query.goal (branch (take c.args.detour.d c.args.path.now) (barred (entries c.args.query.n c.args.work.now c.args.detour.count) (taking_over c.args.detour.d c.args.detour.parent))) (take c.in-Some.field-0.len c.first_path.new.path) × (cost (graph_of c.args.star.now c.args.weights.now) (take c.in-Some.field-0.len c.first_path.new.path) ≡ cost (graph_of c.args.star.now c.args.weights.now) (take c.args.detour.d c.args.path.now) + c.in-Some.field-0.cost) = within_tail result c.in-Some.is in
     omega (arith, first.1, path_small problem first.0.member.path, deviation.costs)
 
 pub slice_bounds-place_for-end : goal.slice_bounds-place_for-end
 slice_bounds-place_for-end c =
-    let extent : (c.args.detour.d < c.in-Some.len) × (c.in-Some.len ≤ length c.first_path.new.path) = extent_tail c.first_path.ensures.kept.reach c.in-Some.is in
+    let extent : (c.args.detour.d < c.in-Some.field-0.len) × (c.in-Some.field-0.len ≤ length c.first_path.new.path) = extent_tail c.first_path.ensures.kept.reach c.in-Some.is in
     extent.1
 
 pub slice_bounds-place_for-end-2 : goal.slice_bounds-place_for-end-2
 slice_bounds-place_for-end-2 c =
-    let extent : (c.args.detour.d < c.in-Some.len) × (c.in-Some.len ≤ length c.first_path.new.path) = extent_tail c.first_path.ensures.kept.reach c.in-Some.is in
-    sym (length-take-le c.in-Some.len c.first_path.new.path extent.1)
+    let extent : (c.args.detour.d < c.in-Some.field-0.len) × (c.in-Some.field-0.len ≤ length c.first_path.new.path) = extent_tail c.first_path.ensures.kept.reach c.in-Some.is in
+    sym (length-take-le c.in-Some.field-0.len c.first_path.new.path extent.1)
 
 pub overflow_cast-parent : goal.overflow_cast-parent
 overflow_cast-parent c =
@@ -130,15 +130,15 @@ overflow_cast-parent c =
 
 pub slice_bounds-insert-count : goal.slice_bounds-insert-count
 slice_bounds-insert-count c =
-    let extent : (c.args.detour.d < c.in-Some.len) × (c.in-Some.len ≤ length c.first_path.new.path) = extent_tail c.first_path.ensures.kept.reach c.in-Some.is in
+    let extent : (c.args.detour.d < c.in-Some.field-0.len) × (c.in-Some.field-0.len ≤ length c.first_path.new.path) = extent_tail c.first_path.ensures.kept.reach c.in-Some.is in
     omega (arith, extent)
 
 pub slice_bounds-insert-start : goal.slice_bounds-insert-start
 slice_bounds-insert-start c =
-    let extent : (c.args.detour.d < c.in-Some.len) × (c.in-Some.len ≤ length c.first_path.new.path) = extent_tail c.first_path.ensures.kept.reach c.in-Some.is in
+    let extent : (c.args.detour.d < c.in-Some.field-0.len) × (c.in-Some.field-0.len ≤ length c.first_path.new.path) = extent_tail c.first_path.ensures.kept.reach c.in-Some.is in
     omega (arith, extent)
 
 pub slice_bounds-insert-end : goal.slice_bounds-insert-end
 slice_bounds-insert-end c =
-    let extent : (c.args.detour.d < c.in-Some.len) × (c.in-Some.len ≤ length c.first_path.new.path) = extent_tail c.first_path.ensures.kept.reach c.in-Some.is in
+    let extent : (c.args.detour.d < c.in-Some.field-0.len) × (c.in-Some.field-0.len ≤ length c.first_path.new.path) = extent_tail c.first_path.ensures.kept.reach c.in-Some.is in
     extent.1
