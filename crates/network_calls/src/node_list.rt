@@ -17,22 +17,18 @@ fn first_error(heads: &[u16], first_out: &[u16], nodes: &[u16]) -> usize
     requires { Followed heads.now first_out.now nodes.now }
     ensures { (n : ℕ) (ts : List ℕ) → Star n ts heads.now first_out.now → FirstError ts heads.now nodes.now result }
 {
-    let mut at = 1;
-    'search: while at < nodes.len() {
+    for at in 1..nodes.len() {
         let found = arc_between(heads, first_out, nodes[at - 1] as usize, nodes[at]);
         let Some(_) = found else {
-            break 'search;
+            return at;
         };
-        let mut i = 0;
-        while i < at {
+        for i in 0..at {
             if nodes[i] == nodes[at] {
-                break 'search;
+                return at;
             }
-            i += 1;
         }
-        at += 1;
     }
-    at
+    nodes.len()
 }
 
 // Whether a node list is a path from start to goal in a graph of n nodes in two slices: row 14.

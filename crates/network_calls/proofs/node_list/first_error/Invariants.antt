@@ -10,11 +10,5 @@ use Rattle.network_calls.proofs.node_list.first_error.Given as goal
 abbrev pub invariant-loop-i : goal.invariant-loop-i
 invariant-loop-i l = (l.i ≤ l.at) × ((j : ℕ) → j < l.i → get_or l.nodes j 0 ≡ get_or l.nodes l.at 0 → ⊥)
 
-abbrev pub decreases-loop-i : goal.decreases-loop-i
-decreases-loop-i l = l.at - l.i
-
-abbrev pub invariant-search : goal.invariant-search
-invariant-search l = (1 ≤ l.at) × (l.at ≤ length l.nodes) × (get_or l.nodes (l.at - 1) 0 + 1 < length l.first_out) × ((n : ℕ) (ts : List ℕ) → Star n ts l.heads l.first_out → (i : ℕ) → i < l.at → 1 ≤ i → GoesOn ts l.heads l.nodes i)
-
-abbrev pub decreases-search : goal.decreases-search
-decreases-search l = length l.nodes - l.at
+abbrev pub invariant-loop-at : goal.invariant-loop-at
+invariant-loop-at l = (1 ≤ l.at) × (l.at ≤ length l.nodes) × (get_or l.nodes (l.at - 1) 0 + 1 < length l.first_out) × ((n : ℕ) (ts : List ℕ) → Star n ts l.heads l.first_out → (i : ℕ) → i < l.at → 1 ≤ i → GoesOn ts l.heads l.nodes i)
