@@ -3,7 +3,7 @@ ghost use Rattle.std.specs.Prelude.{◌≡◌, [], ◌+◌, ◌≤◌, length};
 ghost use Rattle.labels.specs.Labels.{Least};
 ghost use Rattle.branching.specs.Branches.{everything};
 ghost use Rattle.branching.specs.Found.{Idle, Ends, Extent, FirstFound};
-ghost use Rattle.star.specs.Layout.{graph_of, Network};
+ghost use Rattle.star.specs.Graphs.{arcs_of};
 
 use crate::first::{Tail, along};
 use exits::least_exit;
@@ -11,8 +11,7 @@ use star::Graph;
 
 // The same as below, with room for the flags, in which no node is flagged yet.
 fn shortest_in(
-    star: &[u16],
-    weights: &[u32],
+    graph: &Graph<'_>,
     start: u16,
     goal: usize,
     overall: &[u64],
@@ -20,48 +19,41 @@ fn shortest_in(
     barred: &[u8],
     path: &mut [u16],
 ) -> Option<Tail>
-    requires network { Network (length used.old) star.now weights.now }
+    requires nodes { length used.old ≡ graph.now.nodes + 1 }
     requires idle { Idle (length used.old) used.old barred.now × (length used.old ≤ length path.old + 1) }
     requires ends { Ends (length used.old) start goal }
-    requires least { Least (graph_of star.now weights.now) [] goal overall.now × (length overall.now ≡ length used.old) }
+    requires least { Least (arcs_of graph.now) [] goal overall.now × (length overall.now ≡ length used.old) }
     ensures extent { Extent 1 path.new result }
-    ensures first_found { FirstFound (graph_of star.now weights.now) start goal (everything start) path.new result }
+    ensures first_found { FirstFound (arcs_of graph.now) start goal (everything start) path.new result }
 {
     let v = start as usize;
     path[0] = start;
     used[v] = 1;
-    let graph = Graph {
-        nodes: used.len() - 1,
-        star,
-        weights,
-    };
-    let Some(step) = least_exit(&graph, v, overall, used, barred) else {
+    let Some(step) = least_exit(graph, v, overall, used, barred) else {
         return None;
     };
-    along(star, weights, goal, overall, used, barred, path, 1, step)
+    along(graph, goal, overall, used, barred, path, 1, step)
 }
 
 // Writes the first path from start to goal into path; overall are the labels to the goal.
 pub fn shortest(
-    star: &[u16],
-    weights: &[u32],
+    graph: &Graph<'_>,
     start: u16,
     goal: usize,
     overall: &[u64],
     path: &mut [u16],
 ) -> Option<Tail>
-    requires network { Network (length overall.now) star.now weights.now }
+    requires nodes { length overall.now ≡ graph.now.nodes + 1 }
     requires ends { Ends (length overall.now) start goal × (length overall.now ≤ length path.old + 1) }
-    requires least { Least (graph_of star.now weights.now) [] goal overall.now }
+    requires least { Least (arcs_of graph.now) [] goal overall.now }
     ensures extent { Extent 1 path.new result }
-    ensures first_found { FirstFound (graph_of star.now weights.now) start goal (everything start) path.new result }
+    ensures first_found { FirstFound (arcs_of graph.now) start goal (everything start) path.new result }
 {
     let mut used = [0u8; 201];
     let barred = [0u8; 201];
     let places = overall.len();
     shortest_in(
-        star,
-        weights,
+        graph,
         start,
         goal,
         overall,

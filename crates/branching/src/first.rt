@@ -1,6 +1,6 @@
 // The first path of a branch: by a walk along labels that are at hand, or else along these sharpened for
 // the branch, or else along labels with the beginning barred, or else step by step.
-ghost use Rattle.std.specs.Prelude.{◌≡◌, true, List, [], ◌∷◌, ◌++◌, ℕ, ◌-◌, ◌≤◌, ◌<◌, length, take, get_or};
+ghost use Rattle.std.specs.Prelude.{◌≡◌, true, List, [], ◌∷◌, ◌++◌, ℕ, ◌+◌, ◌-◌, ◌≤◌, ◌<◌, length, take, get_or};
 ghost use Rattle.terms.specs.Paths.{Route};
 ghost use Rattle.branching.specs.Branches.{branch, In, First, Beginning};
 ghost use Rattle.exits.specs.Exits.{Unmarked};
@@ -8,7 +8,7 @@ ghost use Rattle.exits.specs.Flags.{Flagged, Fresh};
 ghost use Rattle.branching.specs.Found.{Ahead, Begun, Kept, FirstFound, FirstWithin};
 ghost use Rattle.branching.specs.Laid.{Laid, Longer, Tried};
 ghost use Rattle.exits.specs.Small.{Small, longest};
-ghost use Rattle.star.specs.Layout.{graph_of, Network};
+ghost use Rattle.star.specs.Graphs.{arcs_of};
 ghost use Rattle.exits.specs.Walks.{Consistent, Choice};
 
 use crate::walk::{attempt, unmark};
@@ -26,31 +26,25 @@ pub struct Tail {
 
 // From path[at - 1], each step to the node that labels made anew show to be the next.
 fn steps(
-    star: &[u16],
-    weights: &[u32],
+    graph: &Graph<'_>,
     goal: usize,
     used: &mut [u8],
     path: &mut [u16],
     at: usize,
     labels: &mut [u64],
 ) -> usize
-    requires network { Network (length used.old) star.now weights.now }
+    requires nodes { length used.old ≡ graph.now.nodes + 1 }
     requires laid { Laid (length used.old) used.old path.old at × (1 ≤ at) }
-    requires goal_in_bounds { (goal < length used.old) × ((get_or path.old (at - 1) 0 ≡ goal → ⊥) → get_or used.old goal 0 ≡ 0) }
-    requires labels_len { length labels.old ≡ length used.old }
+    requires goal_unmet { (goal < length used.old) × ((get_or path.old (at - 1) 0 ≡ goal → ⊥) → get_or used.old goal 0 ≡ 0) }
+    requires labels_long { length labels.old ≡ length used.old }
     ensures longer { Longer (length used.old) path.old at used.new path.new result }
-    ensures by_index { (s : ℕ) (p : Route) → In (graph_of star.now weights.now) s goal (branch (take at path.old) []) p → First (graph_of star.now weights.now) s goal (branch (take at path.old) []) (take result path.new) }
+    ensures is_first { (s : ℕ) (p : Route) → In (arcs_of graph.now) s goal (branch (take at path.old) []) p → First (arcs_of graph.now) s goal (branch (take at path.old) []) (take result path.new) }
 {
-    let graph = Graph {
-        nodes: used.len() - 1,
-        star,
-        weights,
-    };
     let mut len = at;
     let mut x = path[at - 1] as usize;
     while x != goal {
-        least(&graph, used, goal, labels);
-        let Some(step) = least_exit(&graph, x, labels, used, used) else {
+        least(graph, used, goal, labels);
+        let Some(step) = least_exit(graph, x, labels, used, used) else {
             return len;
         };
         path[len] = step.node;
@@ -63,8 +57,7 @@ fn steps(
 
 // The first of the paths that go on from path[..d] with y, step by step. The flags are then as before.
 fn by_steps(
-    star: &[u16],
-    weights: &[u32],
+    graph: &Graph<'_>,
     goal: usize,
     used: &mut [u8],
     path: &mut [u16],
@@ -72,16 +65,16 @@ fn by_steps(
     y: u16,
     labels: &mut [u64],
 ) -> usize
-    requires network { Network (length used.old) star.now weights.now }
+    requires nodes { length used.old ≡ graph.now.nodes + 1 }
     requires laid { Laid (length used.old) used.old path.old d × Fresh (length used.old) used.old y }
     requires ahead { Ahead (length used.old) goal used.old }
-    requires labels_len { length labels.old ≡ length used.old }
+    requires labels_long { length labels.old ≡ length used.old }
     ensures tried { Tried used.old path.old d used.new path.new result }
-    ensures by_index { (s : ℕ) (p : Route) → In (graph_of star.now weights.now) s goal (branch (take d path.old ++ (y ∷ [])) []) p → First (graph_of star.now weights.now) s goal (branch (take d path.old ++ (y ∷ [])) []) (take result path.new) }
+    ensures is_first { (s : ℕ) (p : Route) → In (arcs_of graph.now) s goal (branch (take d path.old ++ (y ∷ [])) []) p → First (arcs_of graph.now) s goal (branch (take d path.old ++ (y ∷ [])) []) (take result path.new) }
 {
     path[d] = y;
     used[y as usize] = 1;
-    let len = steps(star, weights, goal, used, path, d + 1, labels);
+    let len = steps(graph, goal, used, path, d + 1, labels);
     unmark(path, d, len, used);
     len
 }
@@ -89,8 +82,7 @@ fn by_steps(
 // The first path of the branch of path[..d], whose next node is not barred, by labels with the nodes
 // of path[..d] barred. labels have a place for each node.
 fn by_labels(
-    star: &[u16],
-    weights: &[u32],
+    graph: &Graph<'_>,
     goal: usize,
     used: &mut [u8],
     barred: &[u8],
@@ -98,30 +90,25 @@ fn by_labels(
     d: usize,
     labels: &mut [u64],
 ) -> Option<Tail>
-    requires network { Network (length used.old) star.now weights.now }
+    requires nodes { length used.old ≡ graph.now.nodes + 1 }
     requires begun { Begun (length used.old) used.old barred.now path.old d }
     requires ahead { Ahead (length used.old) goal used.old }
-    requires labels_len { length labels.old ≡ length used.old }
+    requires labels_long { length labels.old ≡ length used.old }
     ensures kept { Kept used.old path.old d used.new path.new result }
-    ensures by_index { (s : ℕ) (F : List ℕ) → Beginning (graph_of star.now weights.now) s goal (take d path.old) → Flagged barred.now F → FirstFound (graph_of star.now weights.now) s goal (branch (take d path.old) F) path.new result }
+    ensures first_found { (s : ℕ) (F : List ℕ) → Beginning (arcs_of graph.now) s goal (take d path.old) → Flagged barred.now F → FirstFound (arcs_of graph.now) s goal (branch (take d path.old) F) path.new result }
 {
-    let graph = Graph {
-        nodes: used.len() - 1,
-        star,
-        weights,
-    };
-    least(&graph, used, goal, labels);
+    least(graph, used, goal, labels);
     let v = path[d - 1] as usize;
-    let Some(step) = least_exit(&graph, v, labels, used, barred) else {
+    let Some(step) = least_exit(graph, v, labels, used, barred) else {
         return None;
     };
-    if let Some(len) = attempt(star, weights, goal, labels, used, path, d, step.node) {
+    if let Some(len) = attempt(graph, goal, labels, used, path, d, step.node) {
         return Some(Tail {
             len,
             cost: step.rest,
         });
     }
-    let len = by_steps(star, weights, goal, used, path, d, step.node, labels);
+    let len = by_steps(graph, goal, used, path, d, step.node, labels);
     Some(Tail {
         len,
         cost: step.rest,
@@ -130,39 +117,28 @@ fn by_labels(
 
 // The same, with room made for the labels.
 fn exact_path(
-    star: &[u16],
-    weights: &[u32],
+    graph: &Graph<'_>,
     goal: usize,
     used: &mut [u8],
     barred: &[u8],
     path: &mut [u16],
     d: usize,
 ) -> Option<Tail>
-    requires network { Network (length used.old) star.now weights.now }
+    requires nodes { length used.old ≡ graph.now.nodes + 1 }
     requires begun { Begun (length used.old) used.old barred.now path.old d }
     requires ahead { Ahead (length used.old) goal used.old }
     ensures kept { Kept used.old path.old d used.new path.new result }
-    ensures by_index { (s : ℕ) (F : List ℕ) → Beginning (graph_of star.now weights.now) s goal (take d path.old) → Flagged barred.now F → FirstFound (graph_of star.now weights.now) s goal (branch (take d path.old) F) path.new result }
+    ensures first_found { (s : ℕ) (F : List ℕ) → Beginning (arcs_of graph.now) s goal (take d path.old) → Flagged barred.now F → FirstFound (arcs_of graph.now) s goal (branch (take d path.old) F) path.new result }
 {
     let mut labels = [0u64; 201];
     let places = used.len();
-    by_labels(
-        star,
-        weights,
-        goal,
-        used,
-        barred,
-        path,
-        d,
-        &mut labels[..places],
-    )
+    by_labels(graph, goal, used, barred, path, d, &mut labels[..places])
 }
 
 // The first path of the branch of path[..d], whose next node is not barred. The step is its least exit
 // by the labels `overall`: the walk along these, or else the path by labels of the branch's own.
 pub fn along(
-    star: &[u16],
-    weights: &[u32],
+    graph: &Graph<'_>,
     goal: usize,
     overall: &[u64],
     used: &mut [u8],
@@ -171,21 +147,21 @@ pub fn along(
     d: usize,
     step: Step,
 ) -> Option<Tail>
-    requires network { Network (length used.old) star.now weights.now }
+    requires nodes { length used.old ≡ graph.now.nodes + 1 }
     requires begun { Begun (length used.old) used.old barred.now path.old d }
     requires ahead { Ahead (length used.old) goal used.old }
-    requires consistent { Consistent (graph_of star.now weights.now) goal overall.now (take d path.old) × Small (length used.old) overall.now }
-    requires choice { Choice (graph_of star.now weights.now) overall.now (Unmarked used.old barred.now) (get_or path.old (d - 1) 0) step.rest step.node }
+    requires consistent { Consistent (arcs_of graph.now) goal overall.now (take d path.old) × Small (length used.old) overall.now }
+    requires choice { Choice (arcs_of graph.now) overall.now (Unmarked used.old barred.now) (get_or path.old (d - 1) 0) step.rest step.node }
     ensures kept { Kept used.old path.old d used.new path.new result }
-    ensures by_index { (s : ℕ) (F : List ℕ) → Beginning (graph_of star.now weights.now) s goal (take d path.old) → Flagged barred.now F → FirstFound (graph_of star.now weights.now) s goal (branch (take d path.old) F) path.new result }
+    ensures first_found { (s : ℕ) (F : List ℕ) → Beginning (arcs_of graph.now) s goal (take d path.old) → Flagged barred.now F → FirstFound (arcs_of graph.now) s goal (branch (take d path.old) F) path.new result }
 {
-    if let Some(len) = attempt(star, weights, goal, overall, used, path, d, step.node) {
+    if let Some(len) = attempt(graph, goal, overall, used, path, d, step.node) {
         return Some(Tail {
             len,
             cost: step.rest,
         });
     }
-    exact_path(star, weights, goal, used, barred, path, d)
+    exact_path(graph, goal, used, barred, path, d)
 }
 
 // Whether l is above the most that is wanted, if that is a limit at all.
@@ -198,8 +174,7 @@ fn is_dear(l: u64, most: u64) -> bool
 // The same, with no exit chosen yet, and only if the path's tail costs `most` at the most: the walk is along
 // sharper labels, which have a place for each node.
 fn by_sharper(
-    star: &[u16],
-    weights: &[u32],
+    graph: &Graph<'_>,
     goal: usize,
     overall: &[u64],
     used: &mut [u8],
@@ -209,13 +184,13 @@ fn by_sharper(
     labels: &mut [u64],
     most: u64,
 ) -> Option<Tail>
-    requires network { Network (length used.old) star.now weights.now }
+    requires nodes { length used.old ≡ graph.now.nodes + 1 }
     requires begun { Begun (length used.old) used.old barred.now path.old d }
     requires ahead { Ahead (length used.old) goal used.old }
-    requires consistent { Consistent (graph_of star.now weights.now) goal overall.now (take d path.old) × Small (length used.old) overall.now }
-    requires labels_len { (length labels.old ≡ length used.old) × (most ≤ longest) }
+    requires consistent { Consistent (arcs_of graph.now) goal overall.now (take d path.old) × Small (length used.old) overall.now }
+    requires labels_long { (length labels.old ≡ length used.old) × (most ≤ longest) }
     ensures kept { Kept used.old path.old d used.new path.new result }
-    ensures by_index { (s : ℕ) (F : List ℕ) → Beginning (graph_of star.now weights.now) s goal (take d path.old) → Flagged barred.now F → FirstWithin (graph_of star.now weights.now) s goal (branch (take d path.old) F) path.new most result }
+    ensures first_within { (s : ℕ) (F : List ℕ) → Beginning (arcs_of graph.now) s goal (take d path.old) → Flagged barred.now F → FirstWithin (arcs_of graph.now) s goal (branch (take d path.old) F) path.new most result }
 {
     let v = path[d - 1] as usize;
     let quest = Quest {
@@ -223,28 +198,22 @@ fn by_sharper(
         goal,
         most,
     };
-    let graph = Graph {
-        nodes: used.len() - 1,
-        star,
-        weights,
-    };
-    let sharp = sharpen(&graph, quest, overall, used, barred, labels);
+    let sharp = sharpen(graph, quest, overall, used, barred, labels);
     if !sharp {
-        return exact_path(star, weights, goal, used, barred, path, d);
+        return exact_path(graph, goal, used, barred, path, d);
     }
-    let Some(step) = least_exit(&graph, v, labels, used, barred) else {
+    let Some(step) = least_exit(graph, v, labels, used, barred) else {
         return None;
     };
     if is_dear(step.rest, most) {
         return None;
     }
-    along(star, weights, goal, labels, used, barred, path, d, step)
+    along(graph, goal, labels, used, barred, path, d, step)
 }
 
 // The same, with room made for the labels.
 fn sharp_path(
-    star: &[u16],
-    weights: &[u32],
+    graph: &Graph<'_>,
     goal: usize,
     overall: &[u64],
     used: &mut [u8],
@@ -253,18 +222,17 @@ fn sharp_path(
     d: usize,
     most: u64,
 ) -> Option<Tail>
-    requires network { Network (length used.old) star.now weights.now }
+    requires nodes { length used.old ≡ graph.now.nodes + 1 }
     requires begun { Begun (length used.old) used.old barred.now path.old d }
     requires ahead { Ahead (length used.old) goal used.old }
-    requires consistent { Consistent (graph_of star.now weights.now) goal overall.now (take d path.old) × Small (length used.old) overall.now × (most ≤ longest) }
+    requires consistent { Consistent (arcs_of graph.now) goal overall.now (take d path.old) × Small (length used.old) overall.now × (most ≤ longest) }
     ensures kept { Kept used.old path.old d used.new path.new result }
-    ensures by_index { (s : ℕ) (F : List ℕ) → Beginning (graph_of star.now weights.now) s goal (take d path.old) → Flagged barred.now F → FirstWithin (graph_of star.now weights.now) s goal (branch (take d path.old) F) path.new most result }
+    ensures first_within { (s : ℕ) (F : List ℕ) → Beginning (arcs_of graph.now) s goal (take d path.old) → Flagged barred.now F → FirstWithin (arcs_of graph.now) s goal (branch (take d path.old) F) path.new most result }
 {
     let mut labels = [0u64; 201];
     let places = used.len();
     by_sharper(
-        star,
-        weights,
+        graph,
         goal,
         overall,
         used,
@@ -280,8 +248,7 @@ fn sharp_path(
 // the most. The step is its least exit by the labels `overall`, which may be those of the whole network:
 // the walk along these arrives mostly, and the branch is searched by labels of its own where it does not.
 pub fn first_path(
-    star: &[u16],
-    weights: &[u32],
+    graph: &Graph<'_>,
     goal: usize,
     overall: &[u64],
     used: &mut [u8],
@@ -291,19 +258,19 @@ pub fn first_path(
     step: Step,
     most: u64,
 ) -> Option<Tail>
-    requires network { Network (length used.old) star.now weights.now }
+    requires nodes { length used.old ≡ graph.now.nodes + 1 }
     requires begun { Begun (length used.old) used.old barred.now path.old d }
     requires ahead { Ahead (length used.old) goal used.old }
-    requires consistent { Consistent (graph_of star.now weights.now) goal overall.now (take d path.old) × Small (length used.old) overall.now × (most ≤ longest) }
-    requires choice { Choice (graph_of star.now weights.now) overall.now (Unmarked used.old barred.now) (get_or path.old (d - 1) 0) step.rest step.node }
+    requires consistent { Consistent (arcs_of graph.now) goal overall.now (take d path.old) × Small (length used.old) overall.now × (most ≤ longest) }
+    requires choice { Choice (arcs_of graph.now) overall.now (Unmarked used.old barred.now) (get_or path.old (d - 1) 0) step.rest step.node }
     ensures kept { Kept used.old path.old d used.new path.new result }
-    ensures by_index { (s : ℕ) (F : List ℕ) → Beginning (graph_of star.now weights.now) s goal (take d path.old) → Flagged barred.now F → FirstWithin (graph_of star.now weights.now) s goal (branch (take d path.old) F) path.new most result }
+    ensures first_within { (s : ℕ) (F : List ℕ) → Beginning (arcs_of graph.now) s goal (take d path.old) → Flagged barred.now F → FirstWithin (arcs_of graph.now) s goal (branch (take d path.old) F) path.new most result }
 {
-    if let Some(len) = attempt(star, weights, goal, overall, used, path, d, step.node) {
+    if let Some(len) = attempt(graph, goal, overall, used, path, d, step.node) {
         return Some(Tail {
             len,
             cost: step.rest,
         });
     }
-    sharp_path(star, weights, goal, overall, used, barred, path, d, most)
+    sharp_path(graph, goal, overall, used, barred, path, d, most)
 }

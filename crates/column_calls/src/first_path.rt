@@ -7,8 +7,9 @@ ghost use Rattle.loading.specs.Networks.{net};
 ghost use Rattle.loading.specs.Accepted.{InColumn, Ends};
 ghost use Rattle.loading.specs.Loaded.{Room};
 
-use branching::{Tail, shortest as first_path};
+use branching::{Tail, shortest};
 use loading::{Network, load};
+use star::Graph;
 
 // The first path from start to goal in column u, laid out in route, with room for all that the
 // search needs.
@@ -32,7 +33,12 @@ fn find_in(
     let m = load(network, u, goal, star, weights, overall);
     let places = overall.len();
     let size = 3 * m + places + 1 + places;
-    first_path(&star[..size], &weights[..m], start, goal, overall, route)
+    let graph = Graph {
+        nodes: places - 1,
+        star: &star[..size],
+        weights: &weights[..m],
+    };
+    shortest(&graph, start, goal, overall, route)
 }
 
 // The same, with room made for it.

@@ -25,9 +25,10 @@ use Rattle.ranking.specs.Ranking.{Problem, Ranked}
 use Rattle.ranking.specs.Search.{Search}
 use Rattle.star.specs.Layout.{Network}
 use Rattle.ranking.specs.State.{candidate, candidates_from, Beyond, Entered, Searching}
+use Rattle.star.proofs.NetworkLaws.{network_holds}
 use Rattle.branching.proofs.FlagLaws.{flags_none}
 use Rattle.ranking.proofs.EnterLaws.{problem_within}
-use Rattle.branching.proofs.NetworkLaws.{network_small, network_exact}
+use Rattle.branching.proofs.NetworkLaws.{graph_small, graph_exact}
 use Rattle.ranking.proofs.SearchLaws.{others_lost, rest_ranked}
 use Rattle.ranking.proofs.StateLaws.{entry_cost, entry_route, length_done, in_front, search_rank}
 
@@ -41,8 +42,8 @@ problem_of net e none long l = record {
   start_to = omega (arith, e.start_place);
   goal_to = omega (arith, e.goal_place);
   apart = e.apart;
-  consistent = (network_exact net long l {q = []} (flags_none none) refl).consistent;
-  small = network_small net long l;
+  consistent = (graph_exact (network_holds net refl) refl long l {q = []} (flags_none none) refl).consistent;
+  small = graph_small (network_holds net refl) refl long l;
 }
 
 -- ---- the entry at a place of the ranked list

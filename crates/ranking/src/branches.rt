@@ -2,6 +2,7 @@
 // need to.
 ghost use Rattle.std.specs.Prelude.{ℕ, ◌+◌, ◌-◌, ◌≤◌, get_or};
 ghost use Rattle.star.specs.Layout.{graph_of};
+ghost use Rattle.star.specs.Graphs.{arcs_of};
 ghost use Rattle.candidates.specs.Slots.{entries};
 ghost use Rattle.candidates.specs.Keeping.{Kept};
 ghost use Rattle.exits.specs.Exits.{Unmarked};
@@ -49,8 +50,7 @@ fn most_wanted(work: &[u32], n: usize, slots: usize, count: usize, before: u64) 
 // then.
 fn enter(
     query: Query,
-    star: &[u16],
-    weights: &[u32],
+    graph: &Graph<'_>,
     overall: &[u64],
     used: &mut [u8],
     barred: &[u8],
@@ -59,13 +59,13 @@ fn enter(
     detour: Detour,
     step: Step,
 ) -> usize
-    requires problem { Problem query.n query.start query.goal star.now weights.now overall.now }
-    requires filled { Filled query.n query.slots (graph_of star.now weights.now) query.start detour.parent work.old detour.count }
-    requires deviation { Deviation query.n (graph_of star.now weights.now) query.start query.goal (entries query.n work.old detour.count) detour.parent used.old barred.now path.old detour.parent detour.d detour.before }
-    requires choice { Choice (graph_of star.now weights.now) overall.now (Unmarked used.old barred.now) (get_or path.old (detour.d - 1) 0) step.rest step.node }
+    requires problem { Problem query.n query.start query.goal graph.now.star.now graph.now.weights.now overall.now }
+    requires filled { Filled query.n query.slots (arcs_of graph.now) query.start detour.parent work.old detour.count }
+    requires deviation { Deviation query.n (arcs_of graph.now) query.start query.goal (entries query.n work.old detour.count) detour.parent used.old barred.now path.old detour.parent detour.d detour.before }
+    requires choice { Choice (arcs_of graph.now) overall.now (Unmarked used.old barred.now) (get_or path.old (detour.d - 1) 0) step.rest step.node }
     ensures restored { Restored used.old path.old detour.d used.new path.new }
-    ensures changed { Changed query.n query.slots (graph_of star.now weights.now) query.start detour.parent work.old detour.count work.new result }
-    ensures by_index { (limit : ℕ) → Settled query.n (graph_of star.now weights.now) query.start query.goal query.slots limit (entries query.n work.old detour.count) detour.parent (branch_of query.start (entries query.n work.old detour.count) (taking_over detour.d detour.parent)) (entries query.n work.new result) }
+    ensures changed { Changed query.n query.slots (arcs_of graph.now) query.start detour.parent work.old detour.count work.new result }
+    ensures by_index { (limit : ℕ) → Settled query.n (arcs_of graph.now) query.start query.goal query.slots limit (entries query.n work.old detour.count) detour.parent (branch_of query.start (entries query.n work.old detour.count) (taking_over detour.d detour.parent)) (entries query.n work.new result) }
 {
     let n = query.n;
     let slots = query.slots;
@@ -75,7 +75,7 @@ fn enter(
     let before = detour.before;
     let most = most_wanted(work, n, slots, count, before);
     let Some(Tail { len, cost: rest }) = first_path(
-        star, weights, query.goal, overall, used, barred, path, d, step, most,
+        graph, query.goal, overall, used, barred, path, d, step, most,
     ) else {
         return count;
     };
@@ -138,6 +138,6 @@ pub fn consider(
         return count;
     }
     enter(
-        query, star, weights, overall, used, barred, path, work, detour, step,
+        query, &graph, overall, used, barred, path, work, detour, step,
     )
 }

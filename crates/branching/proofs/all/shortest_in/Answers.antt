@@ -3,7 +3,7 @@ use mathlib.Core.Path.{◌≡◌, refl}
 use mathlib.Core.List.{List, [], ◌∷◌}
 use Prim.Native.Nat.{ℕ, ◌-◌}
 use lib.ListN.{length, take, get_or, set, length-set}
-use Rattle.star.specs.Layout.{graph_of}
+use Rattle.star.specs.Graphs.{arcs_of}
 use Rattle.branching.specs.Branches.{Beginning}
 use Rattle.branching.specs.Found.{Begun, Extent, FirstFound}
 use Rattle.exits.specs.Walks.{Consistent}
@@ -11,8 +11,7 @@ use Rattle.branching.proofs.AllLaws.{start_begun, start_ahead, start_path, start
 use Rattle.branching.proofs.BranchLaws.{beginning_start}
 use Rattle.branching.proofs.FirstLaws.{branch_empty}
 use Rattle.branching.proofs.FlagLaws.{flags_none}
-use Rattle.branching.proofs.NetworkLaws.{network_small, network_consistent}
-use Rattle.star.proofs.NetworkLaws.{network_holds}
+use Rattle.branching.proofs.NetworkLaws.{graph_small, graph_consistent}
 use native.Mathlib.Omega.{arith}
 use Rattle.branching.proofs.all.shortest_in.Goals as goal
 
@@ -23,8 +22,8 @@ returns-in_default c =
     let begun : Begun (length c.args.used.now) used c.args.barred.now path 1 = start_begun c.args.path.now c.requires.idle.1 c.requires.idle.0 c.requires.ends in
     let laid : take 1 path ≡ c.args.start ∷ [] = start_path c.args.path.now c.requires.idle.1 c.requires.idle.0 c.requires.ends in
     let last_node : get_or path (1 - 1) 0 ≡ c.args.start = start_last c.args.path.now c.requires.idle.1 c.requires.idle.0 c.requires.ends in
-    let beginning : Beginning (graph_of c.args.star.now c.args.weights.now) c.args.start c.args.goal (take 1 path) = rw laid (beginning_start c.requires.ends.apart) in
-    let consistent : (q : List ℕ) → Consistent (graph_of c.args.star.now c.args.weights.now) c.args.goal c.args.overall.now q = network_consistent c.requires.network c.requires.least.1 c.requires.least.0 (λ x. refl) in
+    let beginning : Beginning (arcs_of c.args.graph.now) c.args.start c.args.goal (take 1 path) = rw laid (beginning_start c.requires.ends.apart) in
+    let consistent : (q : List ℕ) → Consistent (arcs_of c.args.graph.now) c.args.goal c.args.overall.now q = graph_consistent c.args.graph.now.holds c.requires.nodes c.requires.least.1 c.requires.least.0 (λ x. refl) in
     let none = rw c.in_default.is at c.least_exit.ensures.chosen in
     record { extent = Extent.nothing; first_found = FirstFound.none (λ p i. branch_empty begun (flags_none c.requires.idle.0.none_barred) beginning (consistent _) (rw last_node none) p (rw laid i)) }
 
@@ -34,23 +33,20 @@ along-requires c =
     let path : List ℕ = set c.args.path.now 0 c.args.start in
     let begun : Begun (length c.args.used.now) used c.args.barred.now path 1 = start_begun c.args.path.now c.requires.idle.1 c.requires.idle.0 c.requires.ends in
     let last_node : get_or path (1 - 1) 0 ≡ c.args.start = start_last c.args.path.now c.requires.idle.1 c.requires.idle.0 c.requires.ends in
-    let consistent : (q : List ℕ) → Consistent (graph_of c.args.star.now c.args.weights.now) c.args.goal c.args.overall.now q = network_consistent c.requires.network c.requires.least.1 c.requires.least.0 (λ x. refl) in
+    let consistent : (q : List ℕ) → Consistent (arcs_of c.args.graph.now) c.args.goal c.args.overall.now q = graph_consistent c.args.graph.now.holds c.requires.nodes c.requires.least.1 c.requires.least.0 (λ x. refl) in
     let choice = c.in-Some.ensures.chosen in
     let ahead = start_ahead c.args.path.now c.requires.idle.1 c.requires.idle.0 c.requires.ends in
-    rw (length-set c.args.used.now c.args.start 1) (record { network = c.requires.network; begun = begun; ahead = ahead; consistent = (consistent _, network_small c.requires.network c.requires.least.1 c.requires.least.0); choice = rw last_node choice })
+    rw (length-set c.args.used.now c.args.start 1) (record { nodes = c.requires.nodes; begun = begun; ahead = ahead; consistent = (consistent _, graph_small c.args.graph.now.holds c.requires.nodes c.requires.least.1 c.requires.least.0); choice = rw last_node choice })
 
 pub returns : goal.returns
 returns c =
     let path : List ℕ = set c.args.path.now 0 c.args.start in
     let laid : take 1 path ≡ c.args.start ∷ [] = start_path c.args.path.now c.requires.idle.1 c.requires.idle.0 c.requires.ends in
-    let beginning : Beginning (graph_of c.args.star.now c.args.weights.now) c.args.start c.args.goal (take 1 path) = rw laid (beginning_start c.requires.ends.apart) in
-    record { extent = c.along.ensures.kept.reach; first_found = rw laid at (c.along.ensures.by_index c.args.start [] beginning (flags_none c.requires.idle.0.none_barred)) }
-
-pub invariant_of-graph : goal.invariant_of-graph
-invariant_of-graph c = record { holds = network_holds c.requires.network (omega (arith, c.requires.network.places, length-set c.args.used.now c.args.start 1)) }
+    let beginning : Beginning (arcs_of c.args.graph.now) c.args.start c.args.goal (take 1 path) = rw laid (beginning_start c.requires.ends.apart) in
+    record { extent = c.along.ensures.kept.reach; first_found = rw laid at (c.along.ensures.first_found c.args.start [] beginning (flags_none c.requires.idle.0.none_barred)) }
 
 pub least_exit-requires-clause-node : goal.least_exit-requires-clause-node
 least_exit-requires-clause-node c = rw c.requires.least.1 c.requires.ends.start_place
 
 pub least_exit-requires-clause-small : goal.least_exit-requires-clause-small
-least_exit-requires-clause-small c = rw c.requires.least.1 (network_small c.requires.network c.requires.least.1 c.requires.least.0)
+least_exit-requires-clause-small c = rw c.requires.least.1 (graph_small c.args.graph.now.holds c.requires.nodes c.requires.least.1 c.requires.least.0)

@@ -8,13 +8,13 @@ use Rattle.branching.proofs.first.along.Goals as goal
 
 pub attempt-requires : goal.attempt-requires
 attempt-requires c =
-    rw c.requires.consistent.1.long (record { network = c.requires.network; laid = ((c.requires.begun.laid, choice_fresh c.requires.network c.requires.choice)) })
+    rw c.requires.consistent.1.long (record { nodes = c.requires.nodes; laid = (c.requires.begun.laid, choice_fresh c.args.graph.now.holds c.requires.nodes c.requires.choice) })
 
 pub returns-in-Some : goal.returns-in-Some
 returns-in-Some c =
     record {
       kept = tried_kept (rw c.in-Some.is at c.attempt.ensures.tried);
-      by_index = λ s F B h.
+      first_found = λ s F B h.
           let r = branch_walked c.requires.begun h B c.requires.choice c.requires.consistent.0 (rw c.in-Some.is at (c.attempt.ensures.arrives c.requires.choice.exit.reached)) in
           FirstFound.found r.0 r.1;
     }
@@ -22,9 +22,9 @@ returns-in-Some c =
 pub exact_path-requires : goal.exact_path-requires
 exact_path-requires c =
     let back = c.attempt.ensures.back in
-    rw back.flags (record { network = c.requires.network; begun = record { laid = laid_kept back.kept c.attempt.auto.path c.requires.begun.laid; some = c.requires.begun.some; barred_long = c.requires.begun.barred_long }; ahead = c.requires.ahead })
+    rw back.flags (record { nodes = c.requires.nodes; begun = record { laid = laid_kept back.kept c.attempt.auto.path c.requires.begun.laid; some = c.requires.begun.some; barred_long = c.requires.begun.barred_long }; ahead = c.requires.ahead })
 
 pub returns : goal.returns
 returns c =
     let back = c.attempt.ensures.back in
-    record { kept = kept_again back c.exact_path.ensures.kept; by_index = λ s F B h. rw back.kept at (c.exact_path.ensures.by_index s F (rw back.kept B) h) }
+    record { kept = kept_again back c.exact_path.ensures.kept; first_found = λ s F B h. rw back.kept at (c.exact_path.ensures.first_found s F (rw back.kept B) h) }

@@ -9,7 +9,7 @@ use Rattle.branching.proofs.first.by_steps.Goals as goal
 
 pub steps-len-requires : goal.steps-len-requires
 steps-len-requires c =
-    rw (length-set c.args.used.now c.args.y 1) (record { network = c.requires.network; laid = (laid_more c.requires.laid.0 c.requires.laid.1, omega arith); goal_in_bounds = (c.requires.ahead.place, still_ahead c.requires.laid.0 c.requires.laid.1 c.requires.ahead); labels_len = c.requires.labels_len })
+    rw (length-set c.args.used.now c.args.y 1) (record { nodes = c.requires.nodes; laid = (laid_more c.requires.laid.0 c.requires.laid.1, omega arith); goal_unmet = (c.requires.ahead.place, still_ahead c.requires.laid.0 c.requires.laid.1 c.requires.ahead); labels_long = c.requires.labels_long })
 
 pub unmark-requires : goal.unmark-requires
 unmark-requires c =
@@ -22,7 +22,7 @@ returns c =
     let room : c.args.d < length c.args.path.now = laid_room c.requires.laid.0 c.requires.laid.1 in
     let longer : Longer (length c.args.used.now) (set c.args.path.now c.args.d c.args.y) (c.args.d + 1) c.steps-len.new.used c.steps-len.new.path c.steps-len.result = rw (length-set c.args.used.now c.args.y 1) at c.steps-len.ensures.longer in
     let done : Tried c.args.used.now c.args.path.now c.args.d c.unmark.new.used c.steps-len.new.path c.steps-len.result = tried c.args.y c.requires.laid.0 longer c.unmark.ensures in
-    record { tried = done; by_index = λ v p i. rw (take_more c.args.path.now c.args.d c.args.y room) at (c.steps-len.ensures.by_index v p (rw (take_more c.args.path.now c.args.d c.args.y room) i)) }
+    record { tried = done; is_first = λ v p i. rw (take_more c.args.path.now c.args.d c.args.y room) at (c.steps-len.ensures.is_first v p (rw (take_more c.args.path.now c.args.d c.args.y room) i)) }
 
 pub bounds-path-d : goal.bounds-path-d
 bounds-path-d c =

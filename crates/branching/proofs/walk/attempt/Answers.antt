@@ -8,7 +8,7 @@ use Rattle.branching.proofs.walk.attempt.Goals as goal
 
 pub walk-requires : goal.walk-requires
 walk-requires c =
-    record { network = c.requires.network; laid = (laid_more c.requires.laid.0 c.requires.laid.1, omega arith) }
+    record { nodes = c.requires.nodes; laid = (laid_more c.requires.laid.0 c.requires.laid.1, omega arith) }
 
 pub unmark-requires : goal.unmark-requires
 unmark-requires c =

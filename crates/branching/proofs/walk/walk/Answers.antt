@@ -7,7 +7,6 @@ use lib.ListN.{length, length-set}
 use lib.Seq.{take-set-le}
 use Rattle.exits.specs.Flags.{Fresh}
 use Rattle.branching.proofs.LaidLaws.{take_more, walking_start, walking_step, walking_end, laid_room, laid_more, laid_place}
-use Rattle.star.proofs.NetworkLaws.{network_holds}
 use Rattle.branching.proofs.walk.walk.Goals as goal
 
 pub loop-x-init : goal.loop-x-init
@@ -49,6 +48,3 @@ bounds-path-len c =
     let usable : Fresh (length c.args.labels.now) c.loop-x.used c.in-Some.y = c.in-Some.ensures.usable in
     let room : c.loop-x.len < length c.loop-x.path = laid_room c.loop-x.invariant.3 usable in
     room
-
-pub invariant_of-graph : goal.invariant_of-graph
-invariant_of-graph c = record { holds = network_holds c.requires.network (omega (arith, c.requires.network.places)) }

@@ -6,7 +6,7 @@ use mathlib.Core.Logic.{⊎_elim}
 use lib.ListN.{length, take, get_or}
 use lib.Seq.{length-take-le}
 use Rattle.terms.specs.Paths.{cost}
-use Rattle.star.specs.Layout.{graph_of}
+use Rattle.star.specs.Graphs.{arcs_of}
 use Rattle.candidates.specs.Slots.{none, entries}
 use Rattle.candidates.specs.Bars.{barred}
 use Rattle.candidates.proofs.EntryLaws.{kept_readable, length_entries}
@@ -20,26 +20,26 @@ use Rattle.ranking.proofs.branches.enter.Goals as goal
 
 pub most_wanted-most-requires : goal.most_wanted-most-requires
 most_wanted-most-requires c =
-    let filled : Filled c.args.query.n c.args.query.slots (graph_of c.args.star.now c.args.weights.now) c.args.query.start c.args.detour.parent c.args.work.now c.args.detour.count = c.requires.filled in
+    let filled : Filled c.args.query.n c.args.query.slots (arcs_of c.args.graph.now) c.args.query.start c.args.detour.parent c.args.work.now c.args.detour.count = c.requires.filled in
     let F = filled in (F.kept, F.some)
 
 pub first_path-requires : goal.first_path-requires
 first_path-requires c =
-    let problem : Problem c.args.query.n c.args.query.start c.args.query.goal c.args.star.now c.args.weights.now c.args.overall.now = c.requires.problem in
-    let deviation : Deviation c.args.query.n (graph_of c.args.star.now c.args.weights.now) c.args.query.start c.args.query.goal (entries c.args.query.n c.args.work.now c.args.detour.count) c.args.detour.parent c.args.used.now c.args.barred.now c.args.path.now c.args.detour.parent c.args.detour.d c.args.detour.before = c.requires.deviation in
+    let problem : Problem c.args.query.n c.args.query.start c.args.query.goal c.args.graph.now.star.now c.args.graph.now.weights.now c.args.overall.now = c.requires.problem in
+    let deviation : Deviation c.args.query.n (arcs_of c.args.graph.now) c.args.query.start c.args.query.goal (entries c.args.query.n c.args.work.now c.args.detour.count) c.args.detour.parent c.args.used.now c.args.barred.now c.args.path.now c.args.detour.parent c.args.detour.d c.args.detour.before = c.requires.deviation in
     let wanted : Wanted c.args.query.slots c.args.detour.count (entries c.args.query.n c.args.work.now c.args.detour.count) c.args.detour.before c.most_wanted-most.result = c.most_wanted-most.ensures in
     let P = problem in
     let D = deviation in
-    rw D.begun.laid.flags_long (record { network = P.network; begun = D.begun; ahead = goal_ahead P D; consistent = (still_consistent P D, P.small, wanted.small); choice = c.requires.choice })
+    rw D.begun.laid.flags_long (record { nodes = omega (arith, P.network.long, c.args.graph.now.holds.long); begun = D.begun; ahead = goal_ahead P D; consistent = (still_consistent P D, P.small, wanted.small); choice = c.requires.choice })
 
 pub returns-in_default : goal.returns-in_default
 returns-in_default c =
-    let problem : Problem c.args.query.n c.args.query.start c.args.query.goal c.args.star.now c.args.weights.now c.args.overall.now = c.requires.problem in
-    let filled : Filled c.args.query.n c.args.query.slots (graph_of c.args.star.now c.args.weights.now) c.args.query.start c.args.detour.parent c.args.work.now c.args.detour.count = c.requires.filled in
-    let deviation : Deviation c.args.query.n (graph_of c.args.star.now c.args.weights.now) c.args.query.start c.args.query.goal (entries c.args.query.n c.args.work.now c.args.detour.count) c.args.detour.parent c.args.used.now c.args.barred.now c.args.path.now c.args.detour.parent c.args.detour.d c.args.detour.before = c.requires.deviation in
+    let problem : Problem c.args.query.n c.args.query.start c.args.query.goal c.args.graph.now.star.now c.args.graph.now.weights.now c.args.overall.now = c.requires.problem in
+    let filled : Filled c.args.query.n c.args.query.slots (arcs_of c.args.graph.now) c.args.query.start c.args.detour.parent c.args.work.now c.args.detour.count = c.requires.filled in
+    let deviation : Deviation c.args.query.n (arcs_of c.args.graph.now) c.args.query.start c.args.query.goal (entries c.args.query.n c.args.work.now c.args.detour.count) c.args.detour.parent c.args.used.now c.args.barred.now c.args.path.now c.args.detour.parent c.args.detour.d c.args.detour.before = c.requires.deviation in
     let restored : Restored c.args.used.now c.args.path.now c.args.detour.d c.first_path.new.used c.first_path.new.path = record { flags = c.first_path.ensures.kept.flags; kept = c.first_path.ensures.kept.kept } in
     let wanted : Wanted c.args.query.slots c.args.detour.count (entries c.args.query.n c.args.work.now c.args.detour.count) c.args.detour.before c.most_wanted-most.result = c.most_wanted-most.ensures in
-    let result : FirstWithin (graph_of c.args.star.now c.args.weights.now) c.args.query.start c.args.query.goal (branch (take c.args.detour.d c.args.path.now) (barred (entries c.args.query.n c.args.work.now c.args.detour.count) (taking_over c.args.detour.d c.args.detour.parent))) c.first_path.new.path c.most_wanted-most.result c.first_path.result = let D = deviation in c.first_path.ensures.by_index _ _ D.begins D.flagged in
+    let result : FirstWithin (arcs_of c.args.graph.now) c.args.query.start c.args.query.goal (branch (take c.args.detour.d c.args.path.now) (barred (entries c.args.query.n c.args.work.now c.args.detour.count) (taking_over c.args.detour.d c.args.detour.parent))) c.first_path.new.path c.most_wanted-most.result c.first_path.result = let D = deviation in c.first_path.ensures.first_within _ _ D.begins D.flagged in
     let count_is : length (entries c.args.query.n c.args.work.now c.args.detour.count) ≡ c.args.detour.count = length_entries c.args.query.n c.args.work.now c.args.detour.count in
     let F = filled in
     let W = wanted in
@@ -53,19 +53,19 @@ returns-in_default c =
 
 pub place_for-place-requires : goal.place_for-place-requires
 place_for-place-requires c =
-    let filled : Filled c.args.query.n c.args.query.slots (graph_of c.args.star.now c.args.weights.now) c.args.query.start c.args.detour.parent c.args.work.now c.args.detour.count = c.requires.filled in
+    let filled : Filled c.args.query.n c.args.query.slots (arcs_of c.args.graph.now) c.args.query.start c.args.detour.parent c.args.work.now c.args.detour.count = c.requires.filled in
     let count_is : length (entries c.args.query.n c.args.work.now c.args.detour.count) ≡ c.args.detour.count = length_entries c.args.query.n c.args.work.now c.args.detour.count in
     let F = filled in
     record { readable = (kept_readable F.kept, F.entered.family); from_le_count = omega (arith, F.entered.border, count_is) }
 
 pub returns-then-place-slots : goal.returns-then-place-slots
 returns-then-place-slots c =
-    let problem : Problem c.args.query.n c.args.query.start c.args.query.goal c.args.star.now c.args.weights.now c.args.overall.now = c.requires.problem in
-    let filled : Filled c.args.query.n c.args.query.slots (graph_of c.args.star.now c.args.weights.now) c.args.query.start c.args.detour.parent c.args.work.now c.args.detour.count = c.requires.filled in
-    let deviation : Deviation c.args.query.n (graph_of c.args.star.now c.args.weights.now) c.args.query.start c.args.query.goal (entries c.args.query.n c.args.work.now c.args.detour.count) c.args.detour.parent c.args.used.now c.args.barred.now c.args.path.now c.args.detour.parent c.args.detour.d c.args.detour.before = c.requires.deviation in
+    let problem : Problem c.args.query.n c.args.query.start c.args.query.goal c.args.graph.now.star.now c.args.graph.now.weights.now c.args.overall.now = c.requires.problem in
+    let filled : Filled c.args.query.n c.args.query.slots (arcs_of c.args.graph.now) c.args.query.start c.args.detour.parent c.args.work.now c.args.detour.count = c.requires.filled in
+    let deviation : Deviation c.args.query.n (arcs_of c.args.graph.now) c.args.query.start c.args.query.goal (entries c.args.query.n c.args.work.now c.args.detour.count) c.args.detour.parent c.args.used.now c.args.barred.now c.args.path.now c.args.detour.parent c.args.detour.d c.args.detour.before = c.requires.deviation in
     let restored : Restored c.args.used.now c.args.path.now c.args.detour.d c.first_path.new.used c.first_path.new.path = record { flags = c.first_path.ensures.kept.flags; kept = c.first_path.ensures.kept.kept } in
-    let result : FirstWithin (graph_of c.args.star.now c.args.weights.now) c.args.query.start c.args.query.goal (branch (take c.args.detour.d c.args.path.now) (barred (entries c.args.query.n c.args.work.now c.args.detour.count) (taking_over c.args.detour.d c.args.detour.parent))) c.first_path.new.path c.most_wanted-most.result c.first_path.result = let D = deviation in c.first_path.ensures.by_index _ _ D.begins D.flagged in
-    let first : First (graph_of c.args.star.now c.args.weights.now) c.args.query.start c.args.query.goal (branch (take c.args.detour.d c.args.path.now) (barred (entries c.args.query.n c.args.work.now c.args.detour.count) (taking_over c.args.detour.d c.args.detour.parent))) (take c.in-Some.field-0.len c.first_path.new.path) × (cost (graph_of c.args.star.now c.args.weights.now) (take c.in-Some.field-0.len c.first_path.new.path) ≡ cost (graph_of c.args.star.now c.args.weights.now) (take c.args.detour.d c.args.path.now) + c.in-Some.field-0.cost) = within_tail result c.in-Some.is in
+    let result : FirstWithin (arcs_of c.args.graph.now) c.args.query.start c.args.query.goal (branch (take c.args.detour.d c.args.path.now) (barred (entries c.args.query.n c.args.work.now c.args.detour.count) (taking_over c.args.detour.d c.args.detour.parent))) c.first_path.new.path c.most_wanted-most.result c.first_path.result = let D = deviation in c.first_path.ensures.first_within _ _ D.begins D.flagged in
+    let first : First (arcs_of c.args.graph.now) c.args.query.start c.args.query.goal (branch (take c.args.detour.d c.args.path.now) (barred (entries c.args.query.n c.args.work.now c.args.detour.count) (taking_over c.args.detour.d c.args.detour.parent))) (take c.in-Some.field-0.len c.first_path.new.path) × (cost (arcs_of c.args.graph.now) (take c.in-Some.field-0.len c.first_path.new.path) ≡ cost (arcs_of c.args.graph.now) (take c.args.detour.d c.args.path.now) + c.in-Some.field-0.cost) = within_tail result c.in-Some.is in
     let extent : (c.args.detour.d < c.in-Some.field-0.len) × (c.in-Some.field-0.len ≤ length c.first_path.new.path) = extent_tail c.first_path.ensures.kept.reach c.in-Some.is in
     let count_is : length (entries c.args.query.n c.args.work.now c.args.detour.count) ≡ c.args.detour.count = length_entries c.args.query.n c.args.work.now c.args.detour.count in
     let F = filled in
@@ -73,24 +73,24 @@ returns-then-place-slots c =
 
 pub insert-requires : goal.insert-requires
 insert-requires c =
-    let problem : Problem c.args.query.n c.args.query.start c.args.query.goal c.args.star.now c.args.weights.now c.args.overall.now = c.requires.problem in
-    let filled : Filled c.args.query.n c.args.query.slots (graph_of c.args.star.now c.args.weights.now) c.args.query.start c.args.detour.parent c.args.work.now c.args.detour.count = c.requires.filled in
-    let deviation : Deviation c.args.query.n (graph_of c.args.star.now c.args.weights.now) c.args.query.start c.args.query.goal (entries c.args.query.n c.args.work.now c.args.detour.count) c.args.detour.parent c.args.used.now c.args.barred.now c.args.path.now c.args.detour.parent c.args.detour.d c.args.detour.before = c.requires.deviation in
+    let problem : Problem c.args.query.n c.args.query.start c.args.query.goal c.args.graph.now.star.now c.args.graph.now.weights.now c.args.overall.now = c.requires.problem in
+    let filled : Filled c.args.query.n c.args.query.slots (arcs_of c.args.graph.now) c.args.query.start c.args.detour.parent c.args.work.now c.args.detour.count = c.requires.filled in
+    let deviation : Deviation c.args.query.n (arcs_of c.args.graph.now) c.args.query.start c.args.query.goal (entries c.args.query.n c.args.work.now c.args.detour.count) c.args.detour.parent c.args.used.now c.args.barred.now c.args.path.now c.args.detour.parent c.args.detour.d c.args.detour.before = c.requires.deviation in
     let restored : Restored c.args.used.now c.args.path.now c.args.detour.d c.first_path.new.used c.first_path.new.path = record { flags = c.first_path.ensures.kept.flags; kept = c.first_path.ensures.kept.kept } in
-    let result : FirstWithin (graph_of c.args.star.now c.args.weights.now) c.args.query.start c.args.query.goal (branch (take c.args.detour.d c.args.path.now) (barred (entries c.args.query.n c.args.work.now c.args.detour.count) (taking_over c.args.detour.d c.args.detour.parent))) c.first_path.new.path c.most_wanted-most.result c.first_path.result = let D = deviation in c.first_path.ensures.by_index _ _ D.begins D.flagged in
-    let first : First (graph_of c.args.star.now c.args.weights.now) c.args.query.start c.args.query.goal (branch (take c.args.detour.d c.args.path.now) (barred (entries c.args.query.n c.args.work.now c.args.detour.count) (taking_over c.args.detour.d c.args.detour.parent))) (take c.in-Some.field-0.len c.first_path.new.path) × (cost (graph_of c.args.star.now c.args.weights.now) (take c.in-Some.field-0.len c.first_path.new.path) ≡ cost (graph_of c.args.star.now c.args.weights.now) (take c.args.detour.d c.args.path.now) + c.in-Some.field-0.cost) = within_tail result c.in-Some.is in
+    let result : FirstWithin (arcs_of c.args.graph.now) c.args.query.start c.args.query.goal (branch (take c.args.detour.d c.args.path.now) (barred (entries c.args.query.n c.args.work.now c.args.detour.count) (taking_over c.args.detour.d c.args.detour.parent))) c.first_path.new.path c.most_wanted-most.result c.first_path.result = let D = deviation in c.first_path.ensures.first_within _ _ D.begins D.flagged in
+    let first : First (arcs_of c.args.graph.now) c.args.query.start c.args.query.goal (branch (take c.args.detour.d c.args.path.now) (barred (entries c.args.query.n c.args.work.now c.args.detour.count) (taking_over c.args.detour.d c.args.detour.parent))) (take c.in-Some.field-0.len c.first_path.new.path) × (cost (arcs_of c.args.graph.now) (take c.in-Some.field-0.len c.first_path.new.path) ≡ cost (arcs_of c.args.graph.now) (take c.args.detour.d c.args.path.now) + c.in-Some.field-0.cost) = within_tail result c.in-Some.is in
     let extent : (c.args.detour.d < c.in-Some.field-0.len) × (c.in-Some.field-0.len ≤ length c.first_path.new.path) = extent_tail c.first_path.ensures.kept.reach c.in-Some.is in
     let count_is : length (entries c.args.query.n c.args.work.now c.args.detour.count) ≡ c.args.detour.count = length_entries c.args.query.n c.args.work.now c.args.detour.count in
     record { kept = filled.kept; place_le_count = (omega (arith, c.place_for-place.ensures.upper, count_is), omega (arith, c.place_for-place.ensures.upper, count_is, filled.kept.upto), rest_short problem deviation c.first_path.new.path c.in-Some.field-0.len restored.kept extent.0 extent.1 first.0.member.path) }
 
 pub returns : goal.returns
 returns c =
-    let problem : Problem c.args.query.n c.args.query.start c.args.query.goal c.args.star.now c.args.weights.now c.args.overall.now = c.requires.problem in
-    let filled : Filled c.args.query.n c.args.query.slots (graph_of c.args.star.now c.args.weights.now) c.args.query.start c.args.detour.parent c.args.work.now c.args.detour.count = c.requires.filled in
-    let deviation : Deviation c.args.query.n (graph_of c.args.star.now c.args.weights.now) c.args.query.start c.args.query.goal (entries c.args.query.n c.args.work.now c.args.detour.count) c.args.detour.parent c.args.used.now c.args.barred.now c.args.path.now c.args.detour.parent c.args.detour.d c.args.detour.before = c.requires.deviation in
+    let problem : Problem c.args.query.n c.args.query.start c.args.query.goal c.args.graph.now.star.now c.args.graph.now.weights.now c.args.overall.now = c.requires.problem in
+    let filled : Filled c.args.query.n c.args.query.slots (arcs_of c.args.graph.now) c.args.query.start c.args.detour.parent c.args.work.now c.args.detour.count = c.requires.filled in
+    let deviation : Deviation c.args.query.n (arcs_of c.args.graph.now) c.args.query.start c.args.query.goal (entries c.args.query.n c.args.work.now c.args.detour.count) c.args.detour.parent c.args.used.now c.args.barred.now c.args.path.now c.args.detour.parent c.args.detour.d c.args.detour.before = c.requires.deviation in
     let restored : Restored c.args.used.now c.args.path.now c.args.detour.d c.first_path.new.used c.first_path.new.path = record { flags = c.first_path.ensures.kept.flags; kept = c.first_path.ensures.kept.kept } in
-    let result : FirstWithin (graph_of c.args.star.now c.args.weights.now) c.args.query.start c.args.query.goal (branch (take c.args.detour.d c.args.path.now) (barred (entries c.args.query.n c.args.work.now c.args.detour.count) (taking_over c.args.detour.d c.args.detour.parent))) c.first_path.new.path c.most_wanted-most.result c.first_path.result = let D = deviation in c.first_path.ensures.by_index _ _ D.begins D.flagged in
-    let first : First (graph_of c.args.star.now c.args.weights.now) c.args.query.start c.args.query.goal (branch (take c.args.detour.d c.args.path.now) (barred (entries c.args.query.n c.args.work.now c.args.detour.count) (taking_over c.args.detour.d c.args.detour.parent))) (take c.in-Some.field-0.len c.first_path.new.path) × (cost (graph_of c.args.star.now c.args.weights.now) (take c.in-Some.field-0.len c.first_path.new.path) ≡ cost (graph_of c.args.star.now c.args.weights.now) (take c.args.detour.d c.args.path.now) + c.in-Some.field-0.cost) = within_tail result c.in-Some.is in
+    let result : FirstWithin (arcs_of c.args.graph.now) c.args.query.start c.args.query.goal (branch (take c.args.detour.d c.args.path.now) (barred (entries c.args.query.n c.args.work.now c.args.detour.count) (taking_over c.args.detour.d c.args.detour.parent))) c.first_path.new.path c.most_wanted-most.result c.first_path.result = let D = deviation in c.first_path.ensures.first_within _ _ D.begins D.flagged in
+    let first : First (arcs_of c.args.graph.now) c.args.query.start c.args.query.goal (branch (take c.args.detour.d c.args.path.now) (barred (entries c.args.query.n c.args.work.now c.args.detour.count) (taking_over c.args.detour.d c.args.detour.parent))) (take c.in-Some.field-0.len c.first_path.new.path) × (cost (arcs_of c.args.graph.now) (take c.in-Some.field-0.len c.first_path.new.path) ≡ cost (arcs_of c.args.graph.now) (take c.args.detour.d c.args.path.now) + c.in-Some.field-0.cost) = within_tail result c.in-Some.is in
     let extent : (c.args.detour.d < c.in-Some.field-0.len) × (c.in-Some.field-0.len ≤ length c.first_path.new.path) = extent_tail c.first_path.ensures.kept.reach c.in-Some.is in
     let count_is : length (entries c.args.query.n c.args.work.now c.args.detour.count) ≡ c.args.detour.count = length_entries c.args.query.n c.args.work.now c.args.detour.count in
     let P = problem in
@@ -105,10 +105,10 @@ returns c =
 
 pub overflow_add-cost : goal.overflow_add-cost
 overflow_add-cost c =
-    let problem : Problem c.args.query.n c.args.query.start c.args.query.goal c.args.star.now c.args.weights.now c.args.overall.now = c.requires.problem in
-    let deviation : Deviation c.args.query.n (graph_of c.args.star.now c.args.weights.now) c.args.query.start c.args.query.goal (entries c.args.query.n c.args.work.now c.args.detour.count) c.args.detour.parent c.args.used.now c.args.barred.now c.args.path.now c.args.detour.parent c.args.detour.d c.args.detour.before = c.requires.deviation in
-    let result : FirstWithin (graph_of c.args.star.now c.args.weights.now) c.args.query.start c.args.query.goal (branch (take c.args.detour.d c.args.path.now) (barred (entries c.args.query.n c.args.work.now c.args.detour.count) (taking_over c.args.detour.d c.args.detour.parent))) c.first_path.new.path c.most_wanted-most.result c.first_path.result = let D = deviation in c.first_path.ensures.by_index _ _ D.begins D.flagged in
-    let first : First (graph_of c.args.star.now c.args.weights.now) c.args.query.start c.args.query.goal (branch (take c.args.detour.d c.args.path.now) (barred (entries c.args.query.n c.args.work.now c.args.detour.count) (taking_over c.args.detour.d c.args.detour.parent))) (take c.in-Some.field-0.len c.first_path.new.path) × (cost (graph_of c.args.star.now c.args.weights.now) (take c.in-Some.field-0.len c.first_path.new.path) ≡ cost (graph_of c.args.star.now c.args.weights.now) (take c.args.detour.d c.args.path.now) + c.in-Some.field-0.cost) = within_tail result c.in-Some.is in
+    let problem : Problem c.args.query.n c.args.query.start c.args.query.goal c.args.graph.now.star.now c.args.graph.now.weights.now c.args.overall.now = c.requires.problem in
+    let deviation : Deviation c.args.query.n (arcs_of c.args.graph.now) c.args.query.start c.args.query.goal (entries c.args.query.n c.args.work.now c.args.detour.count) c.args.detour.parent c.args.used.now c.args.barred.now c.args.path.now c.args.detour.parent c.args.detour.d c.args.detour.before = c.requires.deviation in
+    let result : FirstWithin (arcs_of c.args.graph.now) c.args.query.start c.args.query.goal (branch (take c.args.detour.d c.args.path.now) (barred (entries c.args.query.n c.args.work.now c.args.detour.count) (taking_over c.args.detour.d c.args.detour.parent))) c.first_path.new.path c.most_wanted-most.result c.first_path.result = let D = deviation in c.first_path.ensures.first_within _ _ D.begins D.flagged in
+    let first : First (arcs_of c.args.graph.now) c.args.query.start c.args.query.goal (branch (take c.args.detour.d c.args.path.now) (barred (entries c.args.query.n c.args.work.now c.args.detour.count) (taking_over c.args.detour.d c.args.detour.parent))) (take c.in-Some.field-0.len c.first_path.new.path) × (cost (arcs_of c.args.graph.now) (take c.in-Some.field-0.len c.first_path.new.path) ≡ cost (arcs_of c.args.graph.now) (take c.args.detour.d c.args.path.now) + c.in-Some.field-0.cost) = within_tail result c.in-Some.is in
     omega (arith, first.1, path_small problem first.0.member.path, deviation.costs)
 
 pub slice_bounds-place_for-end : goal.slice_bounds-place_for-end
@@ -123,8 +123,8 @@ slice_bounds-place_for-end-2 c =
 
 pub overflow_cast-parent : goal.overflow_cast-parent
 overflow_cast-parent c =
-    let filled : Filled c.args.query.n c.args.query.slots (graph_of c.args.star.now c.args.weights.now) c.args.query.start c.args.detour.parent c.args.work.now c.args.detour.count = c.requires.filled in
-    let deviation : Deviation c.args.query.n (graph_of c.args.star.now c.args.weights.now) c.args.query.start c.args.query.goal (entries c.args.query.n c.args.work.now c.args.detour.count) c.args.detour.parent c.args.used.now c.args.barred.now c.args.path.now c.args.detour.parent c.args.detour.d c.args.detour.before = c.requires.deviation in
+    let filled : Filled c.args.query.n c.args.query.slots (arcs_of c.args.graph.now) c.args.query.start c.args.detour.parent c.args.work.now c.args.detour.count = c.requires.filled in
+    let deviation : Deviation c.args.query.n (arcs_of c.args.graph.now) c.args.query.start c.args.query.goal (entries c.args.query.n c.args.work.now c.args.detour.count) c.args.detour.parent c.args.used.now c.args.barred.now c.args.path.now c.args.detour.parent c.args.detour.d c.args.detour.before = c.requires.deviation in
     let count_is : length (entries c.args.query.n c.args.work.now c.args.detour.count) ≡ c.args.detour.count = length_entries c.args.query.n c.args.work.now c.args.detour.count in
     omega (arith, deviation.fits.known, filled.entered.border, count_is, filled.kept.upto, filled.few)
 
