@@ -12,7 +12,6 @@ use Rattle.branching.proofs.BranchLaws.{beginning_start}
 use Rattle.branching.proofs.FirstLaws.{branch_empty}
 use Rattle.branching.proofs.FlagLaws.{flags_none}
 use Rattle.branching.proofs.NetworkLaws.{graph_small, graph_consistent}
-use native.Mathlib.Omega.{arith}
 use Rattle.branching.proofs.all.shortest_in.Goals as goal
 
 pub returns-in_default : goal.returns-in_default
