@@ -5,9 +5,10 @@ use mathlib.Core.Path.{◌≡◌, refl, ◌∙◌}
 use mathlib.Core.Bool.{false}
 use mathlib.Core.Logic.{⊎_elim}
 use mathlib.Core.List.{List}
-use lib.ListN.{length, take, get_or, get_or-eq_default}
+use lib.ListN.{length, take, get_or, replicate, get_or-eq_default}
 use Rattle.terms.specs.Lists.{elem}
 use Rattle.terms.proofs.ListLaws.{le_or_lt}
+use Rattle.terms.proofs.RoomLaws.{part_long}
 use Rattle.star.specs.Arcs.{graph, heaviest, Arcs}
 use Rattle.star.specs.Layout.{graph_of, Holds}
 use Rattle.star.proofs.ArcLaws.{graph_within}
@@ -43,6 +44,10 @@ module _ {n k : ℕ} {s ws : List ℕ} (holds : Holds n s ws) (nodes : k ≡ n +
   -- labels with the nodes of a beginning barred are exact, as these nodes are the flagged ones
   pub begun_exact : {used barred path ls : List ℕ} {d t : ℕ} → Begun k used barred path d → Ahead k t used → length ls ≡ k → Least (graph_of s ws) used t ls → Exact (graph_of s ws) t ls (take d path)
   begun_exact b a long l = graph_exact long l b.laid.flagged (unflagged b.laid.flagged _ a.unmet)
+
+  -- local arrays have room for its nodes
+  pub room_long : length {A = ℕ} (take k (replicate 201 0)) ≡ k
+  room_long = part_long 201 k (omega (arith, holds.arcs.few_nodes, nodes))
 
   -- the chosen exit is a node
   pub choice_fresh : {ls used barred : List ℕ} {v l y : ℕ} → Choice (graph_of s ws) ls (Unmarked used barred) v l y → Fresh k used y

@@ -2,38 +2,12 @@
 ghost use Rattle.std.specs.Prelude.{◌≡◌, [], ◌+◌, ◌≤◌, length};
 ghost use Rattle.labels.specs.Labels.{Least};
 ghost use Rattle.branching.specs.Branches.{everything};
-ghost use Rattle.branching.specs.Found.{Idle, Ends, Extent, FirstFound};
+ghost use Rattle.branching.specs.Found.{Ends, Extent, FirstFound};
 ghost use Rattle.star.specs.Graphs.{arcs_of};
 
 use crate::first::{Tail, along};
 use exits::least_exit;
 use star::Graph;
-
-// The same as below, with room for the flags, in which no node is flagged yet.
-fn shortest_in(
-    graph: &Graph<'_>,
-    start: u16,
-    goal: usize,
-    overall: &[u64],
-    used: &mut [u8],
-    barred: &[u8],
-    path: &mut [u16],
-) -> Option<Tail>
-    requires nodes { length used.old ≡ graph.now.nodes + 1 }
-    requires idle { Idle (length used.old) used.old barred.now × (length used.old ≤ length path.old + 1) }
-    requires ends { Ends (length used.old) start goal }
-    requires least { Least (arcs_of graph.now) [] goal overall.now × (length overall.now ≡ length used.old) }
-    ensures extent { Extent 1 path.new result }
-    ensures first_found { FirstFound (arcs_of graph.now) start goal (everything start) path.new result }
-{
-    let v = start as usize;
-    path[0] = start;
-    used[v] = 1;
-    let Some(step) = least_exit(graph, v, overall, used, barred) else {
-        return None;
-    };
-    along(graph, goal, overall, used, barred, path, 1, step)
-}
 
 // Writes the first path from start to goal into path; overall are the labels to the goal.
 pub fn shortest(
@@ -49,16 +23,16 @@ pub fn shortest(
     ensures extent { Extent 1 path.new result }
     ensures first_found { FirstFound (arcs_of graph.now) start goal (everything start) path.new result }
 {
-    let mut used = [0u8; 201];
-    let barred = [0u8; 201];
     let places = overall.len();
-    shortest_in(
-        graph,
-        start,
-        goal,
-        overall,
-        &mut used[..places],
-        &barred[..places],
-        path,
-    )
+    let mut flags = [0u8; 201];
+    let unbarred = [0u8; 201];
+    let used = &mut flags[..places];
+    let barred = &unbarred[..places];
+    let v = start as usize;
+    path[0] = start;
+    used[v] = 1;
+    let Some(step) = least_exit(graph, v, overall, used, barred) else {
+        return None;
+    };
+    along(graph, goal, overall, used, barred, path, 1, step)
 }

@@ -80,23 +80,24 @@ fn by_steps(
 }
 
 // The first path of the branch of path[..d], whose next node is not barred, by labels with the nodes
-// of path[..d] barred. labels have a place for each node.
-fn by_labels(
+// of path[..d] barred.
+fn exact_path(
     graph: &Graph<'_>,
     goal: usize,
     used: &mut [u8],
     barred: &[u8],
     path: &mut [u16],
     d: usize,
-    labels: &mut [u64],
 ) -> Option<Tail>
     requires nodes { length used.old ≡ graph.now.nodes + 1 }
     requires begun { Begun (length used.old) used.old barred.now path.old d }
     requires ahead { Ahead (length used.old) goal used.old }
-    requires labels_long { length labels.old ≡ length used.old }
     ensures kept { Kept used.old path.old d used.new path.new result }
     ensures first_found { (s : ℕ) (F : List ℕ) → Beginning (arcs_of graph.now) s goal (take d path.old) → Flagged barred.now F → FirstFound (arcs_of graph.now) s goal (branch (take d path.old) F) path.new result }
 {
+    let mut room = [0u64; 201];
+    let places = used.len();
+    let labels = &mut room[..places];
     least(graph, used, goal, labels);
     let v = path[d - 1] as usize;
     let Some(step) = least_exit(graph, v, labels, used, barred) else {
@@ -113,26 +114,6 @@ fn by_labels(
         len,
         cost: step.rest,
     })
-}
-
-// The same, with room made for the labels.
-fn exact_path(
-    graph: &Graph<'_>,
-    goal: usize,
-    used: &mut [u8],
-    barred: &[u8],
-    path: &mut [u16],
-    d: usize,
-) -> Option<Tail>
-    requires nodes { length used.old ≡ graph.now.nodes + 1 }
-    requires begun { Begun (length used.old) used.old barred.now path.old d }
-    requires ahead { Ahead (length used.old) goal used.old }
-    ensures kept { Kept used.old path.old d used.new path.new result }
-    ensures first_found { (s : ℕ) (F : List ℕ) → Beginning (arcs_of graph.now) s goal (take d path.old) → Flagged barred.now F → FirstFound (arcs_of graph.now) s goal (branch (take d path.old) F) path.new result }
-{
-    let mut labels = [0u64; 201];
-    let places = used.len();
-    by_labels(graph, goal, used, barred, path, d, &mut labels[..places])
 }
 
 // The first path of the branch of path[..d], whose next node is not barred. The step is its least exit
@@ -172,46 +153,7 @@ fn is_dear(l: u64, most: u64) -> bool
 }
 
 // The same, with no exit chosen yet, and only if the path's tail costs `most` at the most: the walk is along
-// sharper labels, which have a place for each node.
-fn by_sharper(
-    graph: &Graph<'_>,
-    goal: usize,
-    overall: &[u64],
-    used: &mut [u8],
-    barred: &[u8],
-    path: &mut [u16],
-    d: usize,
-    labels: &mut [u64],
-    most: u64,
-) -> Option<Tail>
-    requires nodes { length used.old ≡ graph.now.nodes + 1 }
-    requires begun { Begun (length used.old) used.old barred.now path.old d }
-    requires ahead { Ahead (length used.old) goal used.old }
-    requires consistent { Consistent (arcs_of graph.now) goal overall.now (take d path.old) × Small (length used.old) overall.now }
-    requires labels_long { (length labels.old ≡ length used.old) × (most ≤ longest) }
-    ensures kept { Kept used.old path.old d used.new path.new result }
-    ensures first_within { (s : ℕ) (F : List ℕ) → Beginning (arcs_of graph.now) s goal (take d path.old) → Flagged barred.now F → FirstWithin (arcs_of graph.now) s goal (branch (take d path.old) F) path.new most result }
-{
-    let v = path[d - 1] as usize;
-    let quest = Quest {
-        from: v,
-        goal,
-        most,
-    };
-    let sharp = sharpen(graph, quest, overall, used, barred, labels);
-    if !sharp {
-        return exact_path(graph, goal, used, barred, path, d);
-    }
-    let Some(step) = least_exit(graph, v, labels, used, barred) else {
-        return None;
-    };
-    if is_dear(step.rest, most) {
-        return None;
-    }
-    along(graph, goal, labels, used, barred, path, d, step)
-}
-
-// The same, with room made for the labels.
+// sharper labels.
 fn sharp_path(
     graph: &Graph<'_>,
     goal: usize,
@@ -229,19 +171,26 @@ fn sharp_path(
     ensures kept { Kept used.old path.old d used.new path.new result }
     ensures first_within { (s : ℕ) (F : List ℕ) → Beginning (arcs_of graph.now) s goal (take d path.old) → Flagged barred.now F → FirstWithin (arcs_of graph.now) s goal (branch (take d path.old) F) path.new most result }
 {
-    let mut labels = [0u64; 201];
-    let places = used.len();
-    by_sharper(
-        graph,
+    let v = path[d - 1] as usize;
+    let quest = Quest {
+        from: v,
         goal,
-        overall,
-        used,
-        barred,
-        path,
-        d,
-        &mut labels[..places],
         most,
-    )
+    };
+    let mut room = [0u64; 201];
+    let places = used.len();
+    let labels = &mut room[..places];
+    let sharp = sharpen(graph, quest, overall, used, barred, labels);
+    if !sharp {
+        return exact_path(graph, goal, used, barred, path, d);
+    }
+    let Some(step) = least_exit(graph, v, labels, used, barred) else {
+        return None;
+    };
+    if is_dear(step.rest, most) {
+        return None;
+    }
+    along(graph, goal, labels, used, barred, path, d, step)
 }
 
 // The first path of the branch of path[..d], whose next node is not barred, if its tail costs `most` at

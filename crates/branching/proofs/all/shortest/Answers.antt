@@ -1,15 +1,34 @@
--- `all::shortest` lends parts of local arrays for the flags. Assumes nothing.
-use native.Mathlib.Omega.{arith}
-use Prim.Native.Nat.{◌≤◌}
-use mathlib.Core.Path.{refl}
-use lib.ListN.{length}
-use Rattle.terms.proofs.RoomLaws.{part_long, part_zero}
-use Rattle.star.proofs.NetworkLaws.{graph_few}
+-- `all::shortest` lays the start out, and searches the branch of all paths. Assumes nothing.
+use mathlib.Core.Path.{refl, sym, ◌∙◌, subst}
+use mathlib.Core.List.{[]}
+use Rattle.exits.specs.Small.{Small}
+use Rattle.branching.specs.Found.{Extent, FirstFound}
+use Rattle.branching.proofs.AllLaws.{started}
+use Rattle.branching.proofs.FirstLaws.{branch_empty}
+use Rattle.branching.proofs.NetworkLaws.{graph_small, graph_consistent, room_long}
 use Rattle.branching.proofs.all.shortest.Goals as goal
 
-pub shortest_in-requires : goal.shortest_in-requires
-shortest_in-requires c =
-    let few : length c.args.overall.now ≤ 201 = omega (arith, graph_few c.args.graph.now, c.requires.nodes) in
-    let k = part_long 201 (length c.args.overall.now) few in
-    let none = part_zero 201 (length c.args.overall.now) in
-    rw k (record { nodes = c.requires.nodes; idle = (record { barred_long = k; none_used = none; none_barred = none }, c.requires.ends.1); ends = c.requires.ends.0; least = (c.requires.least, refl) })
+pub least_exit-requires-clause-small : goal.least_exit-requires-clause-small
+least_exit-requires-clause-small c = graph_small c.args.graph.now.holds c.requires.nodes refl c.requires.least
+
+pub returns-in_default : goal.returns-in_default
+returns-in_default c =
+    let s = started c.args.path.now (room_long c.args.graph.now.holds c.requires.nodes) c.requires.ends.1 c.requires.ends.0 in
+    let consistent = graph_consistent c.args.graph.now.holds c.requires.nodes refl c.requires.least (λ x. refl) in
+    record { extent = Extent.nothing; first_found = FirstFound.none (λ p i. branch_empty s.begun s.unbarred (s.beginning _) (consistent _) (rw s.last (rw c.in_default.is at c.least_exit.ensures.chosen)) p (rw s.laid i)) }
+
+pub along-requires : goal.along-requires
+along-requires c =
+    let s = started c.args.path.now (room_long c.args.graph.now.holds c.requires.nodes) c.requires.ends.1 c.requires.ends.0 in
+    record {
+      nodes = s.long ∙ c.requires.nodes;
+      begun = s.begun;
+      ahead = s.ahead;
+      consistent = (graph_consistent c.args.graph.now.holds c.requires.nodes refl c.requires.least (λ x. refl) _, subst (λ i. Small i c.args.overall.now) (sym s.long) (graph_small c.args.graph.now.holds c.requires.nodes refl c.requires.least));
+      choice = rw s.last c.in-Some.ensures.chosen;
+    }
+
+pub returns : goal.returns
+returns c =
+    let s = started c.args.path.now (room_long c.args.graph.now.holds c.requires.nodes) c.requires.ends.1 c.requires.ends.0 in
+    record { extent = c.along.ensures.kept.reach; first_found = rw s.laid at (c.along.ensures.first_found c.args.start [] (s.beginning _) s.unbarred) }

@@ -1,12 +1,58 @@
--- `first::exact_path` lends a part of a local array: as many labels as there are flags. Assumes nothing.
+-- `first::exact_path`: with no exit the branch is empty; a walk that arrives is its first path, and so is the path step by step. Assumes nothing.
+use mathlib.Core.Path.{refl, ◌∙◌}
+use Prim.Native.Nat.{◌-◌}
 use native.Mathlib.Omega.{arith}
-use Prim.Native.Nat.{◌≤◌}
-use lib.ListN.{length}
-use Rattle.terms.proofs.RoomLaws.{part_long}
-use Rattle.star.proofs.NetworkLaws.{graph_few}
+use Rattle.branching.specs.Found.{Extent, FirstFound}
+use Rattle.branching.proofs.FirstLaws.{branch_empty, branch_walked, branch_stepped, tried_kept}
+use Rattle.branching.proofs.LaidLaws.{laid_place, laid_kept, tried_again}
+use Rattle.branching.proofs.NetworkLaws.{graph_small, begun_exact, room_long}
 use Rattle.branching.proofs.first.exact_path.Goals as goal
 
-pub by_labels-requires : goal.by_labels-requires
-by_labels-requires c =
-    let nodes_fit : length c.args.used.now ≤ 201 = omega (arith, graph_few c.args.graph.now, c.requires.nodes) in
-    record { nodes = c.requires.nodes; begun = c.requires.begun; ahead = c.requires.ahead; labels_long = part_long 201 _ nodes_fit }
+pub returns-in_default : goal.returns-in_default
+returns-in_default c =
+    let exact = begun_exact c.args.graph.now.holds c.requires.nodes c.requires.begun c.requires.ahead (c.least.auto.labels ∙ room_long c.args.graph.now.holds c.requires.nodes) c.least.ensures in
+    record { kept = record { flags = refl; kept = refl; reach = Extent.nothing }; first_found = λ s F B h. FirstFound.none (branch_empty c.requires.begun h B exact.consistent (rw c.in_default.is at c.least_exit.ensures.chosen)) }
+
+pub attempt-requires : goal.attempt-requires
+attempt-requires c =
+    let long = c.least.auto.labels ∙ room_long c.args.graph.now.holds c.requires.nodes in
+    rw long (record { nodes = c.requires.nodes; laid = (c.requires.begun.laid, rw long at c.in-Some.ensures.usable) })
+
+pub returns-in-Some-attempt : goal.returns-in-Some-attempt
+returns-in-Some-attempt c =
+    let exact = begun_exact c.args.graph.now.holds c.requires.nodes c.requires.begun c.requires.ahead (c.least.auto.labels ∙ room_long c.args.graph.now.holds c.requires.nodes) c.least.ensures in
+    let choice = c.in-Some.ensures.chosen in
+    record {
+      kept = tried_kept (rw c.in-Some-attempt.is at c.attempt.ensures.tried);
+      first_found = λ s F B h.
+          let r = branch_walked c.requires.begun h B choice exact.consistent (rw c.in-Some-attempt.is at (c.attempt.ensures.arrives choice.exit.reached)) in
+          FirstFound.found r.0 r.1;
+    }
+
+pub by_steps-len-requires : goal.by_steps-len-requires
+by_steps-len-requires c =
+    let long = c.least.auto.labels ∙ room_long c.args.graph.now.holds c.requires.nodes in
+    let back = c.attempt.ensures.back in
+    rw back.flags (record { nodes = c.requires.nodes; laid = (laid_kept back.kept c.attempt.auto.path c.requires.begun.laid, rw long at c.in-Some.ensures.usable); ahead = c.requires.ahead; labels_long = long })
+
+pub returns : goal.returns
+returns c =
+    let exact = begun_exact c.args.graph.now.holds c.requires.nodes c.requires.begun c.requires.ahead (c.least.auto.labels ∙ room_long c.args.graph.now.holds c.requires.nodes) c.least.ensures in
+    let back = c.attempt.ensures.back in
+    record {
+      kept = tried_kept (tried_again back c.by_steps-len.ensures.tried);
+      first_found = λ s F B h.
+          let r = branch_stepped c.requires.begun h B c.in-Some.ensures.chosen exact (λ p i. rw back.kept at (c.by_steps-len.ensures.is_first s p (rw back.kept i))) in
+          FirstFound.found r.0 r.1;
+    }
+
+pub least-requires-clause-goal : goal.least-requires-clause-goal
+least-requires-clause-goal c = rw (room_long c.args.graph.now.holds c.requires.nodes) (record { place = c.requires.ahead.place; free = c.requires.ahead.unmet })
+
+pub least_exit-requires-clause-node : goal.least_exit-requires-clause-node
+least_exit-requires-clause-node c = rw (c.least.auto.labels ∙ room_long c.args.graph.now.holds c.requires.nodes) (laid_place (c.args.d - 1) (omega (arith, c.requires.begun.some)) c.requires.begun.laid)
+
+pub least_exit-requires-clause-small : goal.least_exit-requires-clause-small
+least_exit-requires-clause-small c =
+    let long = c.least.auto.labels ∙ room_long c.args.graph.now.holds c.requires.nodes in
+    rw long (graph_small c.args.graph.now.holds c.requires.nodes long c.least.ensures)
