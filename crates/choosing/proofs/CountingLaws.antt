@@ -19,7 +19,7 @@ use Rattle.terms.specs.Ranking.{ranked}
 use Rattle.terms.specs.Robust.{settled, left_open, answer}
 use Rattle.terms.proofs.ListLaws.{split, clash, get_or_mem}
 use Rattle.terms.proofs.RankingLaws.{ranked_rising, ranked_path}
-use Rattle.star.specs.Layout.{graph_of}
+use Rattle.star.specs.Layout.{graph_of, Holds}
 use Rattle.labels.specs.Labels.{far}
 use Rattle.candidates.specs.Slots.{Entry, none, entry_at, entries}
 use Rattle.candidates.specs.Keeping.{Readable}
@@ -51,7 +51,7 @@ outlook_due (Outlook.none_left h) e = clash e refl
 outlook_due (Outlook.late h k) e = clash e refl
 outlook_due (Outlook.unwanted h k l) e = clash e refl
 
-module _ {n s t : ℕ} {star ws overall : List ℕ} (P : Problem n s t star ws overall) {low : ℕ} (no_less : (p : Route) → Path (graph_of star ws) s t p → low ≤ cost (graph_of star ws) p) where
+module _ {n s t : ℕ} {star ws overall : List ℕ} (H : Holds n star ws) (P : Problem n s t (graph_of star ws) overall) {low : ℕ} (no_less : (p : Route) → Path (graph_of star ws) s t p → low ≤ cost (graph_of star ws) p) where
   abbrev g : Graph
   g = graph_of star ws
 
@@ -74,16 +74,16 @@ module _ {n s t : ℕ} {star ws overall : List ℕ} (P : Problem n s t star ws o
       next_due = record { inside = omega (arith, long); cheap = next_cheap; search = C.search }
 
       pub next_rooted : Rooted n w j
-      next_rooted = due_rooted P C.filled next_due
+      next_rooted = due_rooted H P C.filled next_due
 
       -- it is the next of the ranked list
       pub next_within : j < length (ranked n (graph_of star ws) s t)
       next_within =
-          let S = search_rank (problem_within P) P.start_from P.start_to C.filled.entered C.search next_due.inside next_cheap in
+          let S = search_rank (problem_within H P) P.start_from P.start_to C.filled.entered C.search next_due.inside next_cheap in
           omega (arith, ap length S.beginning, length-take (j + 1) (routes s E), length_routes s E, long, length-take (length (take (j + 1) (routes s E))) (ranked n g s t))
 
       pub next_is : get_or (ranked n (graph_of star ws) s t) j [] ≡ route_at s n w j
-      next_is = sym (next_ranked P C.filled.entered C.search next_due.inside next_cheap) ∙ sym (route_at_entries s n w j count inside)
+      next_is = sym (next_ranked H P C.filled.entered C.search next_due.inside next_cheap) ∙ sym (route_at_entries s n w j count inside)
 
       pub next_path : Path (graph_of star ws) s t (route_at s n w j)
       next_path = subst (Path g s t) next_is (ranked_path n g s t (get_or_mem (ranked n g s t) [] j next_within))
@@ -114,7 +114,7 @@ module _ {n s t : ℕ} {star ws overall : List ℕ} (P : Problem n s t star ws o
 
     -- the first candidate is a path, so it costs the best of the column at least
     candidate_path : j < count → Path g s t (get_or (routes s (entries n w count)) j [])
-    candidate_path h = next_is_path (problem_within P) P.start_from P.start_to C.filled.entered C.search (omega (arith, long))
+    candidate_path h = next_is_path (problem_within H P) P.start_from P.start_to C.filled.entered C.search (omega (arith, long))
 
     candidate_cost : j < count → (entry_at n w j).cost ≡ cost g (get_or (routes s (entries n w count)) j [])
     candidate_cost h = ap (λ (e : Entry). e.cost) (sym (entry_is h)) ∙ entry_cost C.filled.entered j
@@ -176,8 +176,8 @@ module _ {n s t : ℕ} {star ws overall : List ℕ} (P : Problem n s t star ws o
 
       pub settled_end : {K : ℕ} {z : Option ℕ} → M ≡ K + 1 → j ≤ K → Ended n w count j (low) figure z → z ≡ None
           → answer (λ p. cost (graph_of star ws) p - low) fig wst (ranked n (graph_of star ws) s t) K ≡ settled (route_at s n w place) figure worst j
-      settled_end {K} m upto (Ended.none_left z) e = late_answer K upto (rest_none P C.filled.entered C.search (omega (arith, long)) (omega arith))
-      settled_end {K} m upto (Ended.late h k) e = late_answer K upto (rest_beyond P C.filled.entered C.search (omega (arith, long)) (rw (entry_is h) k))
+      settled_end {K} m upto (Ended.none_left z) e = late_answer K upto (rest_none H P C.filled.entered C.search (omega (arith, long)) (omega arith))
+      settled_end {K} m upto (Ended.late h k) e = late_answer K upto (rest_beyond H P C.filled.entered C.search (omega (arith, long)) (rw (entry_is h) k))
       settled_end {K} m upto (Ended.more _ h k z) e = absurd (none-some _ (sym e))
 
       pub open_end : {K floor : ℕ} {z : Option ℕ} → j ≡ K → Ended n w count j (low) figure z → z ≡ Some floor
@@ -195,7 +195,7 @@ module _ {n s t : ℕ} {star ws overall : List ℕ} (P : Problem n s t star ws o
     first_path = ranked_path n g s t (get_or_mem (ranked n g s t) [] 0 exists)
 
     pub low_small : low ≤ longest
-    low_small = omega (arith, no_less _ first_path, path_small P first_path)
+    low_small = omega (arith, no_less _ first_path, path_small H P first_path)
 
     module _ {M : ℕ} {w w' : List ℕ} {count : ℕ} (B : Begins n M (graph_of star ws) s t w w' count) where
       some_entry : 0 < count
@@ -203,15 +203,15 @@ module _ {n s t : ℕ} {star ws overall : List ℕ} (P : Problem n s t star ws o
         where
           none : 0 ≡ count → ⊥
           none z =
-              ⊎_elim (λ m. elim m [ ]) (λ b. omega (arith, path_small P first_path))
-              (rest_none P B.filled.entered B.search (length_entries n w' count ∙ sym z) (omega (arith, B.filled.some)) (get_or (ranked n g s t) 0 []) (get_or_mem (ranked n g s t) [] 0 exists))
+              ⊎_elim (λ m. elim m [ ]) (λ b. omega (arith, path_small H P first_path))
+              (rest_none H P B.filled.entered B.search (length_entries n w' count ∙ sym z) (omega (arith, B.filled.some)) (get_or (ranked n g s t) 0 []) (get_or_mem (ranked n g s t) [] 0 exists))
 
       pub counting_none : (fig wst : Route → ℕ) → ((p : Route) → Path (graph_of star ws) s t p → fig p < far - low)
           → Counting n M (graph_of star ws) s t (low) fig wst w' count 0 0 (far - low) 0
       counting_none fig wst small = record {
         filled = B.filled;
         search = subst (λ (l : ℕ). Searching n g s t M l (entries n w' count) 0 []) whole B.search;
-        first = λ z. (some_entry, omega (arith, whole, ap (λ (e : Entry). e.cost) (entries_at n w' count 0 some_entry), (due_next P B.filled some_entry B.search).cheap));
+        first = λ z. (some_entry, omega (arith, whole, ap (λ (e : Entry). e.cost) (entries_at n w' count 0 some_entry), (due_next H P B.filled some_entry B.search).cheap));
         leading = record { above_all = λ z i h. small _ (ranked_path n g s t (get_or_mem (ranked n g s t) [] i h)); leads = λ h. absurd (omega arith) };
         going = going_none;
       }

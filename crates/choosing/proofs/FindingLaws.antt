@@ -14,7 +14,7 @@ use Rattle.terms.specs.Regret.{figure_over, worst_over}
 use Rattle.terms.specs.Robust.{answer, robust_over}
 use Rattle.terms.proofs.ListLaws.{clash, get_or_mem}
 use Rattle.terms.proofs.RankingLaws.{ranked_path}
-use Rattle.star.specs.Layout.{graph_of}
+use Rattle.star.specs.Layout.{graph_of, Holds}
 use Rattle.candidates.specs.Slots.{entry_at}
 use Rattle.candidates.specs.Routes.{route_at, Rooted}
 use Rattle.candidates.proofs.LayingLaws.{all_laid}
@@ -48,7 +48,7 @@ floor_is (Ended.none_left y) h = tt
 floor_is (Ended.late y x) h = tt
 floor_is (Ended.more _ y x u) h = omega (arith, h y)
 
-module _ {n m s t r : ℕ} (K : ℕ) {star ws overall costs bests : List ℕ} (P : Problem n s t star ws overall) (Q : Priced n m s t star costs bests) (I : InColumn r m (length bests) ws costs)
+module _ {n m s t r : ℕ} (K : ℕ) {star ws overall costs bests : List ℕ} (H : Holds n star ws) (P : Problem n s t (graph_of star ws) overall) (Q : Priced n m s t star costs bests) (I : InColumn r m (length bests) ws costs)
     {w : List ℕ} {count j : ℕ} {l : Leader}
     (C : Counting n (K + 1) (graph_of star ws) s t (get_or bests (r - 1) 0) (figure_over (network n m (length bests) star costs) bests) (worst_over (network n m (length bests) star costs) bests) w count j l.place l.figure l.worst) where
   leader_small : 1 ≤ j → l.figure ≤ 199000000
@@ -59,10 +59,10 @@ module _ {n m s t r : ℕ} (K : ℕ) {star ws overall costs bests : List ℕ} (P
   pub decided : {b : Bool} {f : Finding} → 1 ≤ K → K ≤ 256 → j ≤ K → Outlook n w count j (get_or bests (r - 1) 0 + l.figure) K b → b ≡ false → Judged n w count j (get_or bests (r - 1) 0) l f
       → Decided n s w (robust_over (network n m (length bests) star costs) bests r s t K) f
   decided {b} {f} lo hi upto o e J = record {
-    rooted = subst (λ (x : Leader). Rooted n w x.place) (sym J.leader_is) (leader_rooted P low C some);
+    rooted = subst (λ (x : Leader). Rooted n w x.place) (sym J.leader_is) (leader_rooted H P low C some);
     answers = ap (λ (x : Leader). answer_of (route_at s n w x.place) x.figure x.worst f.count f.floor) J.leader_is ∙ ap (λ (k : ℕ). answer_of leader l.figure l.worst k f.floor) J.count_is ∙ by_floor f.floor J.ended ∙ sym (robust_is Q I K);
     small_figure = omega (arith, ap (λ (x : Leader). x.figure) J.leader_is, leader_small some);
-    small_floor = floor_is J.ended (candidate_least P low C 199000000 (own_cost_to Q I));
+    small_floor = floor_is J.ended (candidate_least H P low C 199000000 (own_cost_to Q I));
     small_count = omega (arith, J.count_is);
   }
     where
@@ -70,12 +70,12 @@ module _ {n m s t r : ℕ} (K : ℕ) {star ws overall costs bests : List ℕ} (P
       low = low_no_less Q I
 
       some : 1 ≤ j
-      some = counted_some P low C lo o e
+      some = counted_some H P low C lo o e
 
       leader : Route
       leader = route_at s n w l.place
 
       by_floor : (z : Option ℕ) → Ended n w count j (get_or bests (r - 1) 0) l.figure z
           → answer_of leader l.figure l.worst j z ≡ answer (λ p. cost (graph_of star ws) p - get_or bests (r - 1) 0) (figure_over (network n m (length bests) star costs) bests) (worst_over (network n m (length bests) star costs) bests) (ranked n (graph_of star ws) s t) K
-      by_floor None E = sym (settled_end P low C some refl upto E refl)
-      by_floor (Some floor) E = sym (open_end P low C some (omega (arith, all_wanted o e E refl)) E refl)
+      by_floor None E = sym (settled_end H P low C some refl upto E refl)
+      by_floor (Some floor) E = sym (open_end H P low C some (omega (arith, all_wanted o e E refl)) E refl)

@@ -3,7 +3,7 @@ ghost use Rattle.std.specs.Prelude.{◌≡◌, ◌++◌, ◌+◌, ◌*◌, ◌�
 ghost use Rattle.terms.specs.Paths.{Route};
 ghost use Rattle.terms.specs.Ranking.{ranked};
 ghost use Rattle.terms.specs.Robust.{robust_over};
-ghost use Rattle.star.specs.Layout.{graph_of};
+ghost use Rattle.star.specs.Layout.{graph_of, Holds};
 ghost use Rattle.ranking.specs.Ranking.{Problem, Space};
 ghost use Rattle.measuring.specs.Columns.{network};
 ghost use Rattle.choosing.specs.Answers.{chosen_length, answered};
@@ -56,7 +56,7 @@ pub fn least_regret(
     work: &mut [u32],
     route: &mut [u16],
 ) -> Decision
-    requires problem { Problem task.n task.start task.goal star.now weights.now overall.now × Space task.n (task.wanted + 1) work.old }
+    requires problem { Holds task.n star.now weights.now × Problem task.n task.start task.goal (graph_of star.now weights.now) overall.now × Space task.n (task.wanted + 1) work.old }
     requires priced { Priced task.n (length weights.now) task.start task.goal star.now costs.now bests.now }
     requires in_column { InColumn task.column (length weights.now) (length bests.now) weights.now costs.now }
     requires le_wanted { (1 ≤ task.wanted) × (1 ≤ length (ranked task.n (graph_of star.now weights.now) task.start task.goal)) }

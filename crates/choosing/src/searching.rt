@@ -2,7 +2,7 @@
 ghost use Rattle.std.specs.Prelude.{◌≡◌, ◌+◌, ◌*◌, ◌≤◌, ◌<◌, length, drop};
 ghost use Rattle.terms.specs.Ranking.{ranked};
 ghost use Rattle.terms.specs.Robust.{robust_over};
-ghost use Rattle.star.specs.Layout.{graph_of};
+ghost use Rattle.star.specs.Layout.{graph_of, Holds};
 ghost use Rattle.candidates.specs.Slots.{entry_at};
 ghost use Rattle.candidates.specs.Keeping.{Readable};
 ghost use Rattle.ranking.specs.Ranking.{Problem, Space};
@@ -15,6 +15,7 @@ use crate::task::Task;
 use candidates::cost_at;
 use labels::FAR;
 use ranking::{Query, begin, split};
+use star::Graph;
 
 // What the search found: the leader, how many paths are counted, and the floor if the stopping rule doesn't
 // hold.
@@ -52,16 +53,16 @@ fn judge(work: &[u32], n: usize, count: usize, counted: usize, best: u64, leader
 // Ranks and counts paths in the ranking order of the column until the rule holds, or as many as wanted
 // are counted. What is left out on the way costs too much to count or to be the floor: at least the
 // column's best and the least figure so far.
-pub fn search(
+pub fn search<'a>(
     task: Task,
-    star: &[u16],
-    weights: &[u32],
-    overall: &[u64],
+    star: &'a [u16],
+    weights: &'a [u32],
+    overall: &'a [u64],
     costs: &[u32],
     bests: &[u64],
     work: &mut [u32],
 ) -> Finding
-    requires problem { Problem task.n task.start task.goal star.now weights.now overall.now × Space task.n (task.wanted + 1) work.old }
+    requires problem { Holds task.n star.now weights.now × Problem task.n task.start task.goal (graph_of star.now weights.now) overall.now × Space task.n (task.wanted + 1) work.old }
     requires priced { Priced task.n (length weights.now) task.start task.goal star.now costs.now bests.now }
     requires in_column { InColumn task.column (length weights.now) (length bests.now) weights.now costs.now }
     requires le_wanted { (1 ≤ task.wanted) × (1 ≤ length (ranked task.n (graph_of star.now weights.now) task.start task.goal)) }
@@ -72,16 +73,20 @@ pub fn search(
     let column = task.column;
     let wanted = task.wanted;
     let best = bests[column - 1];
-    let slots = wanted + 1;
     let m = weights.len();
-    let first = Query {
+    let graph = Graph {
+        nodes: n,
+        star,
+        weights,
+    };
+    let query = Query {
+        graph,
+        labels: overall,
         start: task.start,
         goal: task.goal,
-        n,
-        slots,
-        limit: FAR,
+        slots: wanted + 1,
     };
-    let mut count = begin(first, star, weights, overall, work);
+    let mut count = begin(&query, work);
     let mut leader = Leader {
         place: 0,
         figure: FAR - best,
@@ -93,14 +98,7 @@ pub fn search(
         // the path that is ranked costs less than the limit, also where its own deviation reaches the
         // least figure
         let limit = (best + leader.figure).max(cost_at(work, n, j) + 1);
-        let query = Query {
-            start: task.start,
-            goal: task.goal,
-            n,
-            slots,
-            limit,
-        };
-        count = split(query, star, weights, overall, work, count, j);
+        count = split(&query, limit, work, count, j);
         j += 1;
     }
     judge(work, n, count, j, best, leader)

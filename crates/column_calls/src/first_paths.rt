@@ -2,10 +2,8 @@
 ghost use Rattle.std.specs.Prelude.{◌≡◌, map, ◌<◌, length, take, replicate};
 ghost use Rattle.terms.specs.Paths.{Route, Path, cost};
 ghost use Rattle.terms.specs.Ranking.{ranked};
-ghost use Rattle.star.specs.Layout.{graph_of};
-ghost use Rattle.labels.specs.Labels.{far};
+ghost use Rattle.star.specs.Graphs.{arcs_of};
 ghost use Rattle.listing.specs.Rows.{rows_of};
-ghost use Rattle.ranking.specs.Ranking.{Problem};
 ghost use Rattle.image.specs.Outcome.{sound, after};
 ghost use Rattle.loading.specs.Networks.{net};
 ghost use Rattle.loading.specs.Accepted.{InColumn, Ends};
@@ -17,70 +15,74 @@ use labels::FAR;
 use listing::{clear, write_rows};
 use loading::{Network, load};
 use ranking::{Query, rank_paths};
+use star::Graph;
+
+// Which paths are listed: the first ones from start to goal, as many as there are slots.
+#[derive(Clone, Copy)]
+struct Wanted {
+    start: u16,
+    goal: usize,
+    slots: usize,
+}
 
 // Writes the first paths from start to goal in a loaded column, as many as there are slots or all, and
 // returns their number. The workspace is cleared.
-fn list_loaded(
-    query: Query,
-    star: &[u16],
-    weights: &[u32],
-    overall: &[u64],
-    work: &mut [u32],
-    rows: &mut [u16],
-    costs: &mut [u32],
-) -> usize
-    requires problem { Problem query.n query.start query.goal star.now weights.now overall.now × (query.limit ≡ far) }
-    requires list_slices { ListSlices query.n query.slots rows.old costs.old work.old }
-    requires p_bound { (p : Route) → Path (graph_of star.now weights.now) query.start query.goal p → cost (graph_of star.now weights.now) p < 4294967296 }
-    ensures value { result ≡ length (take query.slots (ranked query.n (graph_of star.now weights.now) query.start query.goal)) }
-    ensures rows_after { rows.new ≡ after sound (rows_of query.n (take query.slots (ranked query.n (graph_of star.now weights.now) query.start query.goal))) rows.old }
-    ensures costs_after { costs.new ≡ after sound (map (cost (graph_of star.now weights.now)) (take query.slots (ranked query.n (graph_of star.now weights.now) query.start query.goal))) costs.old }
+fn list_loaded(query: &Query<'_>, work: &mut [u32], rows: &mut [u16], costs: &mut [u32]) -> usize
+    requires list_slices { ListSlices query.now.graph.nodes query.now.slots rows.old costs.old work.old }
+    requires costs_fit { (p : Route) → Path (arcs_of query.now.graph) query.now.start query.now.goal p → cost (arcs_of query.now.graph) p < 4294967296 }
+    ensures value { result ≡ length (take query.now.slots (ranked query.now.graph.nodes (arcs_of query.now.graph) query.now.start query.now.goal)) }
+    ensures rows_after { rows.new ≡ after sound (rows_of query.now.graph.nodes (take query.now.slots (ranked query.now.graph.nodes (arcs_of query.now.graph) query.now.start query.now.goal))) rows.old }
+    ensures costs_after { costs.new ≡ after sound (map (cost (arcs_of query.now.graph)) (take query.now.slots (ranked query.now.graph.nodes (arcs_of query.now.graph) query.now.start query.now.goal))) costs.old }
     ensures work_after { work.new ≡ replicate (length work.old) 0 }
 {
-    let count = rank_paths(query, star, weights, overall, work);
-    write_rows(work, query.n, count, query.start, rows, costs);
+    let count = rank_paths(query, work);
+    write_rows(work, query.graph.nodes, count, query.start, rows, costs);
     clear(work);
     count
 }
 
 // The same from the image on, with room for all that the search needs. Nothing is touched if there is
 // no path.
-fn list_in(
+fn list_in<'a>(
     network: &Network<'_>,
     u: u32,
-    query: Query,
-    star: &mut [u16],
-    weights: &mut [u32],
-    overall: &mut [u64],
+    wanted: Wanted,
+    star: &'a mut [u16],
+    weights: &'a mut [u32],
+    overall: &'a mut [u64],
     work: &mut [u32],
     rows: &mut [u16],
     costs: &mut [u32],
 ) -> usize
     requires column { InColumn network.now.image.now u }
-    requires ends { Ends (net network.now).nodes query.start query.goal }
-    requires n_value { (query.n ≡ network.now.sizes.n) × (query.limit ≡ far) × Room network.now.sizes.n network.now.sizes.m star.old weights.old overall.old }
-    requires list_slices { ListSlices query.n query.slots rows.old costs.old work.old }
-    ensures value { result ≡ length (rank_of network.now.image.now u query.start query.goal query.slots) }
-    ensures rows_after { rows.new ≡ after sound (rank_rows_of network.now.image.now u query.start query.goal query.slots) rows.old }
-    ensures costs_after { costs.new ≡ after sound (rank_costs_of network.now.image.now u query.start query.goal query.slots) costs.old }
+    requires ends { Ends (net network.now).nodes wanted.start wanted.goal }
+    requires room { Room network.now.sizes.n network.now.sizes.m star.old weights.old overall.old }
+    requires list_slices { ListSlices network.now.sizes.n wanted.slots rows.old costs.old work.old }
+    ensures value { result ≡ length (rank_of network.now.image.now u wanted.start wanted.goal wanted.slots) }
+    ensures rows_after { rows.new ≡ after sound (rank_rows_of network.now.image.now u wanted.start wanted.goal wanted.slots) rows.old }
+    ensures costs_after { costs.new ≡ after sound (rank_costs_of network.now.image.now u wanted.start wanted.goal wanted.slots) costs.old }
     ensures listed_work { ListedWork result work.old work.new }
 {
-    let m = load(network, u, query.goal, star, weights, overall);
-    let start = query.start as usize;
+    let m = load(network, u, wanted.goal, star, weights, overall);
+    let start = wanted.start as usize;
     if overall[start] == FAR {
         return 0;
     }
     let places = overall.len();
     let size = 3 * m + places + 1 + places;
-    list_loaded(
-        query,
-        &star[..size],
-        &weights[..m],
-        overall,
-        work,
-        rows,
-        costs,
-    )
+    let graph = Graph {
+        nodes: network.sizes.n as usize,
+        star: &star[..size],
+        weights: &weights[..m],
+    };
+    let query = Query {
+        graph,
+        labels: overall,
+        start: wanted.start,
+        goal: wanted.goal,
+        slots: wanted.slots,
+    };
+    list_loaded(&query, work, rows, costs)
 }
 
 // The same, with room made for it.
@@ -106,20 +108,17 @@ pub fn list(
     let mut weights = [0u32; 1000];
     let mut overall = [0u64; 201];
     let arcs = network.sizes.m as usize;
-    let n = network.sizes.n as usize;
-    let places = n + 1;
+    let places = network.sizes.n as usize + 1;
     let size = 3 * arcs + places + 1 + places;
-    let query = Query {
+    let wanted = Wanted {
         start: start as u16,
         goal: goal as usize,
-        n,
         slots: wanted as usize,
-        limit: FAR,
     };
     list_in(
         network,
         u,
-        query,
+        wanted,
         &mut star[..size],
         &mut weights[..arcs],
         &mut overall[..places],

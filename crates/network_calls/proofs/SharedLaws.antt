@@ -28,7 +28,8 @@ use Rattle.image.specs.Layout.{edition, net_of}
 use Rattle.closures.specs.Map.{without, closed_roads}
 use Rattle.closures.proofs.WithoutLaws.{without_columns, without_nodes, without_admitted, left_count}
 use Rattle.image.specs.declared.check.Sizes.{Sizes}
-use Rattle.star.specs.Layout.{tails_of, heads_of, graph_of, Network}
+use Rattle.star.specs.Layout.{tails_of, heads_of, graph_of, Holds, Network}
+use Rattle.star.proofs.NetworkLaws.{network_holds}
 use Rattle.labels.specs.Labels.{far, Least}
 use Rattle.loading.specs.Accepted.{Accepted, Ends}
 use Rattle.loading.specs.Loaded.{Loaded, Shared}
@@ -247,10 +248,14 @@ module _ {e : ℕ} {net : Net} (ok₀ : Admitted e net) {cols : ℕ} (cols-are :
     pub unreached_row : get_or overall s 0 ≡ far → no_path_row N (column (common net) r) s t ≡ fault 15 0
     unreached_row e = row_none N (λ p h. let k = (labels.least s p (record { path = h; free = λ x i. refl })).1 in absurd (omega arith))
 
+    -- the column is a graph
+    pub shared_holds : Holds n star (take ((r - 1) * m + m - (r - 1) * m) (drop ((r - 1) * m) costs))
+    shared_holds = subst₂ (λ x l. Holds x star l) (sym n_is) (sym (column_part m costs r)) (network_holds (shared_network from upto) refl)
+
     -- the paths in the column can be ranked
-    pub shared_problem : Problem n s t star (take ((r - 1) * m + m - (r - 1) * m) (drop ((r - 1) * m) costs)) overall
-    shared_problem = subst₂ (λ x l. Problem x s t star l overall) (sym n_is) (sym (column_part m costs r))
-        (problem_of (shared_network from upto) (record { start_from = ends.start_in.from; start_place = omega (arith, ends.start_in.upto); goal_place = omega (arith, ends.goal_in.upto); apart = ends.apart }) (λ x. refl) (L.long ∙ ap (λ x. x + 1) n_is) L.least)
+    pub shared_problem : Problem n s t (graph_of star (take ((r - 1) * m + m - (r - 1) * m) (drop ((r - 1) * m) costs))) overall
+    shared_problem = subst₂ (λ x l. Problem x s t (graph_of star l) overall) (sym n_is) (sym (column_part m costs r))
+        (problem_of (network_holds (shared_network from upto) refl) (record { start_from = ends.start_in.from; start_place = omega (arith, ends.start_in.upto); goal_place = omega (arith, ends.goal_in.upto); apart = ends.apart }) (λ x. refl) (L.long ∙ ap (λ x. x + 1) n_is) L.least)
 
   -- ---- what is measured and searched, in a network of n nodes
   module _ {n s t : ℕ} (n_is : n ≡ N) (ends : Ends N s t) {bests : List ℕ} (H : Held net m s t star costs bests) where

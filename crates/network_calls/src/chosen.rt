@@ -3,7 +3,7 @@ ghost use Rattle.std.specs.Prelude.{◌≡◌, ◌+◌, ◌≤◌, length, get_o
 ghost use Rattle.terms.specs.Ranking.{ranked};
 ghost use Rattle.terms.specs.Robust.{robust, robust_over};
 ghost use Rattle.closures.specs.Map.{without};
-ghost use Rattle.star.specs.Layout.{graph_of};
+ghost use Rattle.star.specs.Layout.{graph_of, Holds};
 ghost use Rattle.labels.specs.Labels.{far};
 ghost use Rattle.ranking.specs.Ranking.{Problem, Space};
 ghost use Rattle.measuring.specs.Columns.{network};
@@ -37,7 +37,7 @@ fn choose_priced(
     work: &mut [u32],
     path: &mut [u16],
 ) -> Decision
-    requires problem { Problem task.n task.start task.goal star.now weights.now overall.now × Space task.n (task.wanted + 1) work.old }
+    requires problem { Holds task.n star.now weights.now × Problem task.n task.start task.goal (graph_of star.now weights.now) overall.now × Space task.n (task.wanted + 1) work.old }
     requires priced { Priced task.n (length weights.now) task.start task.goal star.now costs.now bests.now }
     requires in_column { counting.InColumn task.column (length weights.now) (length bests.now) weights.now costs.now }
     requires le_wanted { (1 ≤ task.wanted) × (1 ≤ length (ranked task.n (graph_of star.now weights.now) task.start task.goal)) }

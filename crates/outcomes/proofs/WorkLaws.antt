@@ -9,6 +9,8 @@ use Rattle.image.specs.Outcome.{Fault, sound, fault, after}
 use Rattle.image.proofs.OutcomeLaws.{after_fault}
 use Rattle.loading.specs.Accepted.{Ends}
 use Rattle.loading.specs.Loaded.{Loaded}
+use Rattle.star.specs.Layout.{graph_of, Holds}
+use Rattle.star.proofs.NetworkLaws.{network_holds}
 use Rattle.ranking.specs.Ranking.{Problem}
 use Rattle.ranking.proofs.ResultLaws.{problem_of}
 use Rattle.outcomes.specs.Calls.{workspace, cleared}
@@ -26,9 +28,13 @@ pub cleared_not : {f : Fault} {number place : ℕ} (work : List ℕ) → f ≡ f
 unfolding cleared
 cleared_not work e = after_fault _ _ e
 
+-- a loaded column is a graph of n nodes
+pub column_holds : {net : Net} {u t n : ℕ} {star ws overall : List ℕ} → Loaded net u t star ws overall → n ≡ net.nodes → Holds n star ws
+column_holds {net} l n_is = network_holds (l.network (net.nodes + 1) refl) (ap (λ n. n + 1) (sym n_is))
+
 -- the paths from s to t in a loaded column can be ranked
-pub rank_problem : {net : Net} {u s t n : ℕ} {star ws overall : List ℕ} → Ends net.nodes s t → Loaded net u t star ws overall → n ≡ net.nodes → Problem n s t star ws overall
+pub rank_problem : {net : Net} {u s t n : ℕ} {star ws overall : List ℕ} → Ends net.nodes s t → Loaded net u t star ws overall → n ≡ net.nodes → Problem n s t (graph_of star ws) overall
 rank_problem {net} {s = s} {t = t} {star = star} {ws = ws} {overall = overall} ends l n_is =
-    subst (λ n. Problem n s t star ws overall) (sym n_is)
-    (problem_of (l.network (net.nodes + 1) refl) (record { start_from = ends.start_in.from; start_place = omega (arith, ends.start_in.upto); goal_place = omega (arith, ends.goal_in.upto); apart = ends.apart }) (λ x. refl)
+    subst (λ n. Problem n s t (graph_of star ws) overall) (sym n_is)
+    (problem_of (column_holds l refl) (record { start_from = ends.start_in.from; start_place = omega (arith, ends.start_in.upto); goal_place = omega (arith, ends.goal_in.upto); apart = ends.apart }) (λ x. refl)
     l.labels_long l.least)

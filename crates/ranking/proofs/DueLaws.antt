@@ -8,7 +8,7 @@ use lib.Seq.{take_at, take_all, get_or-take}
 use Rattle.terms.specs.Lists.{◌∈◌}
 use Rattle.terms.specs.Paths.{Route, Loopless, Path, cost}
 use Rattle.terms.proofs.ListLaws.{get_or_mem}
-use Rattle.star.specs.Layout.{graph_of}
+use Rattle.star.specs.Layout.{graph_of, Holds}
 use Rattle.candidates.specs.Slots.{Entry, none, entry_at, entries}
 use Rattle.candidates.specs.Keeping.{Readable}
 use Rattle.candidates.specs.Routes.{routes, size, route_at, Rooted}
@@ -23,7 +23,7 @@ use Rattle.ranking.proofs.EnterLaws.{problem_within, path_nodes, path_small}
 use Rattle.branching.proofs.FlagLaws.{flags_none}
 use Rattle.ranking.proofs.StateLaws.{entry_cost, entered_rank, next_is_path, search_rank, waiting_all}
 
-module _ {n s t : ℕ} {star ws overall : List ℕ} (P : Problem n s t star ws overall) {M r limit : ℕ} {w : List ℕ} {count : ℕ}
+module _ {n s t : ℕ} {star ws overall : List ℕ} (H : Holds n star ws) (P : Problem n s t (graph_of star ws) overall) {M r limit : ℕ} {w : List ℕ} {count : ℕ}
     (F : Filled n M (graph_of star ws) s r w count) (Q : Due n (graph_of star ws) s t M limit (entries n w count) r) where
   abbrev E : List Entry
   E = entries n w count
@@ -59,12 +59,12 @@ module _ {n s t : ℕ} {star ws overall : List ℕ} (P : Problem n s t star ws o
   long = route_length s F.entered.family r Q.inside
 
   pub due_path : Path (graph_of star ws) s t p
-  due_path = next_is_path (problem_within P) P.start_from P.start_to F.entered Q.search Q.inside
+  due_path = next_is_path (problem_within H P) P.start_from P.start_to F.entered Q.search Q.inside
 
   pub due_waiting : Searching n (graph_of star ws) s t M limit E (r + 1) (waiting_to s E r (size e))
   due_waiting =
       subst (λ l. Searching n (graph_of star ws) s t M limit E (r + 1) l) (sym (waiting_all F.entered r Q.inside))
-      (search_rank (problem_within P) P.start_from P.start_to F.entered Q.search Q.inside Q.cheap)
+      (search_rank (problem_within H P) P.start_from P.start_to F.entered Q.search Q.inside Q.cheap)
 
   -- ---- it is laid out
   module _ (len : ℕ) (path path' : List ℕ) (size_is : len ≡ size e) (out : path' ≡ take len (route_at s n w r) ++ drop len path) where
@@ -80,7 +80,7 @@ module _ {n s t : ℕ} {star ws overall : List ℕ} (P : Problem n s t star ws o
       room = omega arith;
       flags_long = ul;
       none_used = I.none_used;
-      nodes = λ i h. let m = path_nodes P due_path (node i h) in (m.0, omega (arith, m.1));
+      nodes = λ i h. let m = path_nodes H P due_path (node i h) in (m.0, omega (arith, m.1));
       loopless = subst Loopless (sym laid_out) due_path.loopless;
     }
       where
@@ -98,5 +98,5 @@ module _ {n s t : ℕ} {star ws overall : List ℕ} (P : Problem n s t star ws o
       lower = omega arith;
       upper = omega arith;
       costs = z ∙ entry_cost F.entered r ∙ ap (cost (graph_of star ws)) (sym laid_out);
-      small = omega (arith, entry_cost F.entered r, path_small P due_path);
+      small = omega (arith, entry_cost F.entered r, path_small H P due_path);
     }

@@ -12,8 +12,8 @@ use Rattle.terms.specs.Paths.{Route, Path, cost}
 use Rattle.terms.proofs.ListLaws.{clash, get_or_mem}
 use Rattle.terms.proofs.PathLaws.{Within, node_within, of_path, at_most_nodes}
 use Rattle.terms.proofs.RankingLaws.{NoLater}
-use Rattle.star.specs.Arcs.{heaviest, Arcs}
-use Rattle.star.specs.Layout.{tails_of, heads_of, graph_of}
+use Rattle.star.specs.Arcs.{heaviest}
+use Rattle.star.specs.Layout.{graph_of, Holds}
 use Rattle.star.proofs.ArcLaws.{linked_at, at_weight, graph_within, path_cost_le}
 use Rattle.candidates.specs.Slots.{Entry, none, entries}
 use Rattle.candidates.specs.Keeping.{inserted, put_in, Inserted}
@@ -52,16 +52,10 @@ module _ {n M : ℕ} {g : Graph} {s j : ℕ} {w : List ℕ} {count : ℕ} (F : F
   unchanged = record { kept = F.kept; entered = F.entered; ranked_same = refl; beyond = refl }
 
 -- ---- nodes of paths
-module _ {n s t : ℕ} {star ws overall : List ℕ} (P : Problem n s t star ws overall) where
-  nodes_are : P.network.nodes ≡ n
-  nodes_are = omega (arith, P.network.places)
-
-  pub problem_arcs : Arcs n (tails_of (length ws) star) (heads_of (length ws) star) ws
-  problem_arcs = subst (λ k. Arcs k (tails_of (length ws) star) (heads_of (length ws) star) ws) nodes_are P.network.arcs
-
+module _ {n s t : ℕ} {star ws overall : List ℕ} (H : Holds n star ws) (P : Problem n s t (graph_of star ws) overall) where
   pub problem_within : Within n (graph_of star ws)
   unfolding graph_of
-  problem_within = graph_within problem_arcs
+  problem_within = graph_within H.arcs
 
   pub path_short : {p : Route} → Path (graph_of star ws) s t p → length p ≤ n
   path_short r = at_most_nodes problem_within P.start_from P.start_to (of_path r)
@@ -71,14 +65,14 @@ module _ {n s t : ℕ} {star ws overall : List ℕ} (P : Problem n s t star ws o
 
   pub path_small : {p : Route} → Path (graph_of star ws) s t p → cost (graph_of star ws) p ≤ longest
   unfolding graph_of
-  path_small r = path_cost_le problem_arcs heaviest problem_arcs.light r
+  path_small r = path_cost_le H.arcs heaviest H.arcs.light r
 
   -- weight and label of an exit can be added to the cost of a beginning
   pub choice_small : {used bars : List ℕ} {v l y : ℕ} → Choice (graph_of star ws) overall (Unmarked used bars) v l y → l ≤ longest + heaviest
   unfolding graph_of
   choice_small {v} {y} c =
-      let a = linked_at problem_arcs v y c.exit.arc in
-      omega (arith, c.attains, P.small.low y c.exit.reached, at_weight problem_arcs a.1, problem_arcs.light a.0 a.1.below)
+      let a = linked_at H.arcs v y c.exit.arc in
+      omega (arith, c.attains, P.small.low y c.exit.reached, at_weight H.arcs a.1, H.arcs.light a.0 a.1.below)
 
   -- ---- the branch of a beginning that is laid out
   module _ {E : List Entry} {j : ℕ} {used bars path : List ℕ} {parent d before : ℕ} (D : Deviation n (graph_of star ws) s t E j used bars path parent d before) where

@@ -11,7 +11,7 @@ use Rattle.terms.specs.Network.{Graph}
 use Rattle.terms.specs.Paths.{cost}
 use Rattle.terms.specs.Ranking.{ranked}
 use Rattle.terms.proofs.RankingLaws.{ranked_path}
-use Rattle.star.specs.Layout.{graph_of}
+use Rattle.star.specs.Layout.{graph_of, Holds}
 use Rattle.labels.specs.Labels.{far}
 use Rattle.candidates.specs.Slots.{Entry, entries}
 use Rattle.candidates.specs.Keeping.{Kept}
@@ -48,7 +48,7 @@ module _ (n : ℕ) (w : List ℕ) where
     costs = refl;
   }
 
-module _ {n s t : ℕ} {star ws overall : List ℕ} (P : Problem n s t star ws overall) where
+module _ {n s t : ℕ} {star ws overall : List ℕ} (H : Holds n star ws) (P : Problem n s t (graph_of star ws) overall) where
   abbrev g : Graph
   g = graph_of star ws
 
@@ -66,7 +66,7 @@ module _ {n s t : ℕ} {star ws overall : List ℕ} (P : Problem n s t star ws o
   pub search_none : (M limit : ℕ) (w : List ℕ) → Searching n g s t M limit (entries n w 0) 0 (branch_of s (entries n w 0) (taking_over 1 0) ∷ [])
   unfolding candidates_from entries numbers
   search_none M limit w =
-      subst (λ β. Searching n g s t M limit (entries n w 0) 0 (β ∷ [])) (sym (all_branch (entries n w 0))) (search.begin n g s t (problem_within P) P.start_from P.start_to M (Beyond g limit))
+      subst (λ β. Searching n g s t M limit (entries n w 0) 0 (β ∷ [])) (sym (all_branch (entries n w 0))) (search.begin n g s t (problem_within H P) P.start_from P.start_to M (Beyond g limit))
 
   -- the start is laid out and flagged
   module _ {used bars path : List ℕ} (B : Blank n used bars path) where
@@ -111,7 +111,7 @@ module _ {n s t : ℕ} {star ws overall : List ℕ} (P : Problem n s t star ws o
     pub due_next : Due n g s t M far (entries n w count) r
     due_next =
         let h : r < length (entries n w count) = omega (arith, length_entries n w count) in
-        record { inside = h; cheap = omega (arith, entry_cost F.entered r, path_small P (next_is_path (problem_within P) P.start_from P.start_to F.entered S h)); search = S }
+        record { inside = h; cheap = omega (arith, entry_cost F.entered r, path_small H P (next_is_path (problem_within H P) P.start_from P.start_to F.entered S h)); search = S }
 
     -- the last that is wanted
     pub last_changed : Changed n M g s (r + 1) w count w count
@@ -119,7 +119,7 @@ module _ {n s t : ℕ} {star ws overall : List ℕ} (P : Problem n s t star ws o
 
     pub last_stage : r + 1 ≡ M → Stage n g s t M (entries n w count) (r + 1)
     last_stage e =
-        Stage.full e (reverse_aux (parts_of s (entries n w count) r) []) (search_rank (problem_within P) P.start_from P.start_to F.entered S due_next.inside due_next.cheap)
+        Stage.full e (reverse_aux (parts_of s (entries n w count) r) []) (search_rank (problem_within H P) P.start_from P.start_to F.entered S due_next.inside due_next.cheap)
 
   -- ---- the end
   module _ {M j : ℕ} {w' : List ℕ} {count : ℕ} (F : Filled n M g s j w' count) where
@@ -130,7 +130,7 @@ module _ {n s t : ℕ} {star ws overall : List ℕ} (P : Problem n s t star ws o
 
     -- a path costs less than the mark, so none is lost
     none_lost : {waiting : List Branch} → Searching n g s t M far (entries n w' count) j waiting → Search n g s t M (λ p. ⊥) (take j (routes s (entries n w' count))) (candidates_from s (entries n w' count) j) waiting
-    none_lost S = lose g (ranked n g s t) (In g s t) M (Beyond g far) (λ p. ⊥) (λ p m h. omega (arith, path_small P (ranked_path n g s t m))) S
+    none_lost S = lose g (ranked n g s t) (In g s t) M (Beyond g far) (λ p. ⊥) (λ p m h. omega (arith, path_small H P (ranked_path n g s t m))) S
 
     module _ (e : j ≡ count) where
       done_all : take j (routes s (entries n w' count)) ≡ routes s (entries n w' count)
@@ -142,9 +142,9 @@ module _ {n s t : ℕ} {star ws overall : List ℕ} (P : Problem n s t star ws o
 
       all_done : Stage n g s t M (entries n w' count) j → routes s (entries n w' count) ≡ take M (ranked n g s t)
       all_done (Stage.going S) =
-          sym done_all ∙ search.rank_result n g s t (problem_within P) P.start_from P.start_to M (λ p. ⊥) (λ p q b l. l) (λ p l. l) (none_lost S) (inr (no_candidates, refl))
+          sym done_all ∙ search.rank_result n g s t (problem_within H P) P.start_from P.start_to M (λ p. ⊥) (λ p q b l. l) (λ p l. l) (none_lost S) (inr (no_candidates, refl))
       all_done (Stage.full z _ S) =
-          sym done_all ∙ search.rank_result n g s t (problem_within P) P.start_from P.start_to M (λ p. ⊥) (λ p q b l. l) (λ p l. l) (none_lost S) (inl (length_done F.entered ∙ z))
+          sym done_all ∙ search.rank_result n g s t (problem_within H P) P.start_from P.start_to M (λ p. ⊥) (λ p q b l. l) (λ p l. l) (none_lost S) (inl (length_done F.entered ∙ z))
 
       pub all_ranked : {w : List ℕ} → Stage n g s t M (entries n w' count) j → drop (M * (n + 16)) w' ≡ drop (M * (n + 16)) w → Ranked n M g s t w w' count
       all_ranked T b = record { kept = F.kept; entered = rw e at F.entered; paths = all_done T; beyond = b }

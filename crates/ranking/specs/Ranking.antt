@@ -13,21 +13,19 @@ use Rattle.exits.specs.Flags.{Flagged}
 use Rattle.branching.specs.Found.{Begun, Idle}
 use Rattle.branching.specs.Laid.{Laid}
 use Rattle.exits.specs.Small.{Small, longest}
-use Rattle.star.specs.Layout.{graph_of, Network}
 use Rattle.ranking.specs.State.{Entered, Searching, taking_over}
 use Rattle.exits.specs.Walks.{Consistent}
 
 -- ---- what is given
--- the paths from s to t in a graph of n nodes that is kept in two slices, with labels to t
-pub record Problem (n s t : ℕ) (star ws overall : List ℕ) : Type 0 where
-  pub network : Network (n + 1) star ws
+-- the paths from s to t in a graph of n nodes, with labels to t
+pub record Problem (n s t : ℕ) (g : Graph) (labels : List ℕ) : Type 0 where
   pub start_from : 1 ≤ s
   pub start_to : s ≤ n
   pub goal_to : t ≤ n
   pub apart : s ≡ t → ⊥
   -- the labels do not exceed the costs of paths
-  pub consistent : Consistent (graph_of star ws) t overall []
-  pub small : Small (n + 1) overall
+  pub consistent : Consistent g t labels []
+  pub small : Small (n + 1) labels
 
 -- a workspace of M slots, with entries of which the first j are ranked
 pub record Filled (n M : ℕ) (g : Graph) (s j : ℕ) (w : List ℕ) (count : ℕ) : Type 0 where

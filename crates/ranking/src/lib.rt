@@ -1,6 +1,6 @@
 // The ranked list of paths: the first path of each branch is a candidate, and the first candidate is the
 // next path, whose branches are then looked into.
-// The graph is in two slices, as crate star has it.
+// What is asked, the graph and its labels are one struct, `Query`.
 #![tactic(auto)]
 
 mod branches;

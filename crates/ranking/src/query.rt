@@ -1,14 +1,19 @@
 // What is asked of the ranking, and where the first path of a branch leaves another.
+ghost use Rattle.star.specs.Graphs.{arcs_of};
+ghost use Rattle.ranking.specs.Ranking.{Problem};
 
-// The first paths from start to goal in a network of n nodes, as many as there are slots. Paths that cost
-// `limit` or more are not wanted.
+use star::Graph;
+
+// The first paths from start to goal in a graph, as many as there are slots. `labels` has the least cost from
+// each node to the goal.
 #[derive(Clone, Copy)]
-pub struct Query {
+pub struct Query<'a> {
+    pub graph: Graph<'a>,
+    pub labels: &'a [u64],
     pub start: u16,
     pub goal: usize,
-    pub n: usize,
     pub slots: usize,
-    pub limit: u64,
+    pub ghost posed: { Problem graph.nodes start goal (arcs_of graph) labels.now },
 }
 
 // The first path of a branch leaves the path with the rank `parent` after d nodes, which cost `before`, or
@@ -17,15 +22,6 @@ pub struct Query {
 pub struct Detour {
     pub count: usize,
     pub parent: usize,
-    pub d: usize,
-    pub before: u64,
-}
-
-// The path at the place `rank` is left after d nodes, which cost `before`. There are `count` entries.
-#[derive(Clone, Copy)]
-pub struct Fork {
-    pub count: usize,
-    pub rank: usize,
     pub d: usize,
     pub before: u64,
 }

@@ -9,9 +9,9 @@ use Rattle.measuring.specs.Columns.{network}
 use Rattle.choosing.specs.Counting.{Counting}
 use Rattle.choosing.proofs.searching.search.Given as goal
 
-abbrev pub invariant-loop-task : goal.invariant-loop-task
-invariant-loop-task l = Counting l.task.n (l.task.wanted + 1) (graph_of l.star l.weights) l.task.start l.task.goal (get_or l.bests (l.task.column - 1) 0) (figure_over (network l.task.n (length l.weights) (length l.bests) l.star l.costs) l.bests) (worst_over (network l.task.n (length l.weights) (length l.bests) l.star l.costs) l.bests) l.work l.count l.j l.leader.place l.leader.figure l.leader.worst
+abbrev pub invariant-loop-query : goal.invariant-loop-query
+invariant-loop-query l = Counting l.task.n (l.task.wanted + 1) (graph_of l.star l.weights) l.task.start l.task.goal (get_or l.bests (l.task.column - 1) 0) (figure_over (network l.task.n (length l.weights) (length l.bests) l.star l.costs) l.bests) (worst_over (network l.task.n (length l.weights) (length l.bests) l.star l.costs) l.bests) l.work l.count l.j l.leader.place l.leader.figure l.leader.worst
     × (drop ((l.task.wanted + 1) * (l.task.n + 16)) l.work ≡ drop ((l.task.wanted + 1) * (l.task.n + 16)) l.initial.work) × (length l.work ≡ length l.initial.work) × (l.j ≤ l.task.wanted) × (get_or l.bests (l.task.column - 1) 0 + l.leader.figure ≤ far)
 
-abbrev pub decreases-loop-task : goal.decreases-loop-task
-decreases-loop-task l = l.task.wanted - l.j
+abbrev pub decreases-loop-query : goal.decreases-loop-query
+decreases-loop-query l = l.task.wanted - l.j

@@ -1,6 +1,6 @@
 -- `first_paths::list` lends parts of local arrays: the length of the star, and a place for each arc and for each node and one more. Assumes nothing.
 use native.Mathlib.Omega.{arith}
-use mathlib.Core.Path.{refl, sym}
+use mathlib.Core.Path.{sym}
 use Rattle.loading.proofs.DecodeLaws.{few_arcs, few_nodes}
 use Rattle.loading.proofs.RoomLaws.{places_fit, star_fits, local_room}
 use Rattle.column_calls.proofs.RankLaws.{slices_for}
@@ -8,10 +8,10 @@ use Rattle.column_calls.proofs.first_paths.list.Goals as goal
 
 pub list_in-requires : goal.list_in-requires
 list_in-requires c =
-    record { column = c.requires.column; ends = c.requires.ends; n_value = (refl, refl, local_room c.args.network.now.accepted); list_slices = slices_for c.args.network.now.accepted.nodes_are c.requires.list_slices }
+    record { column = c.requires.column; ends = c.requires.ends; room = local_room c.args.network.now.accepted; list_slices = slices_for c.args.network.now.accepted.nodes_are c.requires.list_slices }
 
-pub overflow_cast-query : goal.overflow_cast-query
-overflow_cast-query c = omega (arith, c.requires.ends.start_in, c.args.network.now.accepted.nodes_are, few_nodes c.args.network.now.accepted)
+pub overflow_cast-wanted : goal.overflow_cast-wanted
+overflow_cast-wanted c = omega (arith, c.requires.ends.start_in, c.args.network.now.accepted.nodes_are, few_nodes c.args.network.now.accepted)
 
 pub slice_bounds-star-end : goal.slice_bounds-star-end
 slice_bounds-star-end c = star_fits c.args.network.now.accepted

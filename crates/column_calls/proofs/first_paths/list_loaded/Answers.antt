@@ -9,7 +9,7 @@ use Rattle.column_calls.proofs.first_paths.list_loaded.Goals as goal
 
 pub write_rows-requires : goal.write_rows-requires
 write_rows-requires c =
-    record { readable = (kept_readable c.rank_paths-count.ensures.kept, c.rank_paths-count.ensures.entered.family); n_in_bounds = entry_room c.rank_paths-count.ensures c.requires.list_slices; by_index = entry_costs c.rank_paths-count.ensures c.requires.p_bound }
+    record { readable = (kept_readable c.rank_paths-count.ensures.kept, c.rank_paths-count.ensures.entered.family); n_in_bounds = entry_room c.rank_paths-count.ensures c.requires.list_slices; by_index = entry_costs c.rank_paths-count.ensures c.requires.costs_fit }
 
 pub returns : goal.returns
 returns c =

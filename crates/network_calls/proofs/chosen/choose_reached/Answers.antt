@@ -10,7 +10,7 @@ use Rattle.closures.specs.Map.{without}
 use Rattle.loading.specs.Accepted.{Ends}
 use Rattle.measuring.specs.Bests.{Labelled}
 use Rattle.outcomes.specs.Calls.{robust_values, chosen}
-use Rattle.network_calls.proofs.SharedLaws.{rest_admitted, rest_columns, rest_nodes, rest_ends, reached, some_ranked, shared_problem, search_priced, search_column, search_robust}
+use Rattle.network_calls.proofs.SharedLaws.{rest_admitted, rest_columns, rest_nodes, rest_ends, reached, some_ranked, shared_holds, shared_problem, search_priced, search_column, search_robust}
 use Rattle.network_calls.proofs.ChoiceLaws.{space_for}
 use Rattle.network_calls.proofs.chosen.choose_reached.Goals as goal
 
@@ -37,7 +37,7 @@ choose_priced-requires c =
     let ends-are = ends in
     let hi = inside in
     let long = bests_long in
-    record { problem = (shared_problem a k-are c.requires.shared n ends-are c.requires.asked.in_column.from hi c.requires.labelled.0, space_for c.requires.asked.nodes_are c.requires.bests_len.1); priced = search_priced a k-are c.requires.shared n ends-are c.price.ensures c.requires.asked.in_column.from hi long; in_column = search_column a k-are c.requires.shared n ends-are c.price.ensures c.requires.asked.in_column.from hi long; le_wanted = (c.requires.bests_len.1.wanted_from, some_ranked a k-are c.requires.shared n ends-are c.requires.asked.in_column.from hi c.requires.labelled.0 c.requires.labelled.1); n_in_bounds = omega (arith, c.requires.bests_len.1.path_long, c.requires.asked.nodes_are) }
+    record { problem = (shared_holds a k-are c.requires.shared n ends-are c.requires.asked.in_column.from hi c.requires.labelled.0, shared_problem a k-are c.requires.shared n ends-are c.requires.asked.in_column.from hi c.requires.labelled.0, space_for c.requires.asked.nodes_are c.requires.bests_len.1); priced = search_priced a k-are c.requires.shared n ends-are c.price.ensures c.requires.asked.in_column.from hi long; in_column = search_column a k-are c.requires.shared n ends-are c.price.ensures c.requires.asked.in_column.from hi long; le_wanted = (c.requires.bests_len.1.wanted_from, some_ranked a k-are c.requires.shared n ends-are c.requires.asked.in_column.from hi c.requires.labelled.0 c.requires.labelled.1); n_in_bounds = omega (arith, c.requires.bests_len.1.path_long, c.requires.asked.nodes_are) }
 
 pub returns : goal.returns
 returns c =

@@ -2,7 +2,7 @@
 use native.Mathlib.Omega.{arith}
 use mathlib.Core.Path.{◌≡◌, refl, ◌∙◌}
 use Rattle.candidates.proofs.EntryLaws.{length_entries}
-use Rattle.ranking.specs.Ranking.{Problem, Stage}
+use Rattle.ranking.specs.Ranking.{Stage}
 use Rattle.ranking.proofs.RankedLaws.{stage_going, all_ranked}
 use Rattle.ranking.proofs.ranking.rank_paths.Goals as goal
 
@@ -11,8 +11,7 @@ loop-j-init c = (c.begin-count.ensures.filled, Stage.going c.begin-count.ensures
 
 pub advance-count-requires : goal.advance-count-requires
 advance-count-requires c =
-    let problem : Problem c.args.query.n c.args.query.start c.args.query.goal c.args.star.now c.args.weights.now c.args.overall.now = c.requires.problem in
-    record { problem = problem; filled = c.loop-j.invariant.0; rank_lt_count = (c.loop-j-test.true, stage_going problem c.loop-j.invariant.0 c.loop-j-test.true c.loop-j.invariant.1); limit_value = c.requires.limit_value.0 }
+    record { filled = c.loop-j.invariant.0; rank_is_next = (c.loop-j-test.true, stage_going c.args.query.now.graph.holds c.args.query.now.posed c.loop-j.invariant.0 c.loop-j-test.true c.loop-j.invariant.1) }
 
 pub loop-j-smaller : goal.loop-j-smaller
 loop-j-smaller c = omega (arith, c.loop-j-test.true, c.loop-j.invariant.0.kept.upto)
@@ -27,6 +26,5 @@ loop-j-preserved c = (
 
 pub returns : goal.returns
 returns c =
-    let problem : Problem c.args.query.n c.args.query.start c.args.query.goal c.args.star.now c.args.weights.now c.args.overall.now = c.requires.problem in
-    let z : c.loop-j.j ≡ c.loop-j.count = omega (arith, c.loop-j-test.false, c.loop-j.invariant.0.entered.border, length_entries c.args.query.n c.loop-j.work c.loop-j.count) in
-    all_ranked problem c.loop-j.invariant.0 z c.loop-j.invariant.1 (c.loop-j.invariant.2 ∙ c.begin-count.ensures.beyond)
+    let z : c.loop-j.j ≡ c.loop-j.count = omega (arith, c.loop-j-test.false, c.loop-j.invariant.0.entered.border, length_entries c.args.query.now.graph.nodes c.loop-j.work c.loop-j.count) in
+    all_ranked c.args.query.now.graph.holds c.args.query.now.posed c.loop-j.invariant.0 z c.loop-j.invariant.1 (c.loop-j.invariant.2 ∙ c.begin-count.ensures.beyond)
