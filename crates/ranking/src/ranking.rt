@@ -4,7 +4,7 @@ ghost use Rattle.std.specs.Prelude.{◌≡◌, [], ◌+◌, ◌<◌};
 ghost use Rattle.star.specs.Graphs.{arcs_of};
 ghost use Rattle.labels.specs.Labels.{far};
 ghost use Rattle.candidates.specs.Slots.{entries};
-ghost use Rattle.ranking.specs.Ranking.{Filled, Changed, Space, Blank, Begins, Stage, Ranked};
+ghost use Rattle.ranking.specs.Ranking.{Filled, Changed, Space, Begins, Stage, Ranked};
 ghost use Rattle.ranking.specs.State.{Searching};
 
 use crate::branches::consider;
@@ -13,22 +13,23 @@ use crate::splitting::split;
 use candidates::reset;
 use labels::FAR;
 
-// The same as below, with room for the flags and for a path, in which no node is flagged yet.
-fn begin_in(
-    query: &Query<'_>,
-    used: &mut [u8],
-    barred: &[u8],
-    path: &mut [u16],
-    work: &mut [u32],
-) -> usize
+// Frees all slots, and puts in the first of all paths, if there is one, whatever it costs. Returns how
+// many entries there are then.
+pub fn begin(query: &Query<'_>, work: &mut [u32]) -> usize
     requires space { Space query.now.graph.nodes query.now.slots work.old }
-    requires blank { Blank query.now.graph.nodes used.old barred.now path.old }
     ensures { Begins query.now.graph.nodes query.now.slots (arcs_of query.now.graph) query.now.start query.now.goal work.old work.new result }
 {
-    let start = query.start;
-    reset(work, query.graph.nodes, query.slots);
-    path[0] = start;
-    used[start as usize] = 1;
+    let n = query.graph.nodes;
+    let places = n + 1;
+    let mut flags = [0u8; 201];
+    let unbarred = [0u8; 201];
+    let mut room = [0u16; 200];
+    let used = &mut flags[..places];
+    let barred = &unbarred[..places];
+    let path = &mut room[..n];
+    reset(work, n, query.slots);
+    path[0] = query.start;
+    used[query.start as usize] = 1;
     let detour = Detour {
         count: 0,
         parent: 0,
@@ -36,26 +37,6 @@ fn begin_in(
         before: 0,
     };
     consider(query, FAR, used, barred, path, work, detour)
-}
-
-// Frees all slots, and puts in the first of all paths, if there is one, whatever it costs. Returns how
-// many entries there are then.
-pub fn begin(query: &Query<'_>, work: &mut [u32]) -> usize
-    requires space { Space query.now.graph.nodes query.now.slots work.old }
-    ensures { Begins query.now.graph.nodes query.now.slots (arcs_of query.now.graph) query.now.start query.now.goal work.old work.new result }
-{
-    let mut used = [0u8; 201];
-    let barred = [0u8; 201];
-    let mut path = [0u16; 200];
-    let n = query.graph.nodes;
-    let places = n + 1;
-    begin_in(
-        query,
-        &mut used[..places],
-        &barred[..places],
-        &mut path[..n],
-        work,
-    )
 }
 
 // Ranks the path at the place `rank`, which is the next. After the last that is wanted no candidates are

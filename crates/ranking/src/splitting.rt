@@ -5,7 +5,7 @@ ghost use Rattle.terms.specs.Network.{linked, weight};
 ghost use Rattle.candidates.specs.Slots.{entries, none};
 ghost use Rattle.candidates.specs.Routes.{size};
 ghost use Rattle.branching.specs.Laid.{Laid};
-ghost use Rattle.ranking.specs.Ranking.{Filled, Restored, Changed, Settled, Along, Emptied, Markable, Due, Blank};
+ghost use Rattle.ranking.specs.Ranking.{Filled, Restored, Changed, Settled, Along, Emptied, Markable, Due};
 ghost use Rattle.star.specs.Graphs.{arcs_of};
 ghost use Rattle.ranking.specs.State.{Searching, branch_of, taking_over, waiting_to};
 
@@ -117,24 +117,23 @@ fn deviations(
     now
 }
 
-// The same as below, with room for the flags and for the path, in which no node is flagged yet.
-fn split_in(
-    query: &Query<'_>,
-    limit: u64,
-    used: &mut [u8],
-    barred: &mut [u8],
-    path: &mut [u16],
-    work: &mut [u32],
-    count: usize,
-    rank: usize,
-) -> usize
+// Ranks the path at the place `rank`, which is the next, and costs less than the limit: the first paths of
+// the parts of its branch are put in their places, but for those that cost the limit at least. Returns
+// how many entries there are then.
+pub fn split(query: &Query<'_>, limit: u64, work: &mut [u32], count: usize, rank: usize) -> usize
     requires filled { Filled query.now.graph.nodes query.now.slots (arcs_of query.now.graph) query.now.start rank work.old count }
-    requires blank { Blank query.now.graph.nodes used.old barred.old path.old }
     requires due { Due query.now.graph.nodes (arcs_of query.now.graph) query.now.start query.now.goal query.now.slots limit (entries query.now.graph.nodes work.old count) rank }
     ensures changed { Changed query.now.graph.nodes query.now.slots (arcs_of query.now.graph) query.now.start (rank + 1) work.old count work.new result }
     ensures searching { Searching query.now.graph.nodes (arcs_of query.now.graph) query.now.start query.now.goal query.now.slots limit (entries query.now.graph.nodes work.new result) (rank + 1) [] }
 {
     let n = query.graph.nodes;
+    let places = n + 1;
+    let mut flags = [0u8; 201];
+    let mut bars = [0u8; 201];
+    let mut room = [0u16; 200];
+    let used = &mut flags[..places];
+    let barred = &mut bars[..places];
+    let path = &mut room[..n];
     let shared = shared_at(work, n, rank);
     let len = shared + tail_length_at(work, n, rank);
     lay_out(work, n, rank, len, query.start, path);
@@ -147,30 +146,4 @@ fn split_in(
         cost,
     };
     deviations(query, limit, used, barred, path, work, count, stem)
-}
-
-// Ranks the path at the place `rank`, which is the next, and costs less than the limit: the first paths of
-// the parts of its branch are put in their places, but for those that cost the limit at least. Returns
-// how many entries there are then.
-pub fn split(query: &Query<'_>, limit: u64, work: &mut [u32], count: usize, rank: usize) -> usize
-    requires filled { Filled query.now.graph.nodes query.now.slots (arcs_of query.now.graph) query.now.start rank work.old count }
-    requires due { Due query.now.graph.nodes (arcs_of query.now.graph) query.now.start query.now.goal query.now.slots limit (entries query.now.graph.nodes work.old count) rank }
-    ensures changed { Changed query.now.graph.nodes query.now.slots (arcs_of query.now.graph) query.now.start (rank + 1) work.old count work.new result }
-    ensures searching { Searching query.now.graph.nodes (arcs_of query.now.graph) query.now.start query.now.goal query.now.slots limit (entries query.now.graph.nodes work.new result) (rank + 1) [] }
-{
-    let mut used = [0u8; 201];
-    let mut barred = [0u8; 201];
-    let mut path = [0u16; 200];
-    let n = query.graph.nodes;
-    let places = n + 1;
-    split_in(
-        query,
-        limit,
-        &mut used[..places],
-        &mut barred[..places],
-        &mut path[..n],
-        work,
-        count,
-        rank,
-    )
 }

@@ -1,10 +1,13 @@
--- `ranking::begin` lends parts of local arrays: flags for the nodes, and places for a path. Assumes nothing.
-use Prim.Native.Nat.{◌≤◌}
+-- `ranking::begin`: the branch of all paths is looked into, with no entry yet. Assumes nothing.
 use Rattle.star.proofs.NetworkLaws.{graph_few}
 use Rattle.ranking.proofs.ProblemLaws.{blank_parts}
+use Rattle.ranking.proofs.RankedLaws.{filled_none, first_deviation, begun}
 use Rattle.ranking.proofs.ranking.begin.Goals as goal
 
-pub begin_in-requires : goal.begin_in-requires
-begin_in-requires c =
-    let few : c.args.query.now.graph.nodes ≤ 200 = graph_few c.args.query.now.graph in
-    record { space = c.requires.space; blank = blank_parts few }
+pub consider-requires : goal.consider-requires
+consider-requires c =
+    record { filled = filled_none c.args.query.now.graph.holds c.args.query.now.posed c.requires.space c.reset.ensures.kept; deviation = first_deviation c.args.query.now.graph.holds c.args.query.now.posed (blank_parts (graph_few c.args.query.now.graph)) c.reset.new.work }
+
+pub returns : goal.returns
+returns c =
+    begun c.args.query.now.graph.holds c.args.query.now.posed c.requires.space c.reset.ensures.kept c.reset.ensures.work_unchanged c.consider.ensures.changed c.consider.ensures.settled
