@@ -1,5 +1,6 @@
 // The first path of a branch: by a walk along labels that are at hand, or else along these sharpened for
 // the branch, or else along labels with the beginning barred, or else step by step.
+// A struct of path, used, barred and d with Begun as a ghost field proves and is no plainer: each function also says that both slices, d and barred are the same after, and takes it apart to walk.
 ghost use Rattle.std.specs.Prelude.{◌≡◌, true, List, [], ◌∷◌, ◌++◌, ℕ, ◌+◌, ◌-◌, ◌≤◌, ◌<◌, length, take, get_or};
 ghost use Rattle.terms.specs.Paths.{Route};
 ghost use Rattle.branching.specs.Branches.{branch, In, First, Beginning};
