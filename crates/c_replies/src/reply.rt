@@ -7,7 +7,7 @@ use crate::values::Values;
 use image::Refusal;
 
 // refusal is 0 for a result, and v0 to v5 are then its values; it is else the number of the refusal, and
-// place is its place. What is not used is 0.
+// place is its place. What is not used is 0. C has no enum with values: the number stands beside them.
 #[repr(C)]
 #[derive(Clone, Copy)]
 pub struct Reply {

@@ -5,4 +5,4 @@ mod map;
 mod standing;
 
 pub use map::{closed_roads, is_closed, turn};
-pub use standing::{alike, touches};
+pub use standing::touches;

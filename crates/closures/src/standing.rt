@@ -13,10 +13,3 @@ pub fn touches(tail: u16, head: u16, route: &[u16]) -> bool
     }
     false
 }
-
-// Whether two lists of numbers are equal.
-pub fn alike(these: &[u64], those: &[u64]) -> bool
-    ensures { result ≡ standing.alike these.now those.now }
-{
-    these == those
-}

@@ -2,12 +2,13 @@
 // it gives, and the program prints, for each kind of case, how many agreed and how many differed.
 //
 // The files path_*.rt test Label, Shortest and Regret, rank_*.rt Rank and robust_*.rt Robust, on the
-// images of test_fixtures and of random_networks.rt, and closed_cases.rt all of them on
+// images of test_fixtures (cases.rt) and of random_networks.rt, and closed_cases.rt all of them on
 // networks in which arcs are closed in columns. The answers come from REFERENCE,
 // section 8, from networks whose paths are known, or from the crate test_enumerate, which is written
 // apart from the library. Images and numbers that the calls refuse are tested by the program test_images.
 #![tactic(auto)]
 
+mod cases;
 mod closed_cases;
 mod path_cases;
 mod path_lists;

@@ -1,9 +1,9 @@
 // The cases of Label, Shortest and Regret (REFERENCE, section 8): network S, the network of zero costs,
 // the network without arcs and the line of 200 nodes.
+use super::cases;
 use std::io;
 use test_calls::answers::{pair, refusal};
 use test_calls::path_calls::{note_label, note_shortest, regret_agrees, shortest_agrees};
-use test_fixtures::case_images::{line, line_path, network_s, no_arcs, zero_costs};
 use test_fixtures::report::{Call, Report};
 
 // The label of a node that cannot reach the goal.
@@ -114,8 +114,8 @@ fn line_labels() -> [u32; 200] {
     labels
 }
 
-fn note_line(image: &[u8], nodes: &[u16], labels: &[u32]) -> Report {
-    let mut report = note_label(Report::new(), image, 1, 200, labels);
+fn note_line(mut report: Report, image: &[u8], nodes: &[u16]) -> Report {
+    report = note_label(report, image, 1, 200, &line_labels());
     if nodes.len() != 200 {
         return report.note(Call::Regret, false);
     }
@@ -125,25 +125,6 @@ fn note_line(image: &[u8], nodes: &[u16], labels: &[u32]) -> Report {
     list_refused(report, image, 2, 1, &nodes[1..200], 199)
 }
 
-fn on_s(rt: &impl Print) -> io::Result<()> {
-    note_s(Report::new(), &network_s()).print(rt, "network S")
-}
-
-fn on_zero_costs(rt: &impl Print) -> io::Result<()> {
-    note_zero_costs(Report::new(), &zero_costs()).print(rt, "network of zero costs")
-}
-
-fn on_no_arcs(rt: &impl Print) -> io::Result<()> {
-    note_no_arcs(Report::new(), &no_arcs()).print(rt, "network without arcs")
-}
-
-fn on_line(rt: &impl Print) -> io::Result<()> {
-    note_line(&line(), &line_path(), &line_labels()).print(rt, "line of 200 nodes")
-}
-
 pub fn run(rt: &impl Print) -> io::Result<()> {
-    on_s(rt)?;
-    on_zero_costs(rt)?;
-    on_no_arcs(rt)?;
-    on_line(rt)
+    cases::print(rt, note_s, note_zero_costs, note_no_arcs, note_line)
 }

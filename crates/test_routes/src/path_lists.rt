@@ -85,36 +85,41 @@ struct List {
     length: usize,
 }
 
-// A list of one of five kinds: a path; the path without its last node, with one node more or with
-// one node changed, as far as there is one; and drawn nodes.
-fn drawn_list(kind: u32, n: u32, start: u32, path: Row, numbers: &[u32], from: u32) -> List {
+// What a list is: a path; the path without its last node, with one node more or with one node changed; or drawn nodes.
+#[derive(Clone, Copy)]
+enum Kind {
+    Path,
+    Shorter,
+    Longer,
+    Changed,
+    Drawn,
+}
+
+const KINDS: [Kind; 5] = [Kind::Path, Kind::Shorter, Kind::Longer, Kind::Changed, Kind::Drawn];
+
+// A list of a kind. One that the path is too short or too long for has drawn nodes.
+fn drawn_list(kind: Kind, n: u32, start: u32, path: Row, numbers: &[u32], from: u32) -> List {
     let place = number_at(numbers, from as usize);
     let other = drawn_node(n, number_at(numbers, from as usize + 1));
     let length = test_enumerate::length(path);
-    if kind == 0 {
-        return List { row: path, length };
-    }
-    if kind == 1 && 0 < length {
-        return List {
+    match kind {
+        Kind::Path => List { row: path, length },
+        Kind::Shorter if 0 < length => List {
             row: path,
             length: length - 1,
-        };
-    }
-    if kind == 2 && length < 8 {
-        let row = changed_row(path, length, other);
-        return List {
-            row,
+        },
+        Kind::Longer if length < 8 => List {
+            row: changed_row(path, length, other),
             length: length + 1,
-        };
-    }
-    if kind == 3 {
-        let row = changed_row(path, place as usize, other);
-        return List { row, length };
-    }
-    let row = drawn_row(n, start, numbers, from);
-    List {
-        row,
-        length: (place % 9) as usize,
+        },
+        Kind::Changed => List {
+            row: changed_row(path, place as usize, other),
+            length,
+        },
+        _ => List {
+            row: drawn_row(n, start, numbers, from),
+            length: (place % 9) as usize,
+        },
     }
 }
 
@@ -129,7 +134,7 @@ pub fn note_lists(
     image: &[u8],
 ) -> Report {
     let from = 50 * (trip.goal % 9) + 6 * (trip.start % 9);
-    for kind in 0..5u32 {
+    for kind in KINDS {
         let list = drawn_list(kind, trip.n, trip.start, path, numbers, from);
         let row = list.row;
         let length = list.length;

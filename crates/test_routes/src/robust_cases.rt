@@ -1,12 +1,12 @@
 // The cases of Robust (REFERENCE, section 8): network S, the network of zero costs, the network without
 // arcs and the line of 200 nodes.
+use super::cases;
 use std::io;
 use test_calls::answers::{Answer, left_open, refusal, settled};
 use test_calls::rank_calls::Request;
 use test_calls::robust_calls::{
     RouteRooms, needed_route_rooms, note_robust, robust_agrees, robust_into,
 };
-use test_fixtures::case_images::{line, line_path, network_s, no_arcs, zero_costs};
 use test_fixtures::report::{Call, Report};
 use test_fixtures::slices::Pattern;
 
@@ -101,30 +101,12 @@ fn note_line(report: Report, image: &[u8], wanted: u32, nodes: &[u16]) -> Report
 }
 
 fn note_lines(mut report: Report, image: &[u8], nodes: &[u16]) -> Report {
-    report = note_line(report, image, 1, nodes);
-    report = note_line(report, image, 2, nodes);
-    note_line(report, image, 256, nodes)
-}
-
-fn on_s(rt: &impl Print) -> io::Result<()> {
-    note_s(Report::new(), &network_s()).print(rt, "network S")
-}
-
-fn on_zero_costs(rt: &impl Print) -> io::Result<()> {
-    note_zero_costs(Report::new(), &zero_costs()).print(rt, "network of zero costs")
-}
-
-fn on_no_arcs(rt: &impl Print) -> io::Result<()> {
-    no_path(Report::new(), &no_arcs(), 2, 1, 1, 2).print(rt, "network without arcs")
-}
-
-fn on_line(rt: &impl Print) -> io::Result<()> {
-    note_lines(Report::new(), &line(), &line_path()).print(rt, "line of 200 nodes")
+    for wanted in [1, 2, 256] {
+        report = note_line(report, image, wanted, nodes);
+    }
+    report
 }
 
 pub fn run(rt: &impl Print) -> io::Result<()> {
-    on_s(rt)?;
-    on_zero_costs(rt)?;
-    on_no_arcs(rt)?;
-    on_line(rt)
+    cases::print(rt, note_s, note_zero_costs, |report, image| no_path(report, image, 2, 1, 1, 2), note_lines)
 }

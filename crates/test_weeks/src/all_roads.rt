@@ -1,7 +1,7 @@
 // All roads of a random network closed one by one, until there is no path, and reopened one by one, until the week is
 // a fresh one again.
 use super::drawing::{Drawn, below};
-use super::held::{Asked, same_week};
+use super::held::Asked;
 use super::step::{begin, next};
 use test_fixtures::report::{Call, Report};
 
@@ -21,5 +21,5 @@ pub fn note_all_roads(report: Report, drawn: Drawn) -> Report {
         run = next(run, drawn, request, asked);
     }
     run.report
-        .note(Call::Fresh, same_week(run.week, first.week))
+        .note(Call::Fresh, run.week == first.week)
 }

@@ -6,95 +6,79 @@ use test_calls::answers::single;
 use test_calls::rank_calls::Request;
 use test_calls::robust_calls::needed_route_rooms;
 use test_fixtures::case_images::network_s;
-use test_fixtures::numbers::node;
 use test_fixtures::report::{Call, Report};
 use week_calls::Week;
 
-// An event and what it comes to: the arc, 1 if it is closed and 0 if it is opened, one of the three numbers below, and
-// the number of closed roads. Behind these stands the state after it: the first word of the map, the six numbers from
-// `state` to `floor`, and the first four places of the route.
-type Line = [u32; 15];
-
-const SAME: u32 = 0;
-
-const STOOD: u32 = 1;
-
-const RAN: u32 = 2;
+// An event and what it comes to: the arc, whether it is closed, what the event does, and the number of closed roads.
+// Behind these stands the state after it: the first word of the map, the six numbers from `state` to `floor`, and the
+// first four places of the route.
+type Line = (u32, bool, Call, u32, u64, [u32; 6], [u16; 4]);
 
 // In column 2 the first path is settled, and its own count is 1.
-const SETTLED: Line = [0, 0, RAN, 0, 0, 1, 3, 3, 1, 1, 0, 1, 2, 4, 0];
+const SETTLED: Line = (0, false, Call::Runs, 0, 0, [1, 3, 3, 1, 1, 0], [1, 2, 4, 0]);
 
 // The same state with another count, length and map: bits from 5 on close nothing.
-const MADE: Line = [0, 0, SAME, 0, 96, 1, 300, 3, 1, 7, 0, 1, 2, 4, 0];
+const MADE: Line = (0, false, Call::Unchanged, 0, 96, [1, 300, 3, 1, 7, 0], [1, 2, 4, 0]);
 
 const MADE_EVENTS: [Line; 12] = [
-    [1, 1, STOOD, 1, 98, 1, 300, 3, 1, 7, 0, 1, 2, 4, 0], // 1 3 4 is no best
-    [1, 1, SAME, 1, 98, 1, 300, 3, 1, 7, 0, 1, 2, 4, 0],
-    [2, 1, RAN, 2, 102, 1, 3, 0, 1, 1, 0, 1, 2, 4, 0], // column 1 loses its best
-    [4, 1, STOOD, 3, 118, 1, 3, 0, 1, 1, 0, 1, 2, 4, 0],
-    [0, 0, SAME, 3, 118, 1, 3, 0, 1, 1, 0, 1, 2, 4, 0],
-    [0, 1, RAN, 4, 119, 15, 0, 0, 0, 0, 0, 0, 0, 0, 0], // no path is left
-    [3, 1, RAN, 5, 127, 15, 0, 0, 0, 0, 0, 0, 0, 0, 0],
-    [1, 0, RAN, 4, 125, 15, 0, 0, 0, 0, 0, 0, 0, 0, 0],
-    [4, 0, RAN, 3, 109, 1, 3, 0, 1, 1, 0, 1, 3, 4, 0],
-    [0, 0, RAN, 2, 108, 1, 3, 0, 1, 1, 0, 1, 3, 4, 0],
-    [3, 0, RAN, 1, 100, 1, 3, 1, 1, 1, 0, 1, 2, 4, 0],
-    [2, 0, RAN, 0, 96, 1, 3, 3, 1, 1, 0, 1, 2, 4, 0],
+    (1, true, Call::Stands, 1, 98, [1, 300, 3, 1, 7, 0], [1, 2, 4, 0]), // 1 3 4 is no best
+    (1, true, Call::Unchanged, 1, 98, [1, 300, 3, 1, 7, 0], [1, 2, 4, 0]),
+    (2, true, Call::Runs, 2, 102, [1, 3, 0, 1, 1, 0], [1, 2, 4, 0]), // column 1 loses its best
+    (4, true, Call::Stands, 3, 118, [1, 3, 0, 1, 1, 0], [1, 2, 4, 0]),
+    (0, false, Call::Unchanged, 3, 118, [1, 3, 0, 1, 1, 0], [1, 2, 4, 0]),
+    (0, true, Call::Runs, 4, 119, [15, 0, 0, 0, 0, 0], [0, 0, 0, 0]), // no path is left
+    (3, true, Call::Runs, 5, 127, [15, 0, 0, 0, 0, 0], [0, 0, 0, 0]),
+    (1, false, Call::Runs, 4, 125, [15, 0, 0, 0, 0, 0], [0, 0, 0, 0]),
+    (4, false, Call::Runs, 3, 109, [1, 3, 0, 1, 1, 0], [1, 3, 4, 0]),
+    (0, false, Call::Runs, 2, 108, [1, 3, 0, 1, 1, 0], [1, 3, 4, 0]),
+    (3, false, Call::Runs, 1, 100, [1, 3, 1, 1, 1, 0], [1, 2, 4, 0]),
+    (2, false, Call::Runs, 0, 96, [1, 3, 3, 1, 1, 0], [1, 2, 4, 0]),
 ];
 
 // In column 1 the answer is open, with K = 1, where there is a second path.
-const OPEN: Line = [0, 0, RAN, 0, 0, 2, 4, 8, 2, 1, 2, 1, 2, 3, 4];
+const OPEN: Line = (0, false, Call::Runs, 0, 0, [2, 4, 8, 2, 1, 2], [1, 2, 3, 4]);
 
 const OPEN_EVENTS: [Line; 6] = [
-    [1, 1, RAN, 1, 2, 2, 4, 8, 2, 1, 3, 1, 2, 3, 4], // another floor
-    [0, 1, RAN, 2, 3, 15, 0, 0, 0, 0, 0, 0, 0, 0, 0],
-    [1, 0, RAN, 1, 1, 1, 3, 0, 1, 1, 0, 1, 3, 4, 0],
-    [3, 1, STOOD, 2, 9, 1, 3, 0, 1, 1, 0, 1, 3, 4, 0],
-    [0, 0, RAN, 1, 8, 2, 4, 5, 2, 1, 2, 1, 2, 3, 4],
-    [2, 1, RAN, 2, 12, 1, 3, 0, 1, 1, 0, 1, 3, 4, 0],
+    (1, true, Call::Runs, 1, 2, [2, 4, 8, 2, 1, 3], [1, 2, 3, 4]), // another floor
+    (0, true, Call::Runs, 2, 3, [15, 0, 0, 0, 0, 0], [0, 0, 0, 0]),
+    (1, false, Call::Runs, 1, 1, [1, 3, 0, 1, 1, 0], [1, 3, 4, 0]),
+    (3, true, Call::Stands, 2, 9, [1, 3, 0, 1, 1, 0], [1, 3, 4, 0]),
+    (0, false, Call::Runs, 1, 8, [2, 4, 5, 2, 1, 2], [1, 2, 3, 4]),
+    (2, true, Call::Runs, 2, 12, [1, 3, 0, 1, 1, 0], [1, 3, 4, 0]),
 ];
 
 // From 4 to 1 there is no path.
-const NO_PATH: Line = [0, 0, RAN, 0, 0, 15, 0, 0, 0, 0, 0, 0, 0, 0, 0];
+const NO_PATH: Line = (0, false, Call::Runs, 0, 0, [15, 0, 0, 0, 0, 0], [0, 0, 0, 0]);
 
 const NO_PATH_EVENTS: [Line; 2] = [
-    [0, 1, RAN, 1, 1, 15, 0, 0, 0, 0, 0, 0, 0, 0, 0],
-    [0, 0, RAN, 0, 0, 15, 0, 0, 0, 0, 0, 0, 0, 0, 0],
+    (0, true, Call::Runs, 1, 1, [15, 0, 0, 0, 0, 0], [0, 0, 0, 0]),
+    (0, false, Call::Runs, 0, 0, [15, 0, 0, 0, 0, 0], [0, 0, 0, 0]),
 ];
 
-fn report_line(outcome: u32) -> Call {
-    match outcome {
-        SAME => Call::Unchanged,
-        STOOD => Call::Stands,
-        _ => Call::Runs,
-    }
-}
-
 fn week_of(line: Line) -> Week {
+    let (_, _, _, _, word, [state, length, figure, worst, count, floor], nodes) = line;
     let mut closed = [0u64; 16];
     let mut route = [0u16; 200];
-    closed[0] = u64::from(line[4]);
-    route[0] = node(line[11]);
-    route[1] = node(line[12]);
-    route[2] = node(line[13]);
-    route[3] = node(line[14]);
+    closed[0] = word;
+    route[..4].copy_from_slice(&nodes);
     Week {
         closed,
         route,
-        state: line[5],
-        length: line[6],
-        figure: line[7],
-        worst: line[8],
-        count: line[9],
-        floor: line[10],
+        state,
+        length,
+        figure,
+        worst,
+        count,
+        floor,
     }
 }
 
 fn note_line(report: Report, image: &[u8], request: Request, before: Line, line: Line) -> Report {
+    let (arc, close, call, roads, ..) = line;
     let asked = Asked {
         request,
-        arc: line[0],
-        close: line[1] == 1,
+        arc,
+        close,
         room: needed_route_rooms(4, request.wanted).work,
     };
     let agrees = event_agrees(
@@ -102,9 +86,9 @@ fn note_line(report: Report, image: &[u8], request: Request, before: Line, line:
         asked,
         week_of(before),
         week_of(line),
-        single(line[3]),
+        single(roads),
     );
-    report.note(report_line(line[2]), agrees)
+    report.note(call, agrees)
 }
 
 // Events one after the other, from the state of a line.

@@ -16,26 +16,8 @@ pub struct Asked {
     pub room: usize,
 }
 
-fn numbers_of(week: Week) -> [u32; 6] {
-    [
-        week.state,
-        week.length,
-        week.figure,
-        week.worst,
-        week.count,
-        week.floor,
-    ]
-}
-
-// Whether two states are the same in every word, place and number.
-pub fn same_week(a: Week, b: Week) -> bool {
-    a.closed == b.closed && a.route == b.route && numbers_of(a) == numbers_of(b)
-}
-
 fn same_weekly(given: Weekly, expected: Week, answer: Answer) -> bool {
-    let tally = given.tally;
-    let week = given.week;
-    Answer::from(tally) == answer && same_week(week, expected)
+    Answer::from(given.tally) == answer && given.week == expected
 }
 
 // Event with a workspace that holds the pattern. After a result the workspace is 0.

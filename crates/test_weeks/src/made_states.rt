@@ -8,9 +8,36 @@ use test_fixtures::networks::number_at;
 use test_fixtures::report::Report;
 use week_calls::Week;
 
-// The kinds: 0 to 4 have another number as `state`, 5 to 10 another route or length, and 11 to 13 another map, the last
-// two with other numbers too. All from 4 on are read as settled, but 11, which keeps its own number.
-const KINDS: u32 = 14;
+// How a state is made from one that Robust's answer makes. All but `State` and `BitsBeyond` are read as settled.
+#[derive(Clone, Copy)]
+enum Made {
+    State(u32),
+    Length(u32),
+    // the event's arc at the route's last two places
+    LastArc(u32),
+    ShortOtherRoute,
+    LongOtherRoute,
+    BitsBeyond,
+    OtherMapAndNumbers,
+    AllOnes,
+}
+
+const KINDS: [Made; 14] = [
+    Made::State(0),
+    Made::State(9),
+    Made::State(2),
+    Made::State(15),
+    Made::State(1),
+    Made::Length(300),
+    Made::LastArc(300),
+    Made::LastArc(200),
+    Made::LastArc(199),
+    Made::ShortOtherRoute,
+    Made::LongOtherRoute,
+    Made::BitsBeyond,
+    Made::OtherMapAndNumbers,
+    Made::AllOnes,
+];
 
 // The map with an arc closed.
 fn closed(words: [u64; 16], arc: usize) -> [u64; 16] {
@@ -54,88 +81,60 @@ fn other_route(numbers: &[u32]) -> [u16; 200] {
     route
 }
 
-// The map of a state of a kind; below, its other fields.
-fn made_map(kind: u32, words: [u64; 16], m: u32, number: u32) -> [u64; 16] {
-    match kind {
-        11 | 13 => with_bits_beyond(words, m as usize),
-        12 => drawn_map(m, number),
-        _ => words,
+// A state with another length and route, read as settled.
+fn routed(week: Week, length: u32, route: [u16; 200]) -> Week {
+    Week {
+        state: 1,
+        length,
+        route,
+        ..week
     }
 }
 
-fn made_state(kind: u32, state: u32) -> u32 {
-    match kind {
-        0 => 0,
-        1 => 9,
-        2 => 2,
-        3 => 15,
-        11 => state,
-        _ => 1,
-    }
-}
-
-fn made_route(
-    kind: u32,
-    route: [u16; 200],
-    arcs: &[u16],
-    arc: usize,
-    numbers: &[u32],
-) -> [u16; 200] {
-    match kind {
-        6..=8 => with_last(route, arcs, arc),
-        9 | 10 => other_route(numbers),
-        _ => route,
-    }
-}
-
-// Figure, worst column and floor.
-fn made_number(kind: u32, old: u32, number: u32) -> u32 {
-    match kind {
-        12 => number,
-        13 => 4294967295,
-        _ => old,
-    }
-}
-
-fn made_length(kind: u32, length: u32, number: u32) -> u32 {
-    match kind {
-        5 | 6 => 300,
-        7 => 200,
-        8 => 199,
-        9 => number % 9,
-        10 => 4294967295,
-        _ => length,
-    }
-}
-
-// A state of a kind, made from one that Robust's answer makes. The arc is the event's, and the number a drawn one.
-fn made(kind: u32, week: Week, drawn: Drawn, arc: usize, number: u32) -> Week {
-    let Drawn {
-        network,
-        numbers,
-        ..
-    } = drawn;
-    let closed = made_map(kind, week.closed, network.arc_count(), number);
-    let route = made_route(kind, week.route, network.nodes, arc, numbers);
+// A state with another map, and with one number as figure, worst column and floor, read as settled.
+fn mapped(week: Week, closed: [u64; 16], number: u32) -> Week {
     Week {
         closed,
-        route,
-        state: made_state(kind, week.state),
-        length: made_length(kind, week.length, number),
-        figure: made_number(kind, week.figure, number),
-        worst: made_number(kind, week.worst, number),
-        count: week.count,
-        floor: made_number(kind, week.floor, number),
+        state: 1,
+        figure: number,
+        worst: number,
+        floor: number,
+        ..week
     }
 }
 
-fn note_made(report: Report, drawn: Drawn, request: Request, kind: u32) -> Report {
+// A state of a kind. The arc is the event's, and the number a drawn one.
+fn made(kind: Made, week: Week, drawn: Drawn, arc: usize, number: u32) -> Week {
     let Drawn {
         network,
         numbers,
         ..
     } = drawn;
-    let at = EVENTS + (kind % KINDS) as usize;
+    let m = network.arc_count();
+    let bits_beyond = with_bits_beyond(week.closed, m as usize);
+    match kind {
+        Made::State(state) => Week { state, ..week },
+        Made::Length(length) => routed(week, length, week.route),
+        Made::LastArc(length) => {
+            routed(week, length, with_last(week.route, network.nodes, arc))
+        }
+        Made::ShortOtherRoute => routed(week, number % 9, other_route(numbers)),
+        Made::LongOtherRoute => routed(week, u32::MAX, other_route(numbers)),
+        Made::BitsBeyond => Week {
+            closed: bits_beyond,
+            ..week
+        },
+        Made::OtherMapAndNumbers => mapped(week, drawn_map(m, number), number),
+        Made::AllOnes => mapped(week, bits_beyond, u32::MAX),
+    }
+}
+
+fn note_made(report: Report, drawn: Drawn, request: Request, at: usize, kind: Made) -> Report {
+    let Drawn {
+        network,
+        numbers,
+        ..
+    } = drawn;
     let words = drawn_map(network.arc_count(), number_at(numbers, at + 40));
     let asked = drawn.event(request, number_at(numbers, at));
     let week = left_week(network, request, words);
@@ -147,8 +146,8 @@ fn note_made(report: Report, drawn: Drawn, request: Request, kind: u32) -> Repor
 // A state of each kind.
 pub fn note_made_states(mut report: Report, drawn: Drawn) -> Report {
     let request = drawn.request();
-    for kind in 0..KINDS {
-        report = note_made(report, drawn, request, kind);
+    for (i, &kind) in KINDS.iter().enumerate() {
+        report = note_made(report, drawn, request, EVENTS + i, kind);
     }
     report
 }

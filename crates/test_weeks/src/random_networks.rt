@@ -9,22 +9,6 @@ use test_fixtures::networks::draw_network;
 use test_fixtures::random::Random;
 use test_fixtures::report::Report;
 
-// What is done with each network.
-#[derive(Clone, Copy)]
-enum Purpose {
-    Weeks,
-    AllRoads,
-    MadeStates,
-}
-
-fn note_drawn(purpose: Purpose, report: Report, drawn: Drawn) -> Report {
-    match purpose {
-        Purpose::Weeks => note_week(report, drawn),
-        Purpose::AllRoads => note_all_roads(report, drawn),
-        Purpose::MadeStates => note_made_states(report, drawn),
-    }
-}
-
 // Has the network drawn with more arcs, and fewer of them closed in columns, so that there are paths; but one pair of
 // four stays as it was drawn.
 fn make_denser(numbers: &mut [u32; 620], i: u32) {
@@ -34,8 +18,8 @@ fn make_denser(numbers: &mut [u32; 620], i: u32) {
     }
 }
 
-// So many networks, of the editions 1 and 2 in turn.
-fn networks(purpose: Purpose, count: u32) -> Report {
+// What `note` comes to after so many networks, of the editions 1 and 2 in turn.
+fn networks(note: impl Fn(Report, Drawn<'_>) -> Report, count: u32) -> Report {
     let mut random = Random { state: 1 };
     let mut numbers = [0u32; 620];
     let mut report = Report::new();
@@ -50,13 +34,13 @@ fn networks(purpose: Purpose, count: u32) -> Report {
             image: image.as_slice(),
             numbers: &numbers,
         };
-        report = note_drawn(purpose, report, drawn);
+        report = note(report, drawn);
     }
     report
 }
 
 pub fn run(rt: &impl Print) -> io::Result<()> {
-    networks(Purpose::Weeks, 2400).print(rt, "random weeks")?;
-    networks(Purpose::AllRoads, 240).print(rt, "all roads closed and reopened")?;
-    networks(Purpose::MadeStates, 2000).print(rt, "states made otherwise")
+    networks(note_week, 2400).print(rt, "random weeks")?;
+    networks(note_all_roads, 240).print(rt, "all roads closed and reopened")?;
+    networks(note_made_states, 2000).print(rt, "states made otherwise")
 }

@@ -1,6 +1,6 @@
 // One event, on a state and on the same state with another count; and what the state of a week shows.
 use super::drawing::Drawn;
-use super::held::{Asked, event_agrees, fresh_agrees, same_week};
+use super::held::{Asked, event_agrees, fresh_agrees};
 use super::left::{left_week, numbered};
 use super::map::{closed_count, turned};
 use super::verdict::{event_fault, question_fault, verdict};
@@ -92,7 +92,7 @@ fn shown(state: u32) -> Call {
 // Whether a state shows Robust's answer on the image without the closed arcs: all of it but the count.
 fn note_shown(report: Report, network: Network, request: Request, week: Week) -> Report {
     let full = left_week(network, request, week.closed);
-    let agrees = same_week(week, with_count(full, week.count));
+    let agrees = week == with_count(full, week.count);
     report.note(shown(full.state), agrees)
 }
 

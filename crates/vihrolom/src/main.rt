@@ -5,29 +5,12 @@
 // are refused like any image whose length isn't its total.
 #![tactic(auto)]
 
-ghost use Rattle.std.specs.Prelude.{◌≤◌, length, IfOk};
-
 use sheet::sheet;
 use std::io;
 use std::io::{Read, Write};
 
 // The bytes of the input that are read at most.
-const IMAGE_PLACES: usize = 36025;
-
-// Fills the places from the first on, until none is left or the input ends; says how many are filled.
-fn read_full(reader: &mut impl Read, places: &mut [u8]) -> io::Result<usize>
-    ensures { IfOk result (λ n. n ≤ length places.old) }
-{
-    let mut filled = 0;
-    while filled < places.len() {
-        let count = reader.read(&mut places[filled..])?;
-        if count == 0 {
-            return Ok(filled);
-        }
-        filled += count;
-    }
-    Ok(filled)
-}
+const MOST_READ: u64 = 36025;
 
 // Prints the sheet of an image, by way of a slice that is long enough.
 fn print(rt: &impl Print, image: &[u8], text: &mut [u8]) -> io::Result<()> {
@@ -39,8 +22,8 @@ fn print(rt: &impl Print, image: &[u8], text: &mut [u8]) -> io::Result<()> {
 }
 
 fn main(rt: HostRuntime) -> io::Result<()> {
-    let mut input = [0u8; IMAGE_PLACES];
+    let mut input = Vec::new(rt.alloc());
     let mut text = [0u8; 1024];
-    let length = read_full(&mut rt.reader(), &mut input)?;
-    print(&rt, &input[..length], &mut text)
+    rt.reader().take(MOST_READ).read_to_end(&mut input)?;
+    print(&rt, &input, &mut text)
 }

@@ -91,6 +91,7 @@ pub fn event(
     ensures tally_value { answer one_number result.tally ≡ event_outcome image.now column start goal wanted (length work.old) week arc close }
     ensures work_after { work.new ≡ cleared (event_fault image.now column start goal wanted (length work.old) arc) work.old }
 {
+    // no `?`: what is refused comes with a state
     let sizes = match check_ranking(image, column, start, goal, wanted, work.len()) {
         Ok(sizes) => sizes,
         Err(refusal) => {

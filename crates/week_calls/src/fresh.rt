@@ -41,6 +41,7 @@ pub fn fresh(
     ensures work_after { work.new ≡ cleared (fresh_fault image.now column start goal wanted (length work.old)) work.old }
     ensures kept_week { KeptWeek image.now column start goal wanted (length work.old) }
 {
+    // no `?`: what is refused comes with a state
     let sizes = match check_ranking(image, column, start, goal, wanted, work.len()) {
         Ok(sizes) => sizes,
         Err(refusal) => {

@@ -8,7 +8,7 @@ ghost use Rattle.loading.specs.Networks.{net};
 ghost use Rattle.week_calls.specs.Weeks.{stands};
 
 use super::week::Week;
-use closures::{alike, touches};
+use closures::touches;
 use image::read16;
 use loading::Network;
 use network_calls::own_bests;
@@ -29,7 +29,7 @@ fn same_bests_in(
 {
     own_bests(network, old, start, goal, before);
     own_bests(network, new, start, goal, after);
-    alike(before, after)
+    before == after
 }
 
 // The same, with room made for them.

@@ -2,9 +2,10 @@
 use image::Refusal;
 
 // The state beside an image: the map of closed arcs, and the current answer with its route. `state` is 1 if the
-// answer is settled, 2 if it is open, and 15 if there is no path. What an answer has not got is 0.
+// answer is settled, 2 if it is open, and 15 if there is no path. What an answer has not got is 0. It is a number, and
+// `floor` stands beside it, since C has the state by value and may hand in any.
 #[repr(C)]
-#[derive(Clone, Copy)]
+#[derive(Clone, Copy, PartialEq, Eq)]
 pub struct Week {
     pub closed: [u64; 16],
     pub route: [u16; 200],
