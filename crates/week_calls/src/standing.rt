@@ -13,42 +13,19 @@ use image::read16;
 use loading::Network;
 use network_calls::own_bests;
 
-// Whether each column has the same best with two maps of closed arcs, with room for the bests.
-fn same_bests_in(
-    network: &Network<'_>,
-    old: &[u64],
-    new: &[u64],
-    start: usize,
-    goal: usize,
-    before: &mut [u64],
-    after: &mut [u64],
-) -> bool
-    requires ends { Ends (net network.now).nodes start goal }
-    requires before_len { (length before.old ≡ network.now.sizes.k) × (length after.old ≡ network.now.sizes.k) }
-    ensures { result ≡ standing.alike (terms.bests (without old.now (net network.now)) start goal) (terms.bests (without new.now (net network.now)) start goal) }
-{
-    own_bests(network, old, start, goal, before);
-    own_bests(network, new, start, goal, after);
-    before == after
-}
-
-// The same, with room made for them.
+// Whether each column has the same best with two maps of closed arcs.
 fn same_bests(network: &Network<'_>, old: &[u64], new: &[u64], start: usize, goal: usize) -> bool
     requires { Ends (net network.now).nodes start goal }
     ensures { result ≡ standing.alike (terms.bests (without old.now (net network.now)) start goal) (terms.bests (without new.now (net network.now)) start goal) }
 {
-    let mut before = [0u64; 8];
-    let mut after = [0u64; 8];
+    let mut old_room = [0u64; 8];
+    let mut new_room = [0u64; 8];
     let k = network.sizes.k as usize;
-    same_bests_in(
-        network,
-        old,
-        new,
-        start,
-        goal,
-        &mut before[..k],
-        &mut after[..k],
-    )
+    let before = &mut old_room[..k];
+    let after = &mut new_room[..k];
+    own_bests(network, old, start, goal, before);
+    own_bests(network, new, start, goal, after);
+    &*before == &*after
 }
 
 // Whether a route goes by the arc at an index.

@@ -1,22 +1,28 @@
 -- `standing::same_bests` lends parts of local arrays: a place for each column. Assumes nothing.
-use mathlib.Core.Path.{sym}
+use mathlib.Core.Path.{◌∙◌, ap₂, sym}
+use Rattle.closures.specs.Standing.{alike}
+use Rattle.closures.proofs.TestLaws.{alike_is}
 use Rattle.terms.proofs.RoomLaws.{part_long}
 use Rattle.loading.proofs.DecodeLaws.{few_columns}
 use Rattle.week_calls.proofs.standing.same_bests.Goals as goal
 
-pub same_bests_in-requires : goal.same_bests_in-requires
-same_bests_in-requires c =
-    let k = part_long 8 _ (few_columns c.args.network.now.accepted) in
-    record { ends = c.requires; before_len = (k, k) }
-
 pub slice_bounds-before-end : goal.slice_bounds-before-end
-slice_bounds-before-end c = few_columns c.args.network.now.accepted
-
-pub slice_bounds-same_bests_in-end : goal.slice_bounds-same_bests_in-end
-slice_bounds-same_bests_in-end c = sym (part_long 8 _ (few_columns c.args.network.now.accepted))
+slice_bounds-before-end c = sym (part_long 8 _ (few_columns c.args.network.now.accepted))
 
 pub slice_bounds-after-end : goal.slice_bounds-after-end
-slice_bounds-after-end c = few_columns c.args.network.now.accepted
+slice_bounds-after-end c = sym (part_long 8 _ (few_columns c.args.network.now.accepted))
 
-pub slice_bounds-same_bests_in-end-2 : goal.slice_bounds-same_bests_in-end-2
-slice_bounds-same_bests_in-end-2 c = sym (part_long 8 _ (few_columns c.args.network.now.accepted))
+pub own_bests-requires-clause-bests_len : goal.own_bests-requires-clause-bests_len
+own_bests-requires-clause-bests_len c = part_long 8 _ (few_columns c.args.network.now.accepted)
+
+pub own_bests-requires-2-clause-bests_len : goal.own_bests-requires-2-clause-bests_len
+own_bests-requires-2-clause-bests_len c = part_long 8 _ (few_columns c.args.network.now.accepted)
+
+pub returns : goal.returns
+returns c = c.eq.ensures ∙ alike_is c.own_bests.new.bests c.own_bests-2.new.bests ∙ ap₂ alike c.own_bests.ensures c.own_bests-2.ensures
+
+pub slice_bounds-old_room-end : goal.slice_bounds-old_room-end
+slice_bounds-old_room-end c = few_columns c.args.network.now.accepted
+
+pub slice_bounds-new_room-end : goal.slice_bounds-new_room-end
+slice_bounds-new_room-end c = few_columns c.args.network.now.accepted
