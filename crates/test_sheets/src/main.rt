@@ -5,12 +5,17 @@
 // from the library.
 #![tactic(auto)]
 
+ghost use Rattle.std.specs.Prelude.{◌≤◌, length, IfOk};
+
 use sheet::sheet;
-use std::fs;
+use std::fs::File;
 use std::io;
-use std::io::Write;
+use std::io::{Read, Write};
 use std::rt::Files;
 use test_fixtures::slices::{Pattern, holds};
+
+// No image is longer than 36,024 bytes.
+const IMAGE_PLACES: usize = 36025;
 
 // The places that the sheet needs.
 const TEXT_PLACES: usize = 1024;
@@ -41,36 +46,64 @@ fn print_answer(rt: &impl Print, image: &[u8], text: &mut [u8]) -> io::Result<()
     print_text(rt, text, length as usize)
 }
 
-// Prints the title and the sheet of a file, with so many places for the text: at most
-// `TEXT_PLACES`.
-fn print_in(rt: &(impl Files + Alloc + Print), name: &str, places: usize) -> io::Result<()> {
-    let mut text = [u8::PATTERN; TEXT_PLACES];
-    print_title(rt, name, places)?;
-    let Some(text) = text.get_mut(..places) else {
-        return Ok(());
-    };
-    let image = fs::read(rt, name)?;
-    print_answer(rt, &image, text)
+// Fills the places from the first on, until none is left or the file ends; says how many are filled. vihrolom has the same
+// function: std has none for a slice, and the crates below both read no input.
+fn read_full(file: &mut impl Read, places: &mut [u8]) -> io::Result<usize>
+    ensures { IfOk result (λ n. n ≤ length places.old) }
+{
+    let mut filled = 0;
+    while filled < places.len() {
+        let count = file.read(&mut places[filled..])?;
+        if count == 0 {
+            return Ok(filled);
+        }
+        filled += count;
+    }
+    Ok(filled)
 }
 
-fn print(rt: &(impl Files + Alloc + Print), name: &str) -> io::Result<()> {
+// Prints the sheet of a file, by way of slices for the image and for the text.
+fn print_file(
+    rt: &(impl Files + Print),
+    name: &str,
+    image: &mut [u8],
+    text: &mut [u8],
+) -> io::Result<()> {
+    let mut file = File::open(rt, name)?;
+    let length = read_full(&mut file, image)?;
+    print_answer(rt, &image[..length], text)
+}
+
+// Prints the title and the sheet of a file, with so many places for the text: at most
+// `TEXT_PLACES`.
+fn print_in(rt: &(impl Files + Print), name: &str, places: usize) -> io::Result<()> {
+    let mut image = [0u8; IMAGE_PLACES];
+    let mut text = [u8::PATTERN; TEXT_PLACES];
+    print_title(rt, name, places)?;
+    if TEXT_PLACES < places {
+        return Ok(());
+    }
+    print_file(rt, name, &mut image, &mut text[0..places])
+}
+
+fn print(rt: &(impl Files + Print), name: &str) -> io::Result<()> {
     print_in(rt, name, TEXT_PLACES)
 }
 
-fn print_settled(rt: &(impl Files + Alloc + Print)) -> io::Result<()> {
+fn print_settled(rt: &(impl Files + Print)) -> io::Result<()> {
     print(rt, "S.image")?;
     print(rt, "close.image")?;
     print(rt, "line.image")?;
     print(rt, "fan48.image")
 }
 
-fn print_open(rt: &(impl Files + Alloc + Print)) -> io::Result<()> {
+fn print_open(rt: &(impl Files + Print)) -> io::Result<()> {
     print(rt, "apart.image")?;
     print(rt, "fan49.image")
 }
 
 // Every row of the refusal table that the sheet of an image can give.
-fn print_refused(rt: &(impl Files + Alloc + Print)) -> io::Result<()> {
+fn print_refused(rt: &(impl Files + Print)) -> io::Result<()> {
     print(rt, "empty.image")?;
     print(rt, "header_cut.image")?;
     print(rt, "edition.image")?;
@@ -87,7 +120,7 @@ fn print_refused(rt: &(impl Files + Alloc + Print)) -> io::Result<()> {
 
 // Edition 2, in which an arc may be closed in a column: settled, open and refused; and what edition 1
 // and any other edition refuse.
-fn print_closed(rt: &(impl Files + Alloc + Print)) -> io::Result<()> {
+fn print_closed(rt: &(impl Files + Print)) -> io::Result<()> {
     print(rt, "S_in_edition_2.image")?;
     print(rt, "ferry.image")?;
     print(rt, "close_with_ferries.image")?;
@@ -99,7 +132,7 @@ fn print_closed(rt: &(impl Files + Alloc + Print)) -> io::Result<()> {
     print(rt, "edition_3.image")
 }
 
-fn print_too_short(rt: &(impl Files + Alloc + Print)) -> io::Result<()> {
+fn print_too_short(rt: &(impl Files + Print)) -> io::Result<()> {
     print_in(rt, "S.image", 1023)?;
     print_in(rt, "S.image", 0)
 }

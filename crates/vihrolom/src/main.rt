@@ -5,12 +5,30 @@
 // are refused like any image whose length isn't its total.
 #![tactic(auto)]
 
+ghost use Rattle.std.specs.Prelude.{◌≤◌, length, IfOk};
+
 use sheet::sheet;
 use std::io;
 use std::io::{Read, Write};
 
 // The bytes of the input that are read at most.
-const MOST_READ: u64 = 36025;
+const IMAGE_PLACES: usize = 36025;
+
+// Fills the places from the first on, until none is left or the input ends; says how many are filled. test_sheets has the same
+// function: std has none for a slice, and the crates below both read no input.
+fn read_full(reader: &mut impl Read, places: &mut [u8]) -> io::Result<usize>
+    ensures { IfOk result (λ n. n ≤ length places.old) }
+{
+    let mut filled = 0;
+    while filled < places.len() {
+        let count = reader.read(&mut places[filled..])?;
+        if count == 0 {
+            return Ok(filled);
+        }
+        filled += count;
+    }
+    Ok(filled)
+}
 
 // Prints the sheet of an image, by way of a slice that is long enough.
 fn print(rt: &impl Print, image: &[u8], text: &mut [u8]) -> io::Result<()> {
@@ -22,8 +40,8 @@ fn print(rt: &impl Print, image: &[u8], text: &mut [u8]) -> io::Result<()> {
 }
 
 fn main(rt: HostRuntime) -> io::Result<()> {
-    let mut input = Vec::new(rt.alloc());
+    let mut input = [0u8; IMAGE_PLACES];
     let mut text = [0u8; 1024];
-    rt.reader().take(MOST_READ).read_to_end(&mut input)?;
-    print(&rt, &input, &mut text)
+    let length = read_full(&mut rt.reader(), &mut input)?;
+    print(&rt, &input[..length], &mut text)
 }
