@@ -95,7 +95,13 @@ enum Kind {
     Drawn,
 }
 
-const KINDS: [Kind; 5] = [Kind::Path, Kind::Shorter, Kind::Longer, Kind::Changed, Kind::Drawn];
+const KINDS: [Kind; 5] = [
+    Kind::Path,
+    Kind::Shorter,
+    Kind::Longer,
+    Kind::Changed,
+    Kind::Drawn,
+];
 
 // A list of a kind. One that the path is too short or too long for has drawn nodes.
 fn drawn_list(kind: Kind, n: u32, start: u32, path: Row, numbers: &[u32], from: u32) -> List {

@@ -117,5 +117,11 @@ fn note_lines(mut report: Report, image: &[u8], nodes: &[u16]) -> Report {
 }
 
 pub fn run(rt: &impl Print) -> io::Result<()> {
-    cases::print(rt, note_s, note_zero_costs, |report, image| no_path(report, image, 2, 1, 1, 2), note_lines)
+    cases::print(
+        rt,
+        note_s,
+        note_zero_costs,
+        |report, image| no_path(report, image, 2, 1, 1, 2),
+        note_lines,
+    )
 }

@@ -20,6 +20,5 @@ pub fn note_all_roads(report: Report, drawn: Drawn) -> Report {
         };
         run = next(run, drawn, request, asked);
     }
-    run.report
-        .note(Call::Fresh, run.week == first.week)
+    run.report.note(Call::Fresh, run.week == first.week)
 }

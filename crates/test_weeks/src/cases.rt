@@ -18,21 +18,125 @@ type Line = (u32, bool, Call, u32, u64, [u32; 6], [u16; 4]);
 const SETTLED: Line = (0, false, Call::Runs, 0, 0, [1, 3, 3, 1, 1, 0], [1, 2, 4, 0]);
 
 // The same state with another count, length and map: bits from 5 on close nothing.
-const MADE: Line = (0, false, Call::Unchanged, 0, 96, [1, 300, 3, 1, 7, 0], [1, 2, 4, 0]);
+const MADE: Line = (
+    0,
+    false,
+    Call::Unchanged,
+    0,
+    96,
+    [1, 300, 3, 1, 7, 0],
+    [1, 2, 4, 0],
+);
 
 const MADE_EVENTS: [Line; 12] = [
-    (1, true, Call::Stands, 1, 98, [1, 300, 3, 1, 7, 0], [1, 2, 4, 0]), // 1 3 4 is no best
-    (1, true, Call::Unchanged, 1, 98, [1, 300, 3, 1, 7, 0], [1, 2, 4, 0]),
-    (2, true, Call::Runs, 2, 102, [1, 3, 0, 1, 1, 0], [1, 2, 4, 0]), // column 1 loses its best
-    (4, true, Call::Stands, 3, 118, [1, 3, 0, 1, 1, 0], [1, 2, 4, 0]),
-    (0, false, Call::Unchanged, 3, 118, [1, 3, 0, 1, 1, 0], [1, 2, 4, 0]),
-    (0, true, Call::Runs, 4, 119, [15, 0, 0, 0, 0, 0], [0, 0, 0, 0]), // no path is left
-    (3, true, Call::Runs, 5, 127, [15, 0, 0, 0, 0, 0], [0, 0, 0, 0]),
-    (1, false, Call::Runs, 4, 125, [15, 0, 0, 0, 0, 0], [0, 0, 0, 0]),
-    (4, false, Call::Runs, 3, 109, [1, 3, 0, 1, 1, 0], [1, 3, 4, 0]),
-    (0, false, Call::Runs, 2, 108, [1, 3, 0, 1, 1, 0], [1, 3, 4, 0]),
-    (3, false, Call::Runs, 1, 100, [1, 3, 1, 1, 1, 0], [1, 2, 4, 0]),
-    (2, false, Call::Runs, 0, 96, [1, 3, 3, 1, 1, 0], [1, 2, 4, 0]),
+    (
+        1,
+        true,
+        Call::Stands,
+        1,
+        98,
+        [1, 300, 3, 1, 7, 0],
+        [1, 2, 4, 0],
+    ), // 1 3 4 is no best
+    (
+        1,
+        true,
+        Call::Unchanged,
+        1,
+        98,
+        [1, 300, 3, 1, 7, 0],
+        [1, 2, 4, 0],
+    ),
+    (
+        2,
+        true,
+        Call::Runs,
+        2,
+        102,
+        [1, 3, 0, 1, 1, 0],
+        [1, 2, 4, 0],
+    ), // column 1 loses its best
+    (
+        4,
+        true,
+        Call::Stands,
+        3,
+        118,
+        [1, 3, 0, 1, 1, 0],
+        [1, 2, 4, 0],
+    ),
+    (
+        0,
+        false,
+        Call::Unchanged,
+        3,
+        118,
+        [1, 3, 0, 1, 1, 0],
+        [1, 2, 4, 0],
+    ),
+    (
+        0,
+        true,
+        Call::Runs,
+        4,
+        119,
+        [15, 0, 0, 0, 0, 0],
+        [0, 0, 0, 0],
+    ), // no path is left
+    (
+        3,
+        true,
+        Call::Runs,
+        5,
+        127,
+        [15, 0, 0, 0, 0, 0],
+        [0, 0, 0, 0],
+    ),
+    (
+        1,
+        false,
+        Call::Runs,
+        4,
+        125,
+        [15, 0, 0, 0, 0, 0],
+        [0, 0, 0, 0],
+    ),
+    (
+        4,
+        false,
+        Call::Runs,
+        3,
+        109,
+        [1, 3, 0, 1, 1, 0],
+        [1, 3, 4, 0],
+    ),
+    (
+        0,
+        false,
+        Call::Runs,
+        2,
+        108,
+        [1, 3, 0, 1, 1, 0],
+        [1, 3, 4, 0],
+    ),
+    (
+        3,
+        false,
+        Call::Runs,
+        1,
+        100,
+        [1, 3, 1, 1, 1, 0],
+        [1, 2, 4, 0],
+    ),
+    (
+        2,
+        false,
+        Call::Runs,
+        0,
+        96,
+        [1, 3, 3, 1, 1, 0],
+        [1, 2, 4, 0],
+    ),
 ];
 
 // In column 1 the answer is open, with K = 1, where there is a second path.
@@ -42,17 +146,41 @@ const OPEN_EVENTS: [Line; 6] = [
     (1, true, Call::Runs, 1, 2, [2, 4, 8, 2, 1, 3], [1, 2, 3, 4]), // another floor
     (0, true, Call::Runs, 2, 3, [15, 0, 0, 0, 0, 0], [0, 0, 0, 0]),
     (1, false, Call::Runs, 1, 1, [1, 3, 0, 1, 1, 0], [1, 3, 4, 0]),
-    (3, true, Call::Stands, 2, 9, [1, 3, 0, 1, 1, 0], [1, 3, 4, 0]),
+    (
+        3,
+        true,
+        Call::Stands,
+        2,
+        9,
+        [1, 3, 0, 1, 1, 0],
+        [1, 3, 4, 0],
+    ),
     (0, false, Call::Runs, 1, 8, [2, 4, 5, 2, 1, 2], [1, 2, 3, 4]),
     (2, true, Call::Runs, 2, 12, [1, 3, 0, 1, 1, 0], [1, 3, 4, 0]),
 ];
 
 // From 4 to 1 there is no path.
-const NO_PATH: Line = (0, false, Call::Runs, 0, 0, [15, 0, 0, 0, 0, 0], [0, 0, 0, 0]);
+const NO_PATH: Line = (
+    0,
+    false,
+    Call::Runs,
+    0,
+    0,
+    [15, 0, 0, 0, 0, 0],
+    [0, 0, 0, 0],
+);
 
 const NO_PATH_EVENTS: [Line; 2] = [
     (0, true, Call::Runs, 1, 1, [15, 0, 0, 0, 0, 0], [0, 0, 0, 0]),
-    (0, false, Call::Runs, 0, 0, [15, 0, 0, 0, 0, 0], [0, 0, 0, 0]),
+    (
+        0,
+        false,
+        Call::Runs,
+        0,
+        0,
+        [15, 0, 0, 0, 0, 0],
+        [0, 0, 0, 0],
+    ),
 ];
 
 fn week_of(line: Line) -> Week {
@@ -81,13 +209,7 @@ fn note_line(report: Report, image: &[u8], request: Request, before: Line, line:
         close,
         room: needed_route_rooms(4, request.wanted).work,
     };
-    let agrees = event_agrees(
-        image,
-        asked,
-        week_of(before),
-        week_of(line),
-        single(roads),
-    );
+    let agrees = event_agrees(image, asked, week_of(before), week_of(line), single(roads));
     report.note(call, agrees)
 }
 

@@ -104,7 +104,7 @@ fn mapped(week: Week, closed: [u64; 16], number: u32) -> Week {
 }
 
 // A state of a kind. The arc is the event's, and the number a drawn one.
-fn made(kind: Made, week: Week, drawn: Drawn, arc: usize, number: u32) -> Week {
+fn state_of(kind: Made, week: Week, drawn: Drawn, arc: usize, number: u32) -> Week {
     let Drawn {
         network,
         numbers,
@@ -115,9 +115,7 @@ fn made(kind: Made, week: Week, drawn: Drawn, arc: usize, number: u32) -> Week {
     match kind {
         Made::State(state) => Week { state, ..week },
         Made::Length(length) => routed(week, length, week.route),
-        Made::LastArc(length) => {
-            routed(week, length, with_last(week.route, network.nodes, arc))
-        }
+        Made::LastArc(length) => { routed(week, length, with_last(week.route, network.nodes, arc)) }
         Made::ShortOtherRoute => routed(week, number % 9, other_route(numbers)),
         Made::LongOtherRoute => routed(week, u32::MAX, other_route(numbers)),
         Made::BitsBeyond => Week {
@@ -139,7 +137,7 @@ fn note_made(report: Report, drawn: Drawn, request: Request, at: usize, kind: Ma
     let asked = drawn.event(request, number_at(numbers, at));
     let week = left_week(network, request, words);
     let number = number_at(numbers, 525);
-    let other = made(kind, week, drawn, asked.arc as usize, number);
+    let other = state_of(kind, week, drawn, asked.arc as usize, number);
     note_event(report, drawn, asked, other).report
 }
 
