@@ -3,12 +3,12 @@ use Prim.Native.Nat.{ℕ, ◌+◌, ◌≤◌, ◌<◌}
 use native.Mathlib.Omega.{arith}
 use native.Mathlib.Nat.{eq-or-lt_of_le}
 use mathlib.Core.Path.{◌≡◌, refl, sym, ◌∙◌}
-use mathlib.Core.Bool.{true, ◌&&◌}
+use mathlib.Core.Bool.{Bool, true, false, not, ◌&&◌}
 use mathlib.Core.Logic.{◌⊎◌, inl, inr, ⊎_elim}
 use mathlib.Core.List.{List}
-use lib.Dec.{eqb, ltb}
+use lib.Dec.{ltb}
 use lib.ListN.{length, get_or}
-use borrow.Author.Tests.{eqb-true, eq-eqb, ltb-true, lt-ltb}
+use borrow.Author.Tests.{ltb-true, lt-ltb, not-true}
 use Rattle.terms.specs.Network.{linked, weight}
 use Rattle.terms.proofs.ListLaws.{le_or_lt, by_cond, of_cond, and_both}
 use Rattle.star.specs.Arcs.{graph, Arcs, At}
@@ -23,16 +23,16 @@ use Rattle.exits.specs.declared.stepping.Step.{Step}
 use Rattle.std.specs.Prelude.{Option, Some, None}
 
 -- ---- weight and label of an arc: below the mark exactly if its head is open and reached
-module _ (ls used barred : List ℕ) (y w : ℕ) where
+module _ (ls : List ℕ) (used barred : List Bool) (y w : ℕ) where
   pub via_open : Unmarked used barred y → get_or ls y 0 < far → via ls used barred y w ≡ w + get_or ls y 0
   unfolding via
-  via_open u k = rw (eq-eqb (get_or used y 0) 0 u.unused, eq-eqb (get_or barred y 0) 0 u.free, lt-ltb (get_or ls y 0) far k)
+  via_open u k = rw (u.unused, u.free, lt-ltb (get_or ls y 0) far k)
 
-  tests : (eqb (get_or used y 0) 0 && (eqb (get_or barred y 0) 0 && ltb (get_or ls y 0) far)) ≡ true → Unmarked used barred y × (get_or ls y 0 < far)
+  tests : (not (get_or used y false) && (not (get_or barred y false) && ltb (get_or ls y 0) far)) ≡ true → Unmarked used barred y × (get_or ls y 0 < far)
   tests t =
-      let a = and_both (eqb (get_or used y 0) 0) (eqb (get_or barred y 0) 0 && ltb (get_or ls y 0) far) t in
-      let b = and_both (eqb (get_or barred y 0) 0) (ltb (get_or ls y 0) far) a.1 in
-      (record { unused = eqb-true (get_or used y 0) 0 a.0; free = eqb-true (get_or barred y 0) 0 b.0 }, ltb-true (get_or ls y 0) far b.1)
+      let a = and_both (not (get_or used y false)) (not (get_or barred y false) && ltb (get_or ls y 0) far) t in
+      let b = and_both (not (get_or barred y false)) (ltb (get_or ls y 0) far) a.1 in
+      (record { unused = not-true (get_or used y false) a.0; free = not-true (get_or barred y false) b.0 }, ltb-true (get_or ls y 0) far b.1)
 
   pub via_shut : (Unmarked used barred y → get_or ls y 0 < far → ⊥) → via ls used barred y w ≡ far
   unfolding via
@@ -115,7 +115,7 @@ module _ {n : ℕ} {ts hs ws first : List ℕ} (arcs : Arcs n ts hs ws) (star : 
       ⊎_elim (λ e. rw e (omega arith)) (λ k. omega (arith, star.rising i j k (index_arc j (omega arith) hi).below ((index_arc i lo (omega arith)).tail_is ∙ sym (index_arc j (omega arith) hi).tail_is))) (eq-or-lt_of_le le)
 
   -- ---- the best of their numbers is the choice
-  module _ (ls used barred : List ℕ) where
+  module _ (ls : List ℕ) (used barred : List Bool) where
     -- an exit has its weight and label as number
     exit_number : {z : ℕ} → Exit (graph ts hs ws) ls (Unmarked used barred) v z → (i : ℕ) × (get_or first v 0 ≤ i) × (i < get_or first (v + 1) 0) × (get_or hs i 0 ≡ z) × (via_arc hs ws ls used barred i ≡ weight (graph ts hs ws) v z + get_or ls z 0)
     exit_number {z} x =
@@ -148,8 +148,8 @@ module _ {n : ℕ} {ts hs ws first : List ℕ} (arcs : Arcs n ts hs ws) (star : 
     scanned_chosen (Some s) low b = best_choice b
 
   -- ---- the first that keeps to the label is the tight step
-  pub first_tight : (ls used : List ℕ) (i : ℕ) → get_or first v 0 ≤ i → i < get_or first (v + 1) 0 → get_or ls v 0 < far → get_or used (get_or hs i 0) 0 ≡ 0 → get_or ws i 0 + get_or ls (get_or hs i 0) 0 ≡ get_or ls v 0
-      → ((j : ℕ) → get_or first v 0 ≤ j → j < i → get_or used (get_or hs j 0) 0 ≡ 0 → get_or ws j 0 + get_or ls (get_or hs j 0) 0 ≡ get_or ls v 0 → ⊥) → Tight (graph ts hs ws) ls (Unused used) v (get_or hs i 0)
+  pub first_tight : (ls : List ℕ) (used : List Bool) (i : ℕ) → get_or first v 0 ≤ i → i < get_or first (v + 1) 0 → get_or ls v 0 < far → get_or used (get_or hs i 0) false ≡ false → get_or ws i 0 + get_or ls (get_or hs i 0) 0 ≡ get_or ls v 0
+      → ((j : ℕ) → get_or first v 0 ≤ j → j < i → get_or used (get_or hs j 0) false ≡ false → get_or ws j 0 + get_or ls (get_or hs j 0) 0 ≡ get_or ls v 0 → ⊥) → Tight (graph ts hs ws) ls (Unused used) v (get_or hs i 0)
   first_tight ls used i lo hi reached unused same earlier =
       record { exit = record { arc = at_linked arcs at; is_open = unused; reached = omega arith }; keeps = rw (at_weight arcs at) same; smallest = later }
     where
@@ -162,7 +162,7 @@ module _ {n : ℕ} {ts hs ws first : List ℕ} (arcs : Arcs n ts hs ws) (star : 
           ⊎_elim (λ h. rw (← r.3.head_is) (head_le i r.0 lo h r.2)) (λ h. absurd (earlier r.0 r.1 h (rw r.3.head_is x.is_open) (rw (r.3.head_is, ← at_weight arcs r.3) e))) (le_or_lt i r.0)
 
 -- ---- the node that was found can be used
-pub scanned_usable : {k : ℕ} {hs ws : List ℕ} (ls used barred : List ℕ) (a e : ℕ) (r : Option Step) → Heads k hs ws → e ≤ length hs → Scanned (via_arc hs ws ls used barred) hs a e r → Usable k used r
+pub scanned_usable : {k : ℕ} {hs ws : List ℕ} (ls : List ℕ) (used barred : List Bool) (a e : ℕ) (r : Option Step) → Heads k hs ws → e ≤ length hs → Scanned (via_arc hs ws ls used barred) hs a e r → Usable k used r
 scanned_usable ls used barred a e None h top f = tt
 scanned_usable {hs = hs} {ws = ws} ls used barred a e (Some s) h top b =
     let k = via_below ls used barred (get_or hs b.place 0) (get_or ws b.place 0) (omega (arith, b.has, b.below)) in

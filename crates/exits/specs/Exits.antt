@@ -1,5 +1,5 @@
 -- What the search among the exits of a node finds. Assumes nothing.
-use Rattle.std.specs.Prelude.{ℕ, ◌+◌, ◌≤◌, ◌<◌, ◌≡◌, ◌&&◌, cond, List, eqb, ltb, get_or, Option, Some, None, IfSome, IfNone}
+use Rattle.std.specs.Prelude.{ℕ, ◌+◌, ◌≤◌, ◌<◌, ◌≡◌, ◌&&◌, Bool, false, not, cond, List, ltb, get_or, Option, Some, None, IfSome, IfNone}
 use Rattle.terms.specs.Network.{Graph}
 use Rattle.labels.specs.Labels.{far}
 use Rattle.exits.specs.Flags.{Fresh}
@@ -7,20 +7,20 @@ use Rattle.exits.specs.Walks.{Exit, Choice}
 use Rattle.exits.specs.declared.stepping.Step.{Step}
 
 -- not used, and not barred
-pub record Unmarked (used barred : List ℕ) (z : ℕ) : Type 0 where
-  pub unused : get_or used z 0 ≡ 0
-  pub free : get_or barred z 0 ≡ 0
+pub record Unmarked (used barred : List Bool) (z : ℕ) : Type 0 where
+  pub unused : get_or used z false ≡ false
+  pub free : get_or barred z false ≡ false
 
 -- not used
-abbrev pub Unused : List ℕ → ℕ → Type 0
-Unused used z = get_or used z 0 ≡ 0
+abbrev pub Unused : List Bool → ℕ → Type 0
+Unused used z = get_or used z false ≡ false
 
 -- weight and label of an arc of weight w to y, or the mark if y is used, barred or not reached
-unfoldable pub via : List ℕ → List ℕ → List ℕ → ℕ → ℕ → ℕ
-via ls used barred y w = cond (eqb (get_or used y 0) 0 && (eqb (get_or barred y 0) 0 && ltb (get_or ls y 0) far)) (w + get_or ls y 0) far
+unfoldable pub via : List ℕ → List Bool → List Bool → ℕ → ℕ → ℕ
+via ls used barred y w = cond (not (get_or used y false) && (not (get_or barred y false) && ltb (get_or ls y 0) far)) (w + get_or ls y 0) far
 
 -- the same of the arc at index i
-abbrev pub via_arc : List ℕ → List ℕ → List ℕ → List ℕ → List ℕ → ℕ → ℕ
+abbrev pub via_arc : List ℕ → List ℕ → List ℕ → List Bool → List Bool → ℕ → ℕ
 via_arc hs ws ls used barred i = via ls used barred (get_or hs i 0) (get_or ws i 0)
 
 -- r is the number x if that is less than `best`, and else there is none
@@ -48,7 +48,7 @@ Scanned number hs a e (Some s) = Best number hs a e s.rest s.node
 
 -- ---- of a node
 -- the node that was found is a node that is not used
-abbrev pub Usable : ℕ → List ℕ → Option Step → Type 0
+abbrev pub Usable : ℕ → List Bool → Option Step → Type 0
 Usable k used r = IfSome r (λ s. Fresh k used s.node)
 
 -- the choice among the exits of v, or there is none
@@ -57,6 +57,6 @@ Chosen g ls Open v None = (z : ℕ) → Exit g ls Open v z → ⊥
 Chosen g ls Open v (Some s) = Choice g ls Open v s.rest s.node
 
 -- an unused node whose label makes up `want` with the weight w
-pub record Keeps (ls used : List ℕ) (y w want : ℕ) : Type 0 where
-  pub unused : get_or used y 0 ≡ 0
+pub record Keeps (ls : List ℕ) (used : List Bool) (y w want : ℕ) : Type 0 where
+  pub unused : get_or used y false ≡ false
   pub adds_up : w + get_or ls y 0 ≡ want

@@ -24,8 +24,8 @@ pub fn via_below(
     w: u32,
     best: u64,
     labels: &[u64],
-    used: &[u8],
-    barred: &[u8],
+    used: &[bool],
+    barred: &[bool],
 ) -> Option<u64>
     requires node { y < length labels.now }
     requires small { get_or labels.now y 0 < far → get_or labels.now y 0 ≤ longest }
@@ -38,7 +38,7 @@ pub fn via_below(
         return None;
     }
     let l = w as u64 + rest;
-    if best <= l || used[y] != 0 || barred[y] != 0 {
+    if best <= l || used[y] || barred[y] {
         return None;
     }
     Some(l)
@@ -50,8 +50,8 @@ pub fn least_exit(
     graph: &Graph<'_>,
     v: usize,
     labels: &[u64],
-    used: &[u8],
-    barred: &[u8],
+    used: &[bool],
+    barred: &[bool],
 ) -> Option<Step>
     requires node { v < length labels.now }
     requires labels_long { length labels.now ≡ graph.now.nodes + 1 }
@@ -78,17 +78,17 @@ pub fn least_exit(
 }
 
 // Whether y is not used, and weight and label of an arc to it are `want` together.
-fn keeps(y: usize, w: u32, labels: &[u64], used: &[u8], want: u64) -> bool
+fn keeps(y: usize, w: u32, labels: &[u64], used: &[bool], want: u64) -> bool
     requires node { y < length labels.now }
     requires used_long { length used.now ≡ length labels.now }
     ensures { IsTrue result ↔ Keeps labels.now used.now y w want }
 {
     let rest = labels[y];
-    rest <= want && want - rest == w as u64 && used[y] == 0
+    rest <= want && want - rest == w as u64 && !used[y]
 }
 
 // The smallest unused node to which an arc goes from x so that weight and label make up the label of x.
-pub fn tight_exit(graph: &Graph<'_>, x: usize, labels: &[u64], used: &[u8]) -> Option<u16>
+pub fn tight_exit(graph: &Graph<'_>, x: usize, labels: &[u64], used: &[bool]) -> Option<u16>
     requires node { x < length labels.now }
     requires labels_long { length labels.now ≡ graph.now.nodes + 1 }
     requires used_long { length used.now ≡ length labels.now }

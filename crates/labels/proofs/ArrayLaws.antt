@@ -2,6 +2,7 @@
 use Prim.Native.Nat.{ℕ, ◌+◌}
 use native.Mathlib.Omega.{arith}
 use mathlib.Core.Path.{◌≡◌, ◌∙◌}
+use mathlib.Core.Bool.{Bool}
 use mathlib.Core.List.{List}
 use lib.ListN.{length}
 use Rattle.star.specs.Arcs.{Arcs}
@@ -11,7 +12,7 @@ use Rattle.star.specs.declared.graph.Graph.{Graph}
 use Rattle.labels.specs.Arrays.{Arrays}
 
 -- arcs with their chains fit arrays that have a place for each node, and one more
-arrays_of : {n : ℕ} {ts hs ws first next bars : List ℕ} → Arcs n ts hs ws → Chains hs first next → length first ≡ n + 1 → length bars ≡ n + 1 → Arrays (n + 1) ts ws first next bars
+arrays_of : {n : ℕ} {ts hs ws first next : List ℕ} {bars : List Bool} → Arcs n ts hs ws → Chains hs first next → length first ≡ n + 1 → length bars ≡ n + 1 → Arrays (n + 1) ts ws first next bars
 arrays_of arcs c e e' = record {
   weights_long = arcs.weights_long;
   next_long = c.next_long ∙ arcs.heads_long;
@@ -23,5 +24,5 @@ arrays_of arcs c e e' = record {
   next_in = λ i b. (c.goes_on i (omega (arith, arcs.heads_long))).within;
 }
 
-pub graph_arrays : (g : Graph) {bars : List ℕ} → length bars ≡ g.nodes + 1 → Arrays (g.nodes + 1) (tails g) g.weights.now (first_in g) (next_in g) bars
+pub graph_arrays : (g : Graph) {bars : List Bool} → length bars ≡ g.nodes + 1 → Arrays (g.nodes + 1) (tails g) g.weights.now (first_in g) (next_in g) bars
 graph_arrays g e = arrays_of g.holds.arcs g.holds.chains g.holds.ins_long e

@@ -87,12 +87,12 @@ lifted_more {t} {i} {x} {nodes} {os} {ls} {ls'} e n r l = record {
     by_case z (no m) = ⊎_elim (λ h. inl (r.others z m ∙ h)) (λ a. inr (among_more (omega arith) a)) (l.each z)
 
 -- ---- labels mended: those of the first `count` nodes are still to be
-pub data Mended (g : Graph) (used nodes : List ℕ) (count : ℕ) (os ls : List ℕ) (x : ℕ) : Type 0 where
+pub data Mended (g : Graph) (used : List Bool) (nodes : List ℕ) (count : ℕ) (os ls : List ℕ) (x : ℕ) : Type 0 where
   same : get_or ls x 0 ≡ get_or os x 0 → Mended g used nodes count os ls x
   due : Among nodes count x → Mended g used nodes count os ls x
   fit : Fits g used ls x → Mended g used nodes count os ls x
 
-pub record Mending (g : Graph) (t : ℕ) (used nodes : List ℕ) (count : ℕ) (os ls : List ℕ) : Type 0 where
+pub record Mending (g : Graph) (t : ℕ) (used : List Bool) (nodes : List ℕ) (count : ℕ) (os ls : List ℕ) : Type 0 where
   pub goal_kept : get_or ls t 0 ≡ get_or os t 0
   pub no_less : (x : ℕ) → get_or os x 0 ≤ get_or ls x 0
   pub each : (x : ℕ) → Mended g used nodes count os ls x
@@ -105,14 +105,14 @@ among_less {nodes} {i} {x} {z} e n a = by_case (ℕ_discrete a.place i)
     by_case (no m) = record { place = a.place; before = omega (arith, a.before); is = a.is }
 
 -- a label that fits does so when another is raised
-fits_raised : {g : Graph} {x z : ℕ} {used ls ls' : List ℕ} → (z ≡ x → ⊥) → Raises x ls ls' → Fits g used ls z → Fits g used ls' z
+fits_raised : {g : Graph} {x z : ℕ} {used : List Bool} {ls ls' : List ℕ} → (z ≡ x → ⊥) → Raises x ls ls' → Fits g used ls z → Fits g used ls' z
 fits_raised {x = x} {z} n r f = record {
   along = λ y a u h.
       let k = f.along y a u (omega (arith, raises_each r y)) in
       (omega (arith, k.0, r.others z n), omega (arith, k.1, r.others z n, raises_each r y));
 }
 
-module _ {g : Graph} {t : ℕ} {used nodes os : List ℕ} where
+module _ {g : Graph} {t : ℕ} {used : List Bool} {nodes os : List ℕ} where
   pub mending_start : {count : ℕ} {ls : List ℕ} → Lifted t nodes count os ls → Mending g t used nodes count os ls
   mending_start l = record { goal_kept = l.goal_kept; no_less = l.no_less; each = λ x. ⊎_elim same due (l.each x) }
 
@@ -143,7 +143,7 @@ module _ {g : Graph} {t : ℕ} {used nodes os : List ℕ} where
   mending_at e s = rw e at s
 
   -- with none left to mend they are consistent, if os are
-  pub mending_end : {ls bar : List ℕ} → ((z : ℕ) → elem z bar ≡ false → get_or used z 0 ≡ 0) → Consistent g t os bar → Mending g t used nodes 0 os ls → Consistent g t ls bar
+  pub mending_end : {ls bar : List ℕ} → ((z : ℕ) → elem z bar ≡ false → get_or used z false ≡ false) → Consistent g t os bar → Mending g t used nodes 0 os ls → Consistent g t ls bar
   mending_end {ls} {bar} free c s = record { goal_zero = s.goal_kept ∙ c.goal_zero; along = λ x y a u v h. by_case x y a u v h (s.each x) }
     where
       by_case : (x y : ℕ) → linked g x y ≡ true → elem x bar ≡ false → elem y bar ≡ false → get_or ls y 0 < far → Mended g used nodes 0 os ls x → (get_or ls x 0 < far) × (get_or ls x 0 ≤ weight g x y + get_or ls y 0)
@@ -152,11 +152,11 @@ module _ {g : Graph} {t : ℕ} {used nodes os : List ℕ} where
       by_case x y a u v h (fit f) = f.along y a (free y v) h
 
 -- ---- a label raised to the least weight and label over the exits, or less, fits
-module _ {g : Graph} {used ls : List ℕ} {x : ℕ} where
+module _ {g : Graph} {used : List Bool} {ls : List ℕ} {x : ℕ} where
   pub mends_least : {l y : ℕ} (a : ℕ) → x < length ls → Choice g ls (Unmarked used used) x l y → get_or ls x 0 ≤ a → a ≤ l → a < far → Mends g used x ls (set ls x a)
   mends_least {l} a h c lo hi b = record { raises = raises_set x a ls h lo; fits = record { along = λ y e u k. by_case y e u k (ℕ_discrete y x) } }
     where
-      by_case : (y : ℕ) → linked g x y ≡ true → get_or used y 0 ≡ 0 → get_or (set ls x a) y 0 < far → Dec (y ≡ x) → (get_or (set ls x a) x 0 < far) × (get_or (set ls x a) x 0 ≤ weight g x y + get_or (set ls x a) y 0)
+      by_case : (y : ℕ) → linked g x y ≡ true → get_or used y false ≡ false → get_or (set ls x a) y 0 < far → Dec (y ≡ x) → (get_or (set ls x a) x 0 < far) × (get_or (set ls x a) x 0 ≤ weight g x y + get_or (set ls x a) y 0)
       by_case y e u k (yes q) = (omega (arith, get_or-set_same ls x a 0 h), omega (arith, ap (λ (j : ℕ). get_or (set ls x a) j 0) q))
       by_case y e u k (no q) =
           let o = get_or-set_other ls x y a 0 q in
@@ -169,6 +169,6 @@ module _ {g : Graph} {used ls : List ℕ} {x : ℕ} where
   pub mends_far : x < length ls → get_or ls x 0 ≤ far → ((z : ℕ) → Exit g ls (Unmarked used used) x z → ⊥) → Mends g used x ls (set ls x far)
   mends_far h lo none = record { raises = raises_set x far ls h lo; fits = record { along = λ y e u k. by_case y e u k (ℕ_discrete y x) } }
     where
-      by_case : (y : ℕ) → linked g x y ≡ true → get_or used y 0 ≡ 0 → get_or (set ls x far) y 0 < far → Dec (y ≡ x) → (get_or (set ls x far) x 0 < far) × (get_or (set ls x far) x 0 ≤ weight g x y + get_or (set ls x far) y 0)
+      by_case : (y : ℕ) → linked g x y ≡ true → get_or used y false ≡ false → get_or (set ls x far) y 0 < far → Dec (y ≡ x) → (get_or (set ls x far) x 0 < far) × (get_or (set ls x far) x 0 ≤ weight g x y + get_or (set ls x far) y 0)
       by_case y e u k (yes q) = absurd (omega (arith, get_or-set_same ls x far 0 h, ap (λ (j : ℕ). get_or (set ls x far) j 0) q))
       by_case y e u k (no q) = absurd (none y (record { arc = e; is_open = record { unused = u; free = u }; reached = omega (arith, get_or-set_other ls x y far 0 q) }))

@@ -1,5 +1,5 @@
 -- Labels that are raised, and how raised labels are mended so that they are consistent. Assumes nothing.
-use Rattle.std.specs.Prelude.{ℕ, ◌+◌, ◌≤◌, ◌<◌, ◌≡◌, true, ◌⊎◌, List, length, get_or}
+use Rattle.std.specs.Prelude.{ℕ, ◌+◌, ◌≤◌, ◌<◌, ◌≡◌, Bool, true, false, ◌⊎◌, List, length, get_or}
 use Rattle.terms.specs.Network.{Graph, linked, weight}
 use Rattle.labels.specs.Labels.{far}
 use Rattle.exits.specs.Small.{Small}
@@ -34,10 +34,10 @@ pub record Lifted (t : ℕ) (nodes : List ℕ) (count : ℕ) (os ls : List ℕ) 
   pub each : (x : ℕ) → (get_or ls x 0 ≡ get_or os x 0) ⊎ Among nodes count x
 
 -- the label of x is no more than weight and label of any node that is not used and to which an arc goes
-pub record Fits (g : Graph) (used ls : List ℕ) (x : ℕ) : Type 0 where
-  pub along : (y : ℕ) → linked g x y ≡ true → get_or used y 0 ≡ 0 → get_or ls y 0 < far → (get_or ls x 0 < far) × (get_or ls x 0 ≤ weight g x y + get_or ls y 0)
+pub record Fits (g : Graph) (used : List Bool) (ls : List ℕ) (x : ℕ) : Type 0 where
+  pub along : (y : ℕ) → linked g x y ≡ true → get_or used y false ≡ false → get_or ls y 0 < far → (get_or ls x 0 < far) × (get_or ls x 0 ≤ weight g x y + get_or ls y 0)
 
 -- the label of x was raised as far as it fits
-pub record Mends (g : Graph) (used : List ℕ) (x : ℕ) (ls ls' : List ℕ) : Type 0 where
+pub record Mends (g : Graph) (used : List Bool) (x : ℕ) (ls ls' : List ℕ) : Type 0 where
   pub raises : Raises x ls ls'
   pub fits : Fits g used ls' x

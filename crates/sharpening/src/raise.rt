@@ -55,7 +55,7 @@ pub fn lift_all(
 }
 
 // Raises the label of x to the least weight and label over its exits, if it is not above that.
-fn mend(graph: &Graph<'_>, x: usize, used: &[u8], labels: &mut [u64]) -> bool
+fn mend(graph: &Graph<'_>, x: usize, used: &[bool], labels: &mut [u64]) -> bool
     requires used_long { length used.now ≡ graph.now.nodes + 1 }
     requires small { Small (length used.now) labels.old }
     requires node { x < length used.now }
@@ -84,14 +84,14 @@ pub fn mend_all(
     nodes: &[u16],
     taken: usize,
     goal: usize,
-    used: &[u8],
+    used: &[bool],
     labels: &mut [u64],
 ) -> bool
     requires used_long { length used.now ≡ graph.now.nodes + 1 }
     requires small { Small (length used.now) labels.old }
     requires listed { Listed (length used.now) nodes.now 0 taken }
     ensures still_small { Small (length used.now) labels.new }
-    ensures consistent { (os bar : List ℕ) → result ≡ true → Lifted goal nodes.now taken os labels.old → ((z : ℕ) → elem z bar ≡ false → get_or used.now z 0 ≡ 0) → Consistent (arcs_of graph.now) goal os bar → Consistent (arcs_of graph.now) goal labels.new bar }
+    ensures consistent { (os bar : List ℕ) → result ≡ true → Lifted goal nodes.now taken os labels.old → ((z : ℕ) → elem z bar ≡ false → get_or used.now z false ≡ false) → Consistent (arcs_of graph.now) goal os bar → Consistent (arcs_of graph.now) goal labels.new bar }
 {
     for i in (0..taken).rev() {
         let x = nodes[i] as usize;

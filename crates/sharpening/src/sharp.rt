@@ -16,8 +16,8 @@ fn sharpen_in(
     graph: &Graph<'_>,
     quest: Quest,
     overall: &[u64],
-    used: &[u8],
-    barred: &[u8],
+    used: &[bool],
+    barred: &[bool],
     keys: &mut [u64],
     nodes: &mut [u16],
     labels: &mut [u64],
@@ -31,7 +31,7 @@ fn sharpen_in(
     requires barred_long { length barred.now ≡ length overall.now }
     requires front { Front (length overall.now) keys.old nodes.old 0 0 }
     ensures still_small { Small (length overall.now) labels.new }
-    ensures consistent { (bar : List ℕ) → result ≡ true → ((z : ℕ) → elem z bar ≡ false → get_or used.now z 0 ≡ 0) → Consistent (arcs_of graph.now) quest.goal overall.now bar → Consistent (arcs_of graph.now) quest.goal labels.new bar }
+    ensures consistent { (bar : List ℕ) → result ≡ true → ((z : ℕ) → elem z bar ≡ false → get_or used.now z false ≡ false) → Consistent (arcs_of graph.now) quest.goal overall.now bar → Consistent (arcs_of graph.now) quest.goal labels.new bar }
 {
     let level = search_from(graph, quest, overall, used, barred, keys, nodes);
     labels.copy_from_slice(overall);
@@ -45,8 +45,8 @@ pub fn sharpen(
     graph: &Graph<'_>,
     quest: Quest,
     overall: &[u64],
-    used: &[u8],
-    barred: &[u8],
+    used: &[bool],
+    barred: &[bool],
     labels: &mut [u64],
 ) -> bool
     requires overall_long { length overall.now ≡ graph.now.nodes + 1 }
@@ -57,7 +57,7 @@ pub fn sharpen(
     requires used_long { length used.now ≡ length overall.now }
     requires barred_long { length barred.now ≡ length overall.now }
     ensures still_small { Small (length overall.now) labels.new }
-    ensures consistent { (bar : List ℕ) → result ≡ true → ((z : ℕ) → elem z bar ≡ false → get_or used.now z 0 ≡ 0) → Consistent (arcs_of graph.now) quest.goal overall.now bar → Consistent (arcs_of graph.now) quest.goal labels.new bar }
+    ensures consistent { (bar : List ℕ) → result ≡ true → ((z : ℕ) → elem z bar ≡ false → get_or used.now z false ≡ false) → Consistent (arcs_of graph.now) quest.goal overall.now bar → Consistent (arcs_of graph.now) quest.goal labels.new bar }
 {
     let mut keys = [FAR; 201];
     let mut nodes = [0u16; 201];

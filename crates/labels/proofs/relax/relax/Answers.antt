@@ -8,4 +8,4 @@ pub returns-then-old-rest : goal.returns-then-old-rest
 returns-then-old-rest c = Relaxed.kept (λ free. grind arith) refl
 
 pub returns : goal.returns
-returns c = Relaxed.fell (omega arith) (omega arith) refl
+returns c = Relaxed.fell c.if-barred-t.false (omega arith) refl

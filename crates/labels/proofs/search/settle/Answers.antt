@@ -8,7 +8,7 @@ use Rattle.star.specs.Layout.{graph_of}
 use Rattle.star.proofs.NetworkLaws.{graph_few}
 use Rattle.labels.specs.Labels.{far}
 use Rattle.labels.specs.Search.{input_of}
-use Rattle.labels.proofs.SumLaws.{sum_zero}
+use Rattle.labels.proofs.SumLaws.{flagged_zero}
 use Rattle.labels.proofs.QueueLaws.{none_listed}
 use Rattle.labels.proofs.SearchLaws.{state_start, state_taken}
 use Rattle.labels.proofs.LabelLaws.{exact}
@@ -31,4 +31,4 @@ loop-ends-preserved c = (c.spread-ends.ensures.listed, c.spread-ends.ensures.kee
 
 pub returns : goal.returns
 unfolding graph_of
-returns c = exact c.args.graph.now.holds.arcs c.requires.goal.free c.loop-ends.invariant.1 (sum_zero c.loop-ends.dirty (omega (arith, c.loop-ends.invariant.0.counted, c.loop-ends-test.false)))
+returns c = exact c.args.graph.now.holds.arcs c.requires.goal.free c.loop-ends.invariant.1 (flagged_zero c.loop-ends.dirty (omega (arith, c.loop-ends.invariant.0.counted, c.loop-ends-test.false)))
