@@ -2,7 +2,7 @@
 use Prim.Native.Nat.{ℕ, ◌+◌, ◌-◌, ◌<◌}
 use native.Mathlib.Omega.{arith}
 use mathlib.Core.Path.{◌≡◌, refl}
-use mathlib.Core.Bool.{not}
+use mathlib.Core.Bool.{Bool, true, not}
 use mathlib.Core.List.{List, [], ◌∷◌}
 use Rattle.std.specs.Prelude.{Result}
 use lib.ListN.{length, get_or, set, take, replicate, length-set}
@@ -27,7 +27,7 @@ use Rattle.descent.proofs.StepLaws.{trail_more, flag_more}
 abbrev pub none_yet : Held
 none_yet = record { length = 0; figure = 18446744073709551615; tried = 0 }
 
-module _ {places start : ℕ} {route used path : List ℕ} (f : Fresh places start route used path) where
+module _ {places start : ℕ} {route : List ℕ} {used : List Bool} {path : List ℕ} (f : Fresh places start route used path) where
   trail_one : trail (set route 0 start) 1 ≡ start ∷ []
   trail_one = trail_more route 0 start (omega (arith, f.start_from, f.start_in, f.route_long))
 
@@ -35,7 +35,7 @@ module _ {places start : ℕ} {route used path : List ℕ} (f : Fresh places sta
   unfolding unseen elem
   room_one = omega (arith, unseen_lt (places - 1) [] start f.start_from (omega (arith, f.start_in)) refl, keep_length (λ (x : ℕ). not (elem x [])) (numbers 1 (places - 1)), length_numbers 1 (places - 1), f.start_in)
 
-  pub begun_one : {sums : List ℕ} → Low 1 sums → Begun places (set route 0 start) (set used start 1) path sums 1
+  pub begun_one : {sums : List ℕ} → Low 1 sums → Begun places (set route 0 start) (set used start true) path sums 1
   begun_one low = record {
     some = omega arith;
     room = rw trail_one room_one;

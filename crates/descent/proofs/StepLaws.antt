@@ -3,7 +3,7 @@ use Prim.Native.Nat.{ℕ, suc, ◌+◌, ◌-◌, ◌≤◌, ◌<◌}
 use native.Mathlib.Omega.{arith}
 use native.Mathlib.Numerals.{add-one}
 use mathlib.Core.Path.{◌≡◌, refl, sym, ◌∙◌, ap}
-use mathlib.Core.Bool.{true, false, not}
+use mathlib.Core.Bool.{Bool, true, false, not}
 use mathlib.Core.Logic.{⊎_elim}
 use mathlib.Core.List.Memᴰ
 use Rattle.std.specs.Prelude.{Result}
@@ -20,7 +20,7 @@ use Rattle.terms.specs.Regret.{figure}
 use Rattle.descent.specs.Rule.{State, complete, one_more, dropped, laid}
 use Rattle.descent.specs.Limit.{going, cut, then_on, try_within, descend_within}
 use Rattle.descent.specs.Limit as rule
-use Rattle.terms.proofs.ListLaws.{split, elem_mem, outside_cons}
+use Rattle.terms.proofs.ListLaws.{split, clash, elem_mem, outside_cons}
 use Rattle.terms.proofs.PathLaws.{unseen, unseen_lt}
 use Rattle.descent.proofs.DescentLaws.{cost_laid}
 use Rattle.descent.proofs.LimitLaws.{cut_stays}
@@ -28,7 +28,7 @@ use Rattle.descent.specs.Rows.{at_row, Low, Lengthened}
 use Rattle.descent.specs.Depth.{trail, Flagged, Begun, Kept, Matches, Ends, Given, at_arc, sweep}
 use Rattle.descent.specs.declared.depth.Held.{Held}
 use Rattle.descent.specs.declared.depth.Cut.{Cut}
-use Rattle.star.proofs.Stores.{set_each}
+use Rattle.star.proofs.Stores.{flag_each}
 
 -- ---- the partial route
 -- as the rule lays it out
@@ -42,24 +42,24 @@ trail_more route d h l = ap reverse (ap (λ (k : ℕ). take k (set route d h)) (
 
 -- ---- flags
 -- a flag says whether the node is on the route
-pub flag_on : {flags q : List ℕ} (x : ℕ) → Flagged flags q → (get_or flags x 0 ≡ 0 → ⊥) → elem x q ≡ true
-flag_on {q} x f n = ⊎_elim (λ e. e) (λ e. absurd (n (f.outside x e))) (split (elem x q))
+pub flag_on : {flags : List Bool} {q : List ℕ} (x : ℕ) → Flagged flags q → get_or flags x false ≡ true → elem x q ≡ true
+flag_on {q} x f n = ⊎_elim (λ e. e) (λ e. clash n (f.outside x e)) (split (elem x q))
 
-pub flag_off : {flags q : List ℕ} (x : ℕ) → Flagged flags q → get_or flags x 0 ≡ 0 → elem x q ≡ false
-flag_off {q} x f e = ⊎_elim (λ k. absurd (omega (arith, f.inside x (elem_mem x q k)))) (λ k. k) (split (elem x q))
+pub flag_off : {flags : List Bool} {q : List ℕ} (x : ℕ) → Flagged flags q → get_or flags x false ≡ false → elem x q ≡ false
+flag_off {q} x f e = ⊎_elim (λ k. clash (f.inside x (elem_mem x q k)) e) (λ k. k) (split (elem x q))
 
-pub flag_more : {flags q : List ℕ} (y : ℕ) → Flagged flags q → y < length flags → Flagged (set flags y 1) (y ∷ q)
+pub flag_more : {flags : List Bool} {q : List ℕ} (y : ℕ) → Flagged flags q → y < length flags → Flagged (set flags y true) (y ∷ q)
 flag_more {flags} {q} y f h = record {
-  inside = λ x m. set_each (λ x a. x ∈ y ∷ q → a ≡ 1) flags y 1 h (λ _. refl) (λ x n k. ⊎_elim (λ e. absurd (n e)) (f.inside x) (Memᴰ.cases_cons k)) x m;
-  outside = λ x o. set_each (λ x a. elem x (y ∷ q) ≡ false → a ≡ 0) flags y 1 h (λ k. absurd ((outside_cons y y q k).0 refl)) (λ x n k. f.outside x (outside_cons x y q k).1) x o;
+  inside = λ x m. flag_each (λ x a. x ∈ y ∷ q → a ≡ true) flags y true h (λ _. refl) (λ x n k. ⊎_elim (λ e. absurd (n e)) (f.inside x) (Memᴰ.cases_cons k)) x m;
+  outside = λ x o. flag_each (λ x a. elem x (y ∷ q) ≡ false → a ≡ false) flags y true h (λ k. absurd ((outside_cons y y q k).0 refl)) (λ x n k. f.outside x (outside_cons x y q k).1) x o;
 }
 
 -- set and cleared again
-pub flag_back : (flags : List ℕ) (y : ℕ) → get_or flags y 0 ≡ 0 → set (set flags y 1) y 0 ≡ flags
-flag_back flags y e = set-set flags y 1 0 ∙ ap (set flags y) (sym e) ∙ set-get_or flags y 0
+pub flag_back : (flags : List Bool) (y : ℕ) → get_or flags y false ≡ false → set (set flags y true) y false ≡ flags
+flag_back flags y e = set-set flags y true false ∙ ap (set flags y) (sym e) ∙ set-get_or flags y false
 
 -- ---- what keeps the next step inside
-module _ {places : ℕ} {route used path sums : List ℕ} {d : ℕ} (h : ℕ) (b : Begun places route used path sums d) (lo : 1 ≤ h) (hi : h < places) (free : get_or used h 0 ≡ 0) where
+module _ {places : ℕ} {route : List ℕ} {used : List Bool} {path sums : List ℕ} {d : ℕ} (h : ℕ) (b : Begun places route used path sums d) (lo : 1 ≤ h) (hi : h < places) (free : get_or used h false ≡ false) where
   -- there is a node that is not on the route, so there is room for it
   less : length (unseen (places - 1) (h ∷ trail route d)) < length (unseen (places - 1) (trail route d))
   less = unseen_lt (places - 1) (trail route d) h lo (omega arith) (flag_off h b.flagged free)
@@ -67,7 +67,7 @@ module _ {places : ℕ} {route used path sums : List ℕ} {d : ℕ} (h : ℕ) (b
   pub more_room : d + 1 < places
   more_room = omega (arith, less, b.room)
 
-  pub begun_more : {sums' : List ℕ} → Low (d + 1) sums' → Begun places (set route d h) (set used h 1) path sums' (d + 1)
+  pub begun_more : {sums' : List ℕ} → Low (d + 1) sums' → Begun places (set route d h) (set used h true) path sums' (d + 1)
   begun_more low =
       let e = trail_more route d h (omega (arith, more_room, b.route_long)) in
       record {
@@ -81,9 +81,9 @@ module _ {places : ℕ} {route used path sums : List ℕ} {d : ℕ} (h : ℕ) (b
       }
 
   -- and afterwards all is as before
-  pub kept_back : {route' used' : List ℕ} → Kept (d + 1) (set route d h) (set used h 1) route' used' → Kept d route used route' (set used' h 0)
+  pub kept_back : {route' : List ℕ} {used' : List Bool} → Kept (d + 1) (set route d h) (set used h true) route' used' → Kept d route used route' (set used' h false)
   kept_back {route'} k = record {
-    flags = ap (λ (l : List ℕ). set l h 0) k.flags ∙ flag_back used h free;
+    flags = ap (λ (l : List Bool). set l h false) k.flags ∙ flag_back used h free;
     nodes = sym (take-take d (d + 1) route' (omega arith)) ∙ ap (take d) k.nodes ∙ take-take d (d + 1) (set route d h) (omega arith) ∙ take-set-le d route d h (omega arith);
   }
 

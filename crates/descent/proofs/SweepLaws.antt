@@ -2,6 +2,7 @@
 use Prim.Native.Nat.{ℕ, suc, ◌+◌, ◌-◌, ◌≤◌, ◌<◌}
 use native.Mathlib.Omega.{arith}
 use mathlib.Core.Path.{◌≡◌, refl, sym, ◌∙◌, ap, ap₂, subst}
+use mathlib.Core.Bool.{Bool}
 use mathlib.Core.List.{List, reverse}
 use Rattle.std.specs.Prelude.{Result, Ok, Err}
 use lib.ListN.{length, get_or, take, drop}
@@ -20,13 +21,13 @@ use Rattle.descent.specs.declared.depth.Cut.{Cut}
 use Rattle.descent.proofs.StepLaws.{route_is, sweep_step, sweep_cut, descend_goal, descend_sweep, rest_step, rest_none}
 
 -- ---- what was kept
-pub kept_none : {d : ℕ} {route used : List ℕ} → Kept d route used route used
+pub kept_none : {d : ℕ} {route : List ℕ} {used : List Bool} → Kept d route used route used
 kept_none = record { flags = refl; nodes = refl }
 
-pub kept_both : {d : ℕ} {route used route' used' route'' used'' : List ℕ} → Kept d route used route' used' → Kept d route' used' route'' used'' → Kept d route used route'' used''
+pub kept_both : {d : ℕ} {route : List ℕ} {used : List Bool} {route' : List ℕ} {used' : List Bool} {route'' : List ℕ} {used'' : List Bool} → Kept d route used route' used' → Kept d route' used' route'' used'' → Kept d route used route'' used''
 kept_both a b = record { flags = b.flags ∙ a.flags; nodes = b.nodes ∙ a.nodes }
 
-pub begun_kept : {places d : ℕ} {route used path sums route' used' path' : List ℕ} → Begun places route used path sums d → Kept d route used route' used' → length route' ≡ length route → length path' ≡ length path
+pub begun_kept : {places d : ℕ} {route : List ℕ} {used : List Bool} {path sums route' : List ℕ} {used' : List Bool} {path' : List ℕ} → Begun places route used path sums d → Kept d route used route' used' → length route' ≡ length route → length path' ≡ length path
     → Begun places route' used' path' sums d
 begun_kept {places} {d} {route} {used} {route'} {used'} b k r p =
     let t : trail route' d ≡ trail route d = ap reverse k.nodes in
@@ -40,7 +41,7 @@ begun_kept {places} {d} {route} {used} {route'} {used'} b k r p =
       sums_low = b.sums_low;
     }
 
-pub given_kept : {net : Net} {s t : ℕ} {seen : List ℕ} {z z' : State} {hs outs costs labels bests : List ℕ} {places goal v d : ℕ} {route path sums used route' used' path' : List ℕ} {h h' : Held}
+pub given_kept : {net : Net} {s t : ℕ} {seen : List ℕ} {z z' : State} {hs outs costs labels bests : List ℕ} {places goal v d : ℕ} {route path sums : List ℕ} {used : List Bool} {route' : List ℕ} {used' : List Bool} {path' : List ℕ} {h h' : Held}
     → Given net s t seen z hs outs costs labels bests places goal v d route path sums h → Kept d route used route' used' → Matches path' h' z'
     → Given net s t seen z' hs outs costs labels bests places goal v d route' path' sums h'
 given_kept g k m = record { tables = g.tables; goal_is = g.goal_is; nodes_are = ap reverse k.nodes ∙ g.nodes_are; sums_are = g.sums_are; matches = m }

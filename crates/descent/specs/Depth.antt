@@ -1,5 +1,5 @@
 -- What the search holds in arrays, against the rule's states and runs. Assumes nothing.
-use Rattle.std.specs.Prelude.{ℕ, suc, ◌+◌, ◌-◌, ◌≤◌, ◌<◌, ◌≡◌, false, not, cond, List, ◌∷◌, reverse, length, get_or, take, Result, Ok, Err}
+use Rattle.std.specs.Prelude.{ℕ, suc, ◌+◌, ◌-◌, ◌≤◌, ◌<◌, ◌≡◌, Bool, true, false, not, cond, List, ◌∷◌, reverse, length, get_or, take, Result, Ok, Err}
 use Rattle.terms.specs.Lists.{◌∈◌, elem, keep}
 use Rattle.terms.specs.Network.{Net, column}
 use Rattle.terms.specs.Paths.{Route, cost}
@@ -21,13 +21,13 @@ use Rattle.descent.specs.declared.depth.Cut.{Cut}
 abbrev pub trail : List ℕ → ℕ → List ℕ
 trail route d = reverse (take d route)
 
--- flags that are 1 at the nodes of a list and 0 elsewhere
-pub record Flagged (flags q : List ℕ) : Type 0 where
-  pub inside : (x : ℕ) → x ∈ q → get_or flags x 0 ≡ 1
-  pub outside : (x : ℕ) → elem x q ≡ false → get_or flags x 0 ≡ 0
+-- flags that are true at the nodes of a list and false elsewhere
+pub record Flagged (flags : List Bool) (q : List ℕ) : Type 0 where
+  pub inside : (x : ℕ) → x ∈ q → get_or flags x false ≡ true
+  pub outside : (x : ℕ) → elem x q ≡ false → get_or flags x false ≡ false
 
 -- its nodes are flagged, and there is room for each node that is not on it
-pub record Begun (places : ℕ) (route used path sums : List ℕ) (d : ℕ) : Type 0 where
+pub record Begun (places : ℕ) (route : List ℕ) (used : List Bool) (path sums : List ℕ) (d : ℕ) : Type 0 where
   pub some : 1 ≤ d
   pub room : d + length (unseen (places - 1) (trail route d)) < places
   pub route_long : places ≤ length route + 1
@@ -37,7 +37,7 @@ pub record Begun (places : ℕ) (route used path sums : List ℕ) (d : ℕ) : Ty
   pub sums_low : Low d sums
 
 -- flags and the partial route are as before
-pub record Kept (d : ℕ) (route used route' used' : List ℕ) : Type 0 where
+pub record Kept (d : ℕ) (route : List ℕ) (used : List Bool) (route' : List ℕ) (used' : List Bool) : Type 0 where
   pub flags : used' ≡ used
   pub nodes : take d route' ≡ take d route
 
@@ -91,13 +91,13 @@ sweep limit f net s t seen v l r =
 
 -- ---- the whole search
 -- no node is flagged yet, and there are places enough
-pub record Fresh (places start : ℕ) (route used path : List ℕ) : Type 0 where
+pub record Fresh (places start : ℕ) (route : List ℕ) (used : List Bool) (path : List ℕ) : Type 0 where
   pub start_from : 1 ≤ start
   pub start_in : start < places
   pub route_long : places ≤ length route + 1
   pub path_long : places ≤ length path + 1
   pub used_long : length used ≡ places
-  pub none_used : (x : ℕ) → get_or used x 0 ≡ 0
+  pub none_used : (x : ℕ) → get_or used x false ≡ false
 
 -- the rule's own answer and count, which is at most the limit; or cut, and then the rule tries more than the limit
 pub data Outcome (limit : ℕ) (net : Net) (s t : ℕ) (path : List ℕ) : Result Held Cut → Type 0 where

@@ -74,7 +74,7 @@ fn try_arc(
     i: usize,
     held: Held,
     route: &mut [u16],
-    used: &mut [u8],
+    used: &mut [bool],
     path: &mut [u16],
 ) -> Result<Held, Cut>
     requires begun { Begun columns.now.places route.old used.old path.old partial.now.sums partial.now.depth }
@@ -84,7 +84,7 @@ fn try_arc(
 {
     let head = columns.star[columns.arcs + i];
     let h = usize::from(head);
-    if used[h] != 0 {
+    if used[h] {
         return Ok(held);
     }
     if u64::from(task.limit) <= held.tried {
@@ -98,14 +98,14 @@ fn try_arc(
     if columns.drops(i, h, &partial.sums, held.figure) {
         return Ok(more);
     }
-    used[h] = 1;
+    used[h] = true;
     route[partial.depth] = head;
     let next = Partial {
         depth: partial.depth + 1,
         sums: columns.lengthen(i, &partial.sums),
     };
     let run = descend(columns, task, &next, h, more, route, used, path);
-    used[h] = 0;
+    used[h] = false;
     run
 }
 
@@ -118,7 +118,7 @@ fn descend(
     v: usize,
     held: Held,
     route: &mut [u16],
-    used: &mut [u8],
+    used: &mut [bool],
     path: &mut [u16],
 ) -> Result<Held, Cut>
     requires begun { Begun columns.now.places route.old used.old path.old partial.now.sums partial.now.depth }
@@ -144,7 +144,7 @@ fn search_in(
     columns: &Columns<'_>,
     task: Task,
     route: &mut [u16],
-    used: &mut [u8],
+    used: &mut [bool],
     path: &mut [u16],
 ) -> Result<Held, Cut>
     requires { Fresh columns.now.places task.start route.old used.old path.old }
@@ -152,7 +152,7 @@ fn search_in(
 {
     let v = usize::from(task.start);
     route[0] = task.start;
-    used[v] = 1;
+    used[v] = true;
     let first = Partial {
         depth: 1,
         sums: [0; 8],
@@ -171,6 +171,6 @@ pub fn search(columns: &Columns<'_>, task: Task, path: &mut [u16]) -> Result<Hel
     ensures { (net : Net) → Say net task.start task.goal columns.now → Outcome task.limit net task.start task.goal path.new result }
 {
     let mut route = [0u16; 200];
-    let mut used = [0u8; 201];
+    let mut used = [false; 201];
     search_in(columns, task, &mut route, &mut used[..columns.places], path)
 }

@@ -22,7 +22,7 @@ pub fn label_nodes(star: &[u16], weights: &[u32], goal: usize, overall: &mut [u6
     requires { layout.Network (length overall.old) star.now weights.now × (goal < length overall.old) }
     ensures { Least (layout.graph_of star.now weights.now) [] goal overall.new }
 {
-    let barred = [0u8; 201];
+    let barred = [false; 201];
     let places = overall.len();
     let graph = Graph {
         nodes: places - 1,

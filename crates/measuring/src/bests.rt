@@ -16,7 +16,7 @@ fn least_cost(star: &[u16], weights: &[u32], n: usize, start: usize, goal: usize
     requires { Network (n + 1) star.now weights.now × (1 ≤ start) × (start ≤ n) × (goal ≤ n) }
     ensures { (p : Route) → Path (graph_of star.now weights.now) start goal p → result ≡ terms.best n (graph_of star.now weights.now) start goal }
 {
-    let barred = [0u8; 201];
+    let barred = [false; 201];
     let mut labels = [0u64; 201];
     let places = n + 1;
     let graph = Graph {

@@ -2,7 +2,7 @@
 use Prim.Native.Nat.{ℕ, suc, ◌+◌, ◌≤◌, ◌<◌}
 use native.Mathlib.Omega.{arith}
 use mathlib.Core.Path.{◌≡◌, sym, ◌∙◌, ap}
-use mathlib.Core.Bool.{Bool, false}
+use mathlib.Core.Bool.{Bool, true, false}
 use mathlib.Core.List.{List, ◌∷◌}
 use lib.ListN.{length, get_or, length-set}
 use Rattle.std.specs.Prelude.{Result}
@@ -31,7 +31,7 @@ at_node limit left net s' t' v seen z e x = ends_as (ap (λ (h : ℕ). at_arc li
 
 -- node h is the head of arc i, out of the last node of the partial route
 module _ (C : Columns) (task : Task) (p : Partial) (i h : ℕ) (l : i < C.arcs) (e : h ≡ get_or C.star.now (C.arcs + i) 0) where
-  module _ {net : Net} {s' t' v : ℕ} {seen : List ℕ} {z : State} {route path used : List ℕ} {held : Held} {r : Bool}
+  module _ {net : Net} {s' t' v : ℕ} {seen : List ℕ} {z : State} {route path : List ℕ} {used : List Bool} {held : Held} {r : Bool}
       (g : GivenIn net s' t' seen z C task p v route path held) (b : Begun C.places route used path p.sums p.depth) (v-in : v < C.places) (from : get_or (outs_in C) v 0 ≤ i) (to : i < get_or (outs_in C) (v + 1) 0)
       (drops : Drops C.arcs C.places i h C.costs.now C.labels.now C.bests.now p.sums held.figure r) where
     few : p.depth ≤ 200
@@ -95,15 +95,15 @@ descend-returns-clause-ends t c =
 pub try_arc-bounds-used-h : goal.try_arc-bounds-used-h
 try_arc-bounds-used-h t c = omega (arith, head_in c.args.columns.now.fits c.requires.i_lt_arcs c.from-h.ensures, c.requires.begun.used_long)
 
-pub try_arc-returns-then-used-h-ne0-clause-ends : goal.try_arc-returns-then-used-h-ne0-clause-ends
-try_arc-returns-then-used-h-ne0-clause-ends t c = λ net s' t' v seen z l from to g.
-    let on = rw g.nodes_are at (flag_on c.from-h.result c.requires.begun.flagged c.if-used-h-ne0.true) in
+pub try_arc-returns-then-used-h-clause-ends : goal.try_arc-returns-then-used-h-clause-ends
+try_arc-returns-then-used-h-clause-ends t c = λ net s' t' v seen z l from to g.
+    let on = rw g.nodes_are at (flag_on c.from-h.result c.requires.begun.flagged c.if-used-h.true) in
     at_node c.args.task.limit _ net s' t' v seen z (head_is c.args.columns.now.fits c.requires.i_lt_arcs c.from-h.ensures)
     (ends_as (at_used c.args.task.limit _ net s' t' seen v c.from-h.result z on) (goes g.matches))
 
 pub try_arc-returns-then-from-held-clause-ends : goal.try_arc-returns-then-from-held-clause-ends
 try_arc-returns-then-from-held-clause-ends t c = λ net s' t' v seen z l from to g.
-    let off = rw g.nodes_are at (flag_off c.from-h.result c.requires.begun.flagged c.if-used-h-ne0.false) in
+    let off = rw g.nodes_are at (flag_off c.from-h.result c.requires.begun.flagged c.if-used-h.false) in
     at_node c.args.task.limit _ net s' t' v seen z (head_is c.args.columns.now.fits c.requires.i_lt_arcs c.from-h.ensures)
     (ends_as (at_full c.args.task.limit _ net s' t' seen v c.from-h.result z off (omega (arith, g.matches.tried_is, c.from.ensures, c.if-from-held.true))) stopped)
 
@@ -116,7 +116,7 @@ try_arc-drops-requires t c = (
 
 pub try_arc-returns-then-drops-clause-ends : goal.try_arc-returns-then-drops-clause-ends
 try_arc-returns-then-drops-clause-ends t c = λ net s' t' v seen z l from to g.
-    let off = rw g.nodes_are at (flag_off c.from-h.result c.requires.begun.flagged c.if-used-h-ne0.false) in
+    let off = rw g.nodes_are at (flag_off c.from-h.result c.requires.begun.flagged c.if-used-h.false) in
     at_node c.args.task.limit _ net s' t' v seen z (head_is c.args.columns.now.fits c.requires.i_lt_arcs c.from-h.ensures)
     (ends_as
     (at_dropped c.args.task.limit _ net s' t' seen v c.from-h.result z off (omega (arith, g.matches.tried_is, c.from.ensures, c.if-from-held.false))
@@ -129,31 +129,31 @@ try_arc-bounds-used-h-2 t c = omega (arith, head_in c.args.columns.now.fits c.re
 pub try_arc-bounds-route-partial : goal.try_arc-bounds-route-partial
 try_arc-bounds-route-partial t c =
     let fits = c.args.columns.now.fits in
-    omega (arith, more_room c.from-h.result c.requires.begun (head_from fits c.requires.i_lt_arcs c.from-h.ensures) (head_in fits c.requires.i_lt_arcs c.from-h.ensures) c.if-used-h-ne0.false, c.requires.begun.route_long)
+    omega (arith, more_room c.from-h.result c.requires.begun (head_from fits c.requires.i_lt_arcs c.from-h.ensures) (head_in fits c.requires.i_lt_arcs c.from-h.ensures) c.if-used-h.false, c.requires.begun.route_long)
 
 pub try_arc-descend-run-requires : goal.try_arc-descend-run-requires
 try_arc-descend-run-requires t c =
     let fits = c.args.columns.now.fits in
     let from = head_from fits c.requires.i_lt_arcs c.from-h.ensures in
     let inside = head_in fits c.requires.i_lt_arcs c.from-h.ensures in (
-      omega (arith, c.decreases, more_room c.from-h.result c.requires.begun from inside c.if-used-h-ne0.false),
-      (rw (← c.from-h.ensures) (begun_more c.from-h.result c.requires.begun from inside c.if-used-h-ne0.false (c.lengthen.ensures.low c.args.partial.now.depth c.requires.begun.sums_low)), inside),
+      omega (arith, c.decreases, more_room c.from-h.result c.requires.begun from inside c.if-used-h.false),
+      (rw (← c.from-h.ensures) (begun_more c.from-h.result c.requires.begun from inside c.if-used-h.false (c.lengthen.ensures.low c.args.partial.now.depth c.requires.begun.sums_low)), inside),
     )
 
 pub try_arc-bounds-used-h-3 : goal.try_arc-bounds-used-h-3
-try_arc-bounds-used-h-3 t c = omega (arith, head_in c.args.columns.now.fits c.requires.i_lt_arcs c.from-h.ensures, c.requires.begun.used_long, ap length c.descend-run.ensures.kept.flags, length-set c.args.used.now c.from-h.result 1)
+try_arc-bounds-used-h-3 t c = omega (arith, head_in c.args.columns.now.fits c.requires.i_lt_arcs c.from-h.ensures, c.requires.begun.used_long, ap length c.descend-run.ensures.kept.flags, length-set c.args.used.now c.from-h.result true)
 
 pub try_arc-returns-clause-kept : goal.try_arc-returns-clause-kept
 try_arc-returns-clause-kept t c =
     let fits = c.args.columns.now.fits in
-    kept_back c.from-h.result c.requires.begun (head_from fits c.requires.i_lt_arcs c.from-h.ensures) (head_in fits c.requires.i_lt_arcs c.from-h.ensures) c.if-used-h-ne0.false (rw (← c.from-h.ensures) at c.descend-run.ensures.kept)
+    kept_back c.from-h.result c.requires.begun (head_from fits c.requires.i_lt_arcs c.from-h.ensures) (head_in fits c.requires.i_lt_arcs c.from-h.ensures) c.if-used-h.false (rw (← c.from-h.ensures) at c.descend-run.ensures.kept)
 
 pub try_arc-returns-clause-ends : goal.try_arc-returns-clause-ends
 try_arc-returns-clause-ends t c = λ net s' t' v seen z l from to g.
     let fits = c.args.columns.now.fits in
-    let off = rw g.nodes_are at (flag_off c.from-h.result c.requires.begun.flagged c.if-used-h-ne0.false) in
+    let off = rw g.nodes_are at (flag_off c.from-h.result c.requires.begun.flagged c.if-used-h.false) in
     let deeper = rw (← c.from-h.ensures) at (c.descend-run.ensures.ends net s' t' (v ∷ seen) (one_more z)) in
-    let room = more_room c.from-h.result c.requires.begun (head_from fits c.requires.i_lt_arcs c.from-h.ensures) (head_in fits c.requires.i_lt_arcs c.from-h.ensures) c.if-used-h-ne0.false in
+    let room = more_room c.from-h.result c.requires.begun (head_from fits c.requires.i_lt_arcs c.from-h.ensures) (head_in fits c.requires.i_lt_arcs c.from-h.ensures) c.if-used-h.false in
     at_node c.args.task.limit _ net s' t' v seen z (head_is fits c.requires.i_lt_arcs c.from-h.ensures)
     (ends_as
     (at_taken c.args.task.limit _ net s' t' seen v c.from-h.result z off (omega (arith, g.matches.tried_is, c.from.ensures, c.if-from-held.false))
