@@ -9,7 +9,7 @@ use lib.ListN.{length, get_or}
 use Rattle.star.specs.Graphs.{tails}
 use Rattle.labels.specs.Search.{Visited}
 use Rattle.labels.proofs.ArrayLaws.{graph_arrays}
-use Rattle.labels.proofs.SearchLaws.{chain_next, visited_falls, visited_rest}
+use Rattle.labels.proofs.SearchLaws.{chain_next, visited_long, visited_falls, visited_rest}
 use Rattle.labels.proofs.relax.spread.Goals as goal
 
 pub loop-link-preserved : goal.loop-link-preserved
@@ -20,13 +20,13 @@ loop-link-preserved c =
     let arc_in : (c.loop-link.link - 1) < length (tails g) = omega arith in
     let tail_in : get_or (tails g) (c.loop-link.link - 1) 0 < length c.loop-link.labels = omega (arith, arrays.tail_in (c.loop-link.link - 1) arc_in) in
     let head_in : c.args.h < length c.loop-link.labels = omega arith in
-    let same : length c.loop-link.dirty ≡ length c.loop-link.labels = omega arith in
-    let visited = subst (λ (ts : List ℕ). Visited (get_or ts (c.loop-link.link - 1) 0) (get_or g.weights.now (c.loop-link.link - 1) 0) (get_or c.args.labels.now c.args.h 0) c.args.barred.now c.loop-link.labels c.loop-link.dirty c.visit-ends.new.labels c.visit-ends.new.dirty)
-    c.tails-tails.ensures.value c.visit-ends.ensures.visited in
+    let same = c.loop-link.invariant.1 in
+    let visited = subst (λ (ts : List ℕ). Visited (get_or ts (c.loop-link.link - 1) 0) (get_or g.weights.now (c.loop-link.link - 1) 0) (get_or c.args.labels.now c.args.h 0) c.args.barred.now c.loop-link.labels c.loop-link.queue c.visit.new.labels c.visit.new.queue)
+    c.tails-tails.ensures.value c.visit.ensures in
     rw c.next_in-next_in.ensures.value (
       le_trans (arrays.next_in (c.loop-link.link - 1) arc_in) (le_of_lt arc_in),
-      c.visit-ends.ensures.still_listed,
-      le_trans (visited_falls tail_in same c.loop-link.invariant.1 c.visit-ends.ensures.still_listed visited) c.loop-link.invariant.2,
+      visited_long tail_in same visited,
+      le_trans (visited_falls tail_in same visited) c.loop-link.invariant.2,
       visited_rest tail_in _ c.loop-link.invariant.3 visited,
       λ t s. chain_next g.holds.chains arrays.next_long link_is arc_in head_in tail_in same c.loop-link.invariant.3 visited (c.loop-link.invariant.4 t s),
     )

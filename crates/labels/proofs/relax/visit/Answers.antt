@@ -4,9 +4,7 @@ use Rattle.labels.specs.Search.{Visited}
 use Rattle.labels.proofs.relax.visit.Goals as goal
 
 pub returns-then-relax : goal.returns-then-relax
-returns-then-relax c =
-    let e = rw c.if-relax.true at c.relax.ensures in
-    record { visited = Visited.marked e c.mark.ensures.flag; still_listed = c.mark.ensures.listed }
+returns-then-relax c = Visited.marked (rw c.if-relax.true at c.relax.ensures) c.mark.ensures
 
-pub returns : goal.returns
-returns c = record { visited = Visited.same (rw c.if-relax.false at c.relax.ensures) refl; still_listed = c.requires.listed }
+pub returns-else-relax : goal.returns-else-relax
+returns-else-relax c = Visited.same (rw c.if-relax.false at c.relax.ensures) refl
