@@ -24,13 +24,13 @@ pub fn shortest(
     ensures first_found { FirstFound (arcs_of graph.now) start goal (everything start) path.new result }
 {
     let places = overall.len();
-    let mut flags = [0u8; 201];
-    let unbarred = [0u8; 201];
+    let mut flags = [false; 201];
+    let unbarred = [false; 201];
     let used = &mut flags[..places];
     let barred = &unbarred[..places];
     let v = start as usize;
     path[0] = start;
-    used[v] = 1;
+    used[v] = true;
     let Some(step) = least_exit(graph, v, overall, used, barred) else {
         return None;
     };

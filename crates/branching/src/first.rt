@@ -1,7 +1,7 @@
 // The first path of a branch: by a walk along labels that are at hand, or else along these sharpened for
 // the branch, or else along labels with the beginning barred, or else step by step.
 // A struct of path, used, barred and d with Begun as a ghost field proves and is no plainer: each function also says that both slices, d and barred are the same after, and takes it apart to walk.
-ghost use Rattle.std.specs.Prelude.{◌≡◌, true, List, [], ◌∷◌, ◌++◌, ℕ, ◌+◌, ◌-◌, ◌≤◌, ◌<◌, length, take, get_or};
+ghost use Rattle.std.specs.Prelude.{◌≡◌, true, false, List, [], ◌∷◌, ◌++◌, ℕ, ◌+◌, ◌-◌, ◌≤◌, ◌<◌, length, take, get_or};
 ghost use Rattle.terms.specs.Paths.{Route};
 ghost use Rattle.branching.specs.Branches.{branch, In, First, Beginning};
 ghost use Rattle.exits.specs.Exits.{Unmarked};
@@ -29,14 +29,14 @@ pub struct Tail {
 fn steps(
     graph: &Graph<'_>,
     goal: usize,
-    used: &mut [u8],
+    used: &mut [bool],
     path: &mut [u16],
     at: usize,
     labels: &mut [u64],
 ) -> usize
     requires nodes { length used.old ≡ graph.now.nodes + 1 }
     requires laid { Laid (length used.old) used.old path.old at × (1 ≤ at) }
-    requires goal_unmet { (goal < length used.old) × ((get_or path.old (at - 1) 0 ≡ goal → ⊥) → get_or used.old goal 0 ≡ 0) }
+    requires goal_unmet { (goal < length used.old) × ((get_or path.old (at - 1) 0 ≡ goal → ⊥) → get_or used.old goal false ≡ false) }
     requires labels_long { length labels.old ≡ length used.old }
     ensures longer { Longer (length used.old) path.old at used.new path.new result }
     ensures is_first { (s : ℕ) (p : Route) → In (arcs_of graph.now) s goal (branch (take at path.old) []) p → First (arcs_of graph.now) s goal (branch (take at path.old) []) (take result path.new) }
@@ -50,7 +50,7 @@ fn steps(
         };
         path[len] = step.node;
         x = step.node as usize;
-        used[x] = 1;
+        used[x] = true;
         len += 1;
     }
     len
@@ -60,7 +60,7 @@ fn steps(
 fn by_steps(
     graph: &Graph<'_>,
     goal: usize,
-    used: &mut [u8],
+    used: &mut [bool],
     path: &mut [u16],
     d: usize,
     y: u16,
@@ -74,7 +74,7 @@ fn by_steps(
     ensures is_first { (s : ℕ) (p : Route) → In (arcs_of graph.now) s goal (branch (take d path.old ++ (y ∷ [])) []) p → First (arcs_of graph.now) s goal (branch (take d path.old ++ (y ∷ [])) []) (take result path.new) }
 {
     path[d] = y;
-    used[y as usize] = 1;
+    used[y as usize] = true;
     let len = steps(graph, goal, used, path, d + 1, labels);
     unmark(path, d, len, used);
     len
@@ -85,8 +85,8 @@ fn by_steps(
 fn exact_path(
     graph: &Graph<'_>,
     goal: usize,
-    used: &mut [u8],
-    barred: &[u8],
+    used: &mut [bool],
+    barred: &[bool],
     path: &mut [u16],
     d: usize,
 ) -> Option<Tail>
@@ -123,8 +123,8 @@ pub fn along(
     graph: &Graph<'_>,
     goal: usize,
     overall: &[u64],
-    used: &mut [u8],
-    barred: &[u8],
+    used: &mut [bool],
+    barred: &[bool],
     path: &mut [u16],
     d: usize,
     step: Step,
@@ -159,8 +159,8 @@ fn sharp_path(
     graph: &Graph<'_>,
     goal: usize,
     overall: &[u64],
-    used: &mut [u8],
-    barred: &[u8],
+    used: &mut [bool],
+    barred: &[bool],
     path: &mut [u16],
     d: usize,
     most: u64,
@@ -201,8 +201,8 @@ pub fn first_path(
     graph: &Graph<'_>,
     goal: usize,
     overall: &[u64],
-    used: &mut [u8],
-    barred: &[u8],
+    used: &mut [bool],
+    barred: &[bool],
     path: &mut [u16],
     d: usize,
     step: Step,

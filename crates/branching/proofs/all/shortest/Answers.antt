@@ -5,7 +5,7 @@ use Rattle.exits.specs.Small.{Small}
 use Rattle.branching.specs.Found.{Extent, FirstFound}
 use Rattle.branching.proofs.AllLaws.{started}
 use Rattle.branching.proofs.FirstLaws.{branch_empty}
-use Rattle.branching.proofs.NetworkLaws.{graph_small, graph_consistent, room_long}
+use Rattle.branching.proofs.NetworkLaws.{graph_small, graph_consistent, flags_room}
 use Rattle.branching.proofs.all.shortest.Goals as goal
 
 pub least_exit-requires-clause-small : goal.least_exit-requires-clause-small
@@ -13,13 +13,13 @@ least_exit-requires-clause-small c = graph_small c.args.graph.now.holds c.requir
 
 pub returns-in_default : goal.returns-in_default
 returns-in_default c =
-    let s = started c.args.path.now (room_long c.args.graph.now.holds c.requires.nodes) c.requires.ends.1 c.requires.ends.0 in
+    let s = started c.args.path.now (flags_room c.args.graph.now.holds c.requires.nodes) c.requires.ends.1 c.requires.ends.0 in
     let consistent = graph_consistent c.args.graph.now.holds c.requires.nodes refl c.requires.least (λ x. refl) in
     record { extent = Extent.nothing; first_found = FirstFound.none (λ p i. branch_empty s.begun s.unbarred (s.beginning _) (consistent _) (rw s.last (rw c.in_default.is at c.least_exit.ensures.chosen)) p (rw s.laid i)) }
 
 pub along-requires : goal.along-requires
 along-requires c =
-    let s = started c.args.path.now (room_long c.args.graph.now.holds c.requires.nodes) c.requires.ends.1 c.requires.ends.0 in
+    let s = started c.args.path.now (flags_room c.args.graph.now.holds c.requires.nodes) c.requires.ends.1 c.requires.ends.0 in
     record {
       nodes = s.long ∙ c.requires.nodes;
       begun = s.begun;
@@ -30,5 +30,5 @@ along-requires c =
 
 pub returns : goal.returns
 returns c =
-    let s = started c.args.path.now (room_long c.args.graph.now.holds c.requires.nodes) c.requires.ends.1 c.requires.ends.0 in
+    let s = started c.args.path.now (flags_room c.args.graph.now.holds c.requires.nodes) c.requires.ends.1 c.requires.ends.0 in
     record { extent = c.along.ensures.kept.reach; first_found = rw s.laid at (c.along.ensures.first_found c.args.start [] (s.beginning _) s.unbarred) }
