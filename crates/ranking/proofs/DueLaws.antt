@@ -1,4 +1,5 @@
 -- The next path to be ranked: it is laid out and flagged, and the parts of its branch wait. Assumes nothing.
+use mathlib.Core.Bool.{Bool}
 use Prim.Native.Nat.{ℕ, ◌+◌, ◌≤◌, ◌<◌}
 use native.Mathlib.Omega.{arith}
 use mathlib.Core.Path.{◌≡◌, sym, ◌∙◌, ap, subst}
@@ -74,7 +75,7 @@ module _ {n s t : ℕ} {star ws overall : List ℕ} (H : Holds n star ws) (P : P
     laid_out : take len path' ≡ p
     laid_out = ap (λ l. take len l) (out ∙ ap (λ l. l ++ drop len path) route_out) ∙ take_at p (drop len path) len (omega (arith, long))
 
-    pub due_markable : {used bars : List ℕ} → Idle (n + 1) used bars → length used ≡ n + 1 → n ≤ length path' → Markable (n + 1) used path' len
+    pub due_markable : {used bars : List Bool} → Idle (n + 1) used bars → length used ≡ n + 1 → n ≤ length path' → Markable (n + 1) used path' len
     due_markable I ul pl = record {
       upto = omega (arith, due_short);
       room = omega arith;
@@ -87,7 +88,7 @@ module _ {n s t : ℕ} {star ws overall : List ℕ} (H : Holds n star ws) (P : P
         node : (i : ℕ) → i < len → get_or path' i 0 ∈ p
         node i h = subst (λ (x : ℕ). x ∈ p) (ap (λ (l : Route). get_or l i 0) (sym laid_out) ∙ get_or-take len path' i 0 h) (get_or_mem p 0 i (omega (arith, long)))
 
-    pub due_along : {used used' bars : List ℕ} (c : ℕ) → Idle (n + 1) used bars → Laid (n + 1) used' path' len → c ≡ e.cost → Along n (graph_of star ws) s t E r used' bars path' len c
+    pub due_along : {used used' bars : List Bool} (c : ℕ) → Idle (n + 1) used bars → Laid (n + 1) used' path' len → c ≡ e.cost → Along n (graph_of star ws) s t E r used' bars path' len c
     due_along c I l z = record {
       laid = l;
       none_barred = flags_none I.none_barred;

@@ -68,14 +68,14 @@ module _ {n s t : ℕ} {star ws overall : List ℕ} (H : Holds n star ws) (P : P
   path_small r = path_cost_le H.arcs heaviest H.arcs.light r
 
   -- weight and label of an exit can be added to the cost of a beginning
-  pub choice_small : {used bars : List ℕ} {v l y : ℕ} → Choice (graph_of star ws) overall (Unmarked used bars) v l y → l ≤ longest + heaviest
+  pub choice_small : {used bars : List Bool} {v l y : ℕ} → Choice (graph_of star ws) overall (Unmarked used bars) v l y → l ≤ longest + heaviest
   unfolding graph_of
   choice_small {v} {y} c =
       let a = linked_at H.arcs v y c.exit.arc in
       omega (arith, c.attains, P.small.low y c.exit.reached, at_weight H.arcs a.1, H.arcs.light a.0 a.1.below)
 
   -- ---- the branch of a beginning that is laid out
-  module _ {E : List Entry} {j : ℕ} {used bars path : List ℕ} {parent d before : ℕ} (D : Deviation n (graph_of star ws) s t E j used bars path parent d before) where
+  module _ {E : List Entry} {j : ℕ} {used bars : List Bool} {path : List ℕ} {parent d before : ℕ} (D : Deviation n (graph_of star ws) s t E j used bars path parent d before) where
     abbrev g : Graph
     g = graph_of star ws
 

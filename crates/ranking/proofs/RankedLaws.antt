@@ -1,4 +1,5 @@
 -- The ranked list: how the ranking begins, goes on and ends. Assumes nothing.
+use mathlib.Core.Bool.{Bool, true}
 use Prim.Native.Nat.{ℕ, ◌+◌, ◌*◌, ◌≤◌, ◌<◌}
 use native.Mathlib.Omega.{arith}
 use mathlib.Core.Path.{◌≡◌, refl, sym, ◌∙◌, ap, ap₂, subst}
@@ -69,7 +70,7 @@ module _ {n s t : ℕ} {star ws overall : List ℕ} (H : Holds n star ws) (P : P
       subst (λ β. Searching n g s t M limit (entries n w 0) 0 (β ∷ [])) (sym (all_branch (entries n w 0))) (search.begin n g s t (problem_within H P) P.start_from P.start_to M (Beyond g limit))
 
   -- the start is laid out and flagged
-  module _ {used bars path : List ℕ} (B : Blank n used bars path) where
+  module _ {used bars : List Bool} {path : List ℕ} (B : Blank n used bars path) where
     idle : Idle (length used) used bars
     idle = rw B.used_long B.idle
 
@@ -79,7 +80,7 @@ module _ {n s t : ℕ} {star ws overall : List ℕ} (H : Holds n star ws) (P : P
     room : length used ≤ length path + 1
     room = omega (arith, B.used_long, B.path_long)
 
-    pub first_deviation : (w : List ℕ) → Deviation n g s t (entries n w 0) 0 (set used s 1) bars (set path 0 s) 0 1 0
+    pub first_deviation : (w : List ℕ) → Deviation n g s t (entries n w 0) 0 (set used s true) bars (set path 0 s) 0 1 0
     first_deviation w = record {
       begun = rw B.used_long at (start_begun path room idle places);
       taken = start_path path room idle places ∙ sym (beginning_start s (routes s (entries n w 0)) (taking_over 1 0) refl);

@@ -3,7 +3,7 @@
 use Prim.Native.Nat.{ℕ, ◌+◌, ◌≤◌, ◌<◌}
 use native.Mathlib.Omega.{arith}
 use mathlib.Core.Path.{◌≡◌, refl, sym, ◌∙◌, ap, subst}
-use mathlib.Core.Bool.{true}
+use mathlib.Core.Bool.{true, Bool, false}
 use mathlib.Core.Logic.{◌⊎◌}
 use mathlib.Core.List.{List, [], map}
 use lib.ListN.{length, take, get_or, length-take, drop_of_length-le}
@@ -31,7 +31,7 @@ use Rattle.ranking.proofs.SearchLaws.{others_lost, rest_ranked}
 use Rattle.ranking.proofs.StateLaws.{entry_cost, entry_route, length_done, in_front, search_rank}
 
 -- ---- a graph with labels that bar no node
-pub problem_of : {n s t : ℕ} {star ws overall bars : List ℕ} → Holds n star ws → Ends (n + 1) s t → ((x : ℕ) → get_or bars x 0 ≡ 0) → length overall ≡ n + 1 → Least (graph_of star ws) bars t overall
+pub problem_of : {n s t : ℕ} {star ws overall : List ℕ} {bars : List Bool} → Holds n star ws → Ends (n + 1) s t → ((x : ℕ) → get_or bars x false ≡ false) → length overall ≡ n + 1 → Least (graph_of star ws) bars t overall
     → Problem n s t (graph_of star ws) overall
 unfolding elem
 problem_of H e none long l = record {

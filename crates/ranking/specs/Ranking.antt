@@ -37,7 +37,7 @@ pub record Filled (n M : ℕ) (g : Graph) (s j : ℕ) (w : List ℕ) (count : �
 -- ---- one branch
 -- the beginning of d nodes that an entry with this parent would take over is laid out, with its flags and those of the nodes that
 -- must not follow; it costs `before`
-pub record Deviation (n : ℕ) (g : Graph) (s t : ℕ) (E : List Entry) (j : ℕ) (used bars path : List ℕ) (parent d before : ℕ) : Type 0 where
+pub record Deviation (n : ℕ) (g : Graph) (s t : ℕ) (E : List Entry) (j : ℕ) (used bars : List Bool) (path : List ℕ) (parent d before : ℕ) : Type 0 where
   pub begun : Begun (n + 1) used bars path d
   pub taken : take d path ≡ beginning s (routes s E) (taking_over d parent)
   pub flagged : Flagged bars (barred E (taking_over d parent))
@@ -47,7 +47,7 @@ pub record Deviation (n : ℕ) (g : Graph) (s t : ℕ) (E : List Entry) (j : ℕ
   pub small : before ≤ longest
 
 -- flags and beginning are as before
-pub record Restored (used path : List ℕ) (d : ℕ) (used' path' : List ℕ) : Type 0 where
+pub record Restored (used : List Bool) (path : List ℕ) (d : ℕ) (used' : List Bool) (path' : List ℕ) : Type 0 where
   pub flags : used' ≡ used
   pub kept : take d path' ≡ take d path
 
@@ -76,7 +76,7 @@ pub record Wanted (M count : ℕ) (E : List Entry) (before most : ℕ) : Type 0 
 
 -- ---- the branches along the path at place r
 -- its first d nodes are laid out and flagged, and cost `before`; no node is barred
-pub record Along (n : ℕ) (g : Graph) (s t : ℕ) (E : List Entry) (r : ℕ) (used bars path : List ℕ) (d before : ℕ) : Type 0 where
+pub record Along (n : ℕ) (g : Graph) (s t : ℕ) (E : List Entry) (r : ℕ) (used bars : List Bool) (path : List ℕ) (d before : ℕ) : Type 0 where
   pub laid : Laid (n + 1) used path d
   pub none_barred : Flagged bars []
   pub bars_long : length bars ≡ n + 1
@@ -94,11 +94,11 @@ pub record Emptied (n : ℕ) (g : Graph) (s t M limit : ℕ) (E : List Entry) (j
   pub goes_on : Searching n g s t M limit E j waiting → Searching n g s t M limit E' j []
 
 -- nodes that can be laid out and flagged
-pub record Markable (k : ℕ) (used path : List ℕ) (len : ℕ) : Type 0 where
+pub record Markable (k : ℕ) (used : List Bool) (path : List ℕ) (len : ℕ) : Type 0 where
   pub upto : len ≤ length path
   pub room : k ≤ length path + 1
   pub flags_long : length used ≡ k
-  pub none_used : (x : ℕ) → get_or used x 0 ≡ 0
+  pub none_used : (x : ℕ) → get_or used x false ≡ false
   pub nodes : (i : ℕ) → i < len → (1 ≤ get_or path i 0) × (get_or path i 0 < k)
   pub loopless : Loopless (take len path)
 
@@ -116,7 +116,7 @@ pub record Space (n M : ℕ) (w : List ℕ) : Type 0 where
   pub room : M * (n + 16) ≤ length w
 
 -- the places for nodes, in which nothing is flagged
-pub record Blank (n : ℕ) (used bars path : List ℕ) : Type 0 where
+pub record Blank (n : ℕ) (used bars : List Bool) (path : List ℕ) : Type 0 where
   pub idle : Idle (n + 1) used bars
   pub used_long : length used ≡ n + 1
   pub path_long : n ≤ length path

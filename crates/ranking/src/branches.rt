@@ -48,8 +48,8 @@ fn most_wanted(work: &[u32], n: usize, slots: usize, count: usize, before: u64) 
 // then.
 fn enter(
     query: &Query<'_>,
-    used: &mut [u8],
-    barred: &[u8],
+    used: &mut [bool],
+    barred: &[bool],
     path: &mut [u16],
     work: &mut [u32],
     detour: Detour,
@@ -105,8 +105,8 @@ fn enter(
 pub fn consider(
     query: &Query<'_>,
     limit: u64,
-    used: &mut [u8],
-    barred: &[u8],
+    used: &mut [bool],
+    barred: &[bool],
     path: &mut [u16],
     work: &mut [u32],
     detour: Detour,

@@ -21,15 +21,15 @@ pub fn begin(query: &Query<'_>, work: &mut [u32]) -> usize
 {
     let n = query.graph.nodes;
     let places = n + 1;
-    let mut flags = [0u8; 201];
-    let unbarred = [0u8; 201];
+    let mut flags = [false; 201];
+    let unbarred = [false; 201];
     let mut room = [0u16; 200];
     let used = &mut flags[..places];
     let barred = &unbarred[..places];
     let path = &mut room[..n];
     reset(work, n, query.slots);
     path[0] = query.start;
-    used[query.start as usize] = 1;
+    used[query.start as usize] = true;
     let detour = Detour {
         count: 0,
         parent: 0,

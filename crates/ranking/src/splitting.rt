@@ -26,24 +26,24 @@ fn arc_weight(graph: &Graph<'_>, v: usize, y: u16) -> u32
 }
 
 // Flags the nodes in path[..len].
-fn mark(path: &[u16], len: usize, used: &mut [u8])
+fn mark(path: &[u16], len: usize, used: &mut [bool])
     requires { Markable (length used.old) used.old path.now len }
     ensures { Laid (length used.old) used.new path.now len }
 {
     for &v in &path[..len] {
-        used[v as usize] = 1;
+        used[v as usize] = true;
     }
 }
 
 // Clears the flag of path[d], and returns the weight of the arc to it.
-fn step_back(graph: &Graph<'_>, used: &mut [u8], path: &[u16], d: usize) -> u64
+fn step_back(graph: &Graph<'_>, used: &mut [bool], path: &[u16], d: usize) -> u64
     requires places { length used.old ≡ graph.now.nodes + 1 }
     requires laid { Laid (length used.old) used.old path.now (d + 1) × (1 ≤ d) }
     ensures one_less { Laid (length used.old) used.new path.now d }
     ensures value { linked (arcs_of graph.now) (get_or path.now (d - 1) 0) (get_or path.now d 0) ≡ true → result ≡ weight (arcs_of graph.now) (get_or path.now (d - 1) 0) (get_or path.now d 0) }
 {
     let y = path[d];
-    used[y as usize] = 0;
+    used[y as usize] = false;
     let v = path[d - 1] as usize;
     u64::from(arc_weight(graph, v, y))
 }
@@ -53,8 +53,8 @@ fn step_back(graph: &Graph<'_>, used: &mut [u8], path: &[u16], d: usize) -> u64
 fn deviate(
     query: &Query<'_>,
     limit: u64,
-    used: &mut [u8],
-    barred: &mut [u8],
+    used: &mut [bool],
+    barred: &mut [bool],
     path: &mut [u16],
     work: &mut [u32],
     count: usize,
@@ -71,7 +71,7 @@ fn deviate(
     ensures settled { Settled query.now.graph.nodes (arcs_of query.now.graph) query.now.start query.now.goal query.now.slots limit (entries query.now.graph.nodes work.old count) (rank + 1) (branch_of query.now.start (entries query.now.graph.nodes work.old count) (taking_over d (rank + 1))) (entries query.now.graph.nodes work.new result) }
 {
     let n = query.graph.nodes;
-    set_bars(work, n, rank, d, barred, 1);
+    set_bars(work, n, rank, d, barred, true);
     let parent = rank + 1;
     let detour = Detour {
         count,
@@ -80,7 +80,7 @@ fn deviate(
         before,
     };
     let now = consider(query, limit, used, barred, path, work, detour);
-    set_bars(work, n, rank, d, barred, 0);
+    set_bars(work, n, rank, d, barred, false);
     now
 }
 
@@ -89,8 +89,8 @@ fn deviate(
 fn deviations(
     query: &Query<'_>,
     limit: u64,
-    used: &mut [u8],
-    barred: &mut [u8],
+    used: &mut [bool],
+    barred: &mut [bool],
     path: &mut [u16],
     work: &mut [u32],
     count: usize,
@@ -128,8 +128,8 @@ pub fn split(query: &Query<'_>, limit: u64, work: &mut [u32], count: usize, rank
 {
     let n = query.graph.nodes;
     let places = n + 1;
-    let mut flags = [0u8; 201];
-    let mut bars = [0u8; 201];
+    let mut flags = [false; 201];
+    let mut bars = [false; 201];
     let mut room = [0u16; 200];
     let used = &mut flags[..places];
     let barred = &mut bars[..places];

@@ -1,4 +1,5 @@
 -- `splitting::deviate`: the nodes that are barred while a part is looked into are those of Lawler's split, and they are cleared again. Assumes nothing.
+use mathlib.Core.Bool.{true, false}
 use Prim.Native.Nat.{◌+◌, ◌<◌}
 use native.Mathlib.Omega.{arith}
 use mathlib.Core.Path.{◌≡◌, ◌∙◌, ap, ap₂}
@@ -22,14 +23,14 @@ set_bars-requires c =
 pub consider-now-requires : goal.consider-now-requires
 consider-now-requires c =
     let short : c.args.d < size (get_or (entries c.args.query.now.graph.nodes c.args.work.now c.args.count) c.args.rank none) = c.requires.inside in
-    let flags_are : c.set_bars.new.flags ≡ marked 1 (barred (entries c.args.query.now.graph.nodes c.args.work.now c.args.count) (taking_over c.args.d (c.args.rank + 1))) c.args.barred.now = c.set_bars.ensures ∙ ap (λ l. marked 1 l c.args.barred.now) (barred_is c.args.rank c.requires.filled c.args.d) in
+    let flags_are : c.set_bars.new.flags ≡ marked true (barred (entries c.args.query.now.graph.nodes c.args.work.now c.args.count) (taking_over c.args.d (c.args.rank + 1))) c.args.barred.now = c.set_bars.ensures ∙ ap (λ l. marked true l c.args.barred.now) (barred_is c.args.rank c.requires.filled c.args.d) in
     let deviation : Deviation c.args.query.now.graph.nodes (arcs_of c.args.query.now.graph) c.args.query.now.start c.args.query.now.goal (entries c.args.query.now.graph.nodes c.args.work.now c.args.count) (c.args.rank + 1) c.args.used.now c.set_bars.new.flags c.args.path.now (c.args.rank + 1) c.args.d c.args.before = part_deviation c.args.rank c.requires.filled c.requires.along short flags_are in
     record { filled = c.requires.filled; deviation = deviation }
 
 pub set_bars-requires-2 : goal.set_bars-requires-2
 set_bars-requires-2 c =
     let short : c.args.d < size (get_or (entries c.args.query.now.graph.nodes c.args.work.now c.args.count) c.args.rank none) = c.requires.inside in
-    let flags_are : c.set_bars.new.flags ≡ marked 1 (barred (entries c.args.query.now.graph.nodes c.args.work.now c.args.count) (taking_over c.args.d (c.args.rank + 1))) c.args.barred.now = c.set_bars.ensures ∙ ap (λ l. marked 1 l c.args.barred.now) (barred_is c.args.rank c.requires.filled c.args.d) in
+    let flags_are : c.set_bars.new.flags ≡ marked true (barred (entries c.args.query.now.graph.nodes c.args.work.now c.args.count) (taking_over c.args.d (c.args.rank + 1))) c.args.barred.now = c.set_bars.ensures ∙ ap (λ l. marked true l c.args.barred.now) (barred_is c.args.rank c.requires.filled c.args.d) in
     let deviation : Deviation c.args.query.now.graph.nodes (arcs_of c.args.query.now.graph) c.args.query.now.start c.args.query.now.goal (entries c.args.query.now.graph.nodes c.args.work.now c.args.count) (c.args.rank + 1) c.args.used.now c.set_bars.new.flags c.args.path.now (c.args.rank + 1) c.args.d c.args.before = part_deviation c.args.rank c.requires.filled c.requires.along short flags_are in
     let F = c.requires.filled in
     let F' = changed_filled c.args.rank F c.consider-now.ensures.changed in
@@ -38,9 +39,9 @@ set_bars-requires-2 c =
 pub returns : goal.returns
 returns c =
     let short : c.args.d < size (get_or (entries c.args.query.now.graph.nodes c.args.work.now c.args.count) c.args.rank none) = c.requires.inside in
-    let flags_are : c.set_bars.new.flags ≡ marked 1 (barred (entries c.args.query.now.graph.nodes c.args.work.now c.args.count) (taking_over c.args.d (c.args.rank + 1))) c.args.barred.now = c.set_bars.ensures ∙ ap (λ l. marked 1 l c.args.barred.now) (barred_is c.args.rank c.requires.filled c.args.d) in
+    let flags_are : c.set_bars.new.flags ≡ marked true (barred (entries c.args.query.now.graph.nodes c.args.work.now c.args.count) (taking_over c.args.d (c.args.rank + 1))) c.args.barred.now = c.set_bars.ensures ∙ ap (λ l. marked true l c.args.barred.now) (barred_is c.args.rank c.requires.filled c.args.d) in
     let F = c.requires.filled in
-    record { restored = c.consider-now.ensures.restored; barred_same = part_cleared c.args.rank F c.requires.along short (c.set_bars-2.ensures ∙ ap₂ (λ l f. marked 0 l f) (barred_kept c.args.rank F c.consider-now.ensures.changed c.args.d) flags_are); changed = c.consider-now.ensures.changed; settled = c.consider-now.ensures.settled }
+    record { restored = c.consider-now.ensures.restored; barred_same = part_cleared c.args.rank F c.requires.along short (c.set_bars-2.ensures ∙ ap₂ (λ l f. marked false l f) (barred_kept c.args.rank F c.consider-now.ensures.changed c.args.d) flags_are); changed = c.consider-now.ensures.changed; settled = c.consider-now.ensures.settled }
 
 pub overflow_add-parent : goal.overflow_add-parent
 overflow_add-parent c =

@@ -1,4 +1,5 @@
 -- `splitting::split`: the path is laid out and flagged, and its parts are looked into. Assumes nothing.
+use mathlib.Core.Bool.{Bool, false}
 use Prim.Native.Nat.{ℕ, ◌+◌}
 use mathlib.Core.List.{List}
 use native.Mathlib.Omega.{arith}
@@ -35,7 +36,7 @@ lay_out-requires c =
 pub mark-requires : goal.mark-requires
 mark-requires c =
     let path : List ℕ = take c.args.query.now.graph.nodes (replicate 200 0) in
-    let used : List ℕ = take (c.args.query.now.graph.nodes + 1) (replicate 201 0) in
+    let used : List Bool = take (c.args.query.now.graph.nodes + 1) (replicate 201 false) in
     let blank = blank_parts (graph_few c.args.query.now.graph) in
     let idle : Idle (c.args.query.now.graph.nodes + 1) used used = blank.idle in
     let used_long : length used ≡ c.args.query.now.graph.nodes + 1 = blank.used_long in
@@ -50,7 +51,7 @@ cost_at-cost-requires c =
 pub deviations-requires : goal.deviations-requires
 deviations-requires c =
     let path : List ℕ = take c.args.query.now.graph.nodes (replicate 200 0) in
-    let used : List ℕ = take (c.args.query.now.graph.nodes + 1) (replicate 201 0) in
+    let used : List Bool = take (c.args.query.now.graph.nodes + 1) (replicate 201 false) in
     let blank = blank_parts (graph_few c.args.query.now.graph) in
     let shared_is : c.shared_at-shared.result ≡ (get_or (entries c.args.query.now.graph.nodes c.args.work.now c.args.count) c.args.rank none).shared = c.shared_at-shared.ensures ∙ ap (λ (e : Entry). e.shared) (due_entry c.args.query.now.graph.holds c.args.query.now.posed c.requires.filled c.requires.due) in
     let idle : Idle (c.args.query.now.graph.nodes + 1) used used = blank.idle in
