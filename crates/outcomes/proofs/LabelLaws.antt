@@ -3,6 +3,7 @@ use Prim.Native.Nat.{ℕ, ◌+◌, ◌-◌, ◌≤◌, ◌<◌}
 use native.Mathlib.Omega.{arith}
 use native.Mathlib.Decide.{dec_lt}
 use mathlib.Core.Path.{◌≡◌, refl, sym, ◌∙◌, ap}
+use mathlib.Core.Bool.{Bool, false}
 use mathlib.Core.List.{List, [], map}
 use lib.ListN.{length, get_or, drop, length-map, length-drop, get_or-map}
 use lib.Seq.{ext_get_or, get_or-drop}
@@ -44,7 +45,7 @@ length_labels n g t = simp (length-map, length_numbers)
 
 -- ---- exact labels of a graph in arrays, at a node
 module _ {n t : ℕ} {ts hs ws ls : List ℕ} (arcs : Arcs n ts hs ws) (l : Least (graph ts hs ws) [] t ls) (long : length ls ≡ n + 1) (v : ℕ) (lo : 1 ≤ v) (hi : v ≤ n) where
-  free : (x : ℕ) → 1 ≤ x → x ≤ n → get_or {A = ℕ} [] x 0 ≡ 0
+  free : (x : ℕ) → 1 ≤ x → x ≤ n → get_or {A = Bool} [] x false ≡ false
   free x _ _ = refl
 
   exact_at : label n (graph ts hs ws) t v ≡ narrowed (get_or ls v 0)
