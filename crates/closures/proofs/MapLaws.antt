@@ -2,7 +2,7 @@
 use Prim.Native.Nat.{ℕ, zero, suc, ◌+◌, ◌-◌, ◌*◌, ◌/◌, ◌%◌, ◌^◌, ◌≤◌, ◌<◌, min}
 use native.Mathlib.Omega.{arith}
 use native.Mathlib.Numerals.{add-one}
-use native.Mathlib.Nat.{pow-suc, mul_comm, one-mul, div-one, div-div-eq-div-mul, zero-div, mod-one, mod-eq_of_lt}
+use native.Mathlib.Nat.{pow-suc, mul_comm, one-mul, div-one, div-div-eq-div-mul, zero-div, mod-one}
 use mathlib.Core.Path.{◌≡◌, refl, sym, ◌∙◌, ap, ap₂}
 use mathlib.Core.Bool.{true, false, not, cond}
 use mathlib.Core.Logic.{◌≢◌, ⊎_elim}
@@ -240,12 +240,6 @@ unit_is b h = shl_exact {a = 1} 1 b 64 (omega arith) (omega arith) ∙ one-mul (
 
 pub unit_some : (b : ℕ) → b < 64 → 0 < 1 * 2 ^ b % 2 ^ 64
 unit_some b h = rw (unit_is b h) (pow_pos b)
-
-pub whole_word : (w b : ℕ) → w < 2 ^ 64 → 64 ≤ b → ones w ≡ ones (w % 2 ^ min b 64)
-whole_word w b h k = let z : min b 64 ≡ 64 = omega arith in sym (ap (λ n. ones (w % 2 ^ n)) z ∙ ap ones (mod-eq_of_lt h))
-
-pub some_bits : (w b : ℕ) → b < 64 → ones (w % (1 * 2 ^ b % 2 ^ 64)) ≡ ones (w % 2 ^ min b 64)
-some_bits w b h = let z : min b 64 ≡ b = omega arith in ap (λ n. ones (w % n)) (unit_is b h) ∙ ap (λ n. ones (w % 2 ^ n)) (sym z)
 
 -- the map with the bit turned over, and its word still in 64 bits
 module _ (words : List ℕ) (i : ℕ) where

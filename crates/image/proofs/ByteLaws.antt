@@ -1,16 +1,18 @@
 -- Numbers and their bytes: reading and writing one, and lists of them, at any width. Assumes nothing.
 -- ---- one number
 -- a field of one byte more: its low byte, and the field that starts one byte later
-use Prim.Native.Nat.{ℕ, zero, suc, ◌+◌, ◌*◌, ◌/◌, ◌%◌, ◌^◌, ◌≤◌, ◌<◌}
+use Prim.Native.Nat.{ℕ, zero, suc, ◌+◌, ◌*◌, ◌-◌, ◌/◌, ◌%◌, ◌^◌, ◌≤◌, ◌<◌}
 use native.Mathlib.Omega.{arith}
 use native.Mathlib.Numerals.{add-one}
 use native.Mathlib.Nat.{mul-zero, mul-suc, zero-add, add-zero, add_assoc, add_comm, pow-zero, pow-suc, mod-add-div, mod-eq_of_lt, div-eq_of_lt, div-lt_iff_lt-mul, add-mul-mod_self_left, add-mul-div_left}
-use mathlib.Core.Path.{◌≡◌, refl, sym, ◌∙◌, ap}
+use mathlib.Core.Path.{◌≡◌, refl, sym, ◌∙◌, ap, ap₂}
 use mathlib.Core.List.Memᴰ
-use mathlib.Core.List.{List, [], ◌∷◌, ◌++◌, append_assoc, append-nil}
+use mathlib.Core.List.{List, [], ◌∷◌, ◌++◌, map, append_assoc, append-nil}
 use mathlib.Core.Logic.{⊎_elim}
-use lib.ListN.{length, get_or, take, drop, set, length-append, length-drop, take-append-drop}
-use lib.Seq.{drop-cons, take-suc, take_at, take-add, take-length, drop_at, drop-drop, length-take-le, sets, sets-eq}
+use lib.ListN.{length, get_or, take, drop, length-append, length-drop, take-append-drop}
+use lib.Seq.{drop-cons, take-suc, take_at, take-add, take-length, drop_at, drop-drop, length-take-le}
+use borrow.Rule.Slice.PartMut.{put_mid, Post-is}
+use Rattle.std.proofs.lemmas.List.{map-id}
 use Rattle.terms.specs.Lists.{◌∈◌}
 use Rattle.terms.proofs.ListLaws.{take_mem, drop_mem}
 use Rattle.image.specs.Bytes.{number, bytes, field, decode, encode}
@@ -26,29 +28,27 @@ field_none b i = refl
 pub field_2 : (b : List ℕ) (i : ℕ) → i + 2 ≤ length b → field 2 b i ≡ get_or b i 0 + 256 * get_or b (i + 1) 0
 field_2 b i h = omega (arith, field_suc 1 b i (omega arith), field_suc 0 b (i + 1) (omega arith), field_none b (i + 1 + 1))
 
-pub field_4 : (b : List ℕ) (i : ℕ) → i + 4 ≤ length b → field 4 b i ≡ field 2 b i + 65536 * field 2 b (i + 2)
+pub field_4 : (b : List ℕ) (i : ℕ) → i + 4 ≤ length b → field 4 b i ≡ get_or b i 0 + 256 * get_or b (i + 1) 0 + 65536 * get_or b (i + 2) 0 + 16777216 * get_or b (i + 3) 0
 field_4 b i h =
-    omega (arith, field_suc 3 b i (omega arith), field_suc 2 b (i + 1) (omega arith), field_suc 1 b i (omega arith), field_suc 0 b (i + 1) (omega arith), field_none b (i + 1 + 1), ap (field 2 b) two)
-  where
-    two : i + 1 + 1 ≡ i + 2
-    two = omega arith
+    let two : i + 1 + 1 ≡ i + 2 = omega arith in
+    let three : i + 2 + 1 ≡ i + 3 = omega arith in
+    omega (arith, field_suc 3 b i (omega arith), field_suc 2 b (i + 1) (omega arith), ap (field 2 b) two, field_suc 1 b (i + 2) (omega arith), ap (field 1 b) three, field_suc 0 b (i + 3) (omega arith), field_none b (i + 3 + 1))
 
--- a run of stores is the list stored, between what stands before and after it
-stored : (vs l : List ℕ) (i : ℕ) → i + length vs ≤ length l → sets l i vs ≡ take i l ++ (vs ++ drop (i + length vs) l)
-stored vs l i h = sets-eq vs l i h ∙ append_assoc (take i l) vs (drop (i + length vs) l)
+-- bytes are written over a part
+pub put_bytes : (w i : ℕ) (l : List ℕ) {new bs : List ℕ} → new ≡ bs → put_mid i (i + w - i) l new ≡ take i l ++ (bs ++ drop (i + w) l)
+put_bytes w i l {bs = bs} e = ap₂ (λ (x y : List ℕ). take i l ++ (x ++ y)) e (Post-is i (i + w) l (omega arith))
 
-pub store_2 : (l : List ℕ) (i x : ℕ) → i + 2 ≤ length l → set (set l i (x % 256)) (i + 1) (x / 256 % 256) ≡ take i l ++ (bytes 2 x ++ drop (i + 2) l)
+-- two bytes and four, each by a division of its own
+pub bytes_2 : (x : ℕ) → x % 256 ∷ x / 256 % 256 ∷ [] ≡ bytes 2 x
 unfolding bytes
-store_2 l i x h = rw add-one (stored (bytes 2 x) l i h)
+bytes_2 x = refl
 
-pub store_4 : (l : List ℕ) (i x : ℕ) → i + 4 ≤ length l
-    → set (set (set (set l i (x % 256)) (i + 1) (x / 256 % 256)) (i + 2) (x / 256 / 256 % 256)) (i + 3) (x / 256 / 256 / 256 % 256) ≡ take i l ++ (bytes 4 x ++ drop (i + 4) l)
+pub bytes_4 : (x : ℕ) → x % 256 ∷ x / 256 % 256 ∷ x / 65536 % 256 ∷ x / 16777216 % 256 ∷ [] ≡ bytes 4 x
 unfolding bytes
-store_4 l i x h =
-    let e₁ : i + 1 ≡ suc i = omega arith in
-    let e₂ : i + 2 ≡ suc (suc i) = omega arith in
-    let e₃ : i + 3 ≡ suc (suc (suc i)) = omega arith in
-    rw (e₁, e₂, e₃) (stored (bytes 4 x) l i h)
+bytes_4 x =
+    let third : x / 65536 ≡ x / 256 / 256 = omega arith in
+    let fourth : x / 16777216 ≡ x / 256 / 256 / 256 = omega arith in
+    ap₂ (λ (y z : ℕ). x % 256 ∷ x / 256 % 256 ∷ y % 256 ∷ z % 256 ∷ []) third fourth
 
 -- ---- lists of numbers
 pub length_decode : (w c : ℕ) (b : List ℕ) → length (decode w c b) ≡ c
@@ -106,6 +106,13 @@ pub write_all : (w : ℕ) (l t t₀ : List ℕ) (s i : ℕ) → i ≡ length l �
     → t ≡ take s t₀ ++ (encode w l ++ drop (s + w * length l) t₀)
 write_all w l t t₀ s i done e =
     e ∙ rw (done, take-length l) (append_assoc (take s t₀) (encode w l) (drop (s + w * length l) t₀))
+
+-- ---- lists of numbers of a type that has each as its own value
+pub as_read : (w c : ℕ) (b old : List ℕ) {new : List ℕ} → map (λ (x : ℕ). x) new ≡ decode w c b ++ drop c (map (λ (x : ℕ). x) old) → new ≡ decode w c b ++ drop c old
+as_read w c b old {new} e = sym (map-id new) ∙ e ∙ ap (λ (l : List ℕ). decode w c b ++ drop c l) (map-id old)
+
+pub as_written : (w : ℕ) (l p q : List ℕ) {new : List ℕ} → new ≡ p ++ (encode w (map (λ (x : ℕ). x) l) ++ q) → new ≡ p ++ (encode w l ++ q)
+as_written w l p q e = e ∙ ap (λ (m : List ℕ). p ++ (encode w m ++ q)) (map-id l)
 
 -- ---- there and back
 -- numbers of w bytes are those below 256 ^ w, and each is the number of its bytes

@@ -1,47 +1,54 @@
 // Numbers in bytes, low byte first.
-ghost use Rattle.std.specs.Prelude.{◌≡◌, ◌++◌, ◌+◌, ◌≤◌, ◌<◌, length, get_or, take, drop};
+ghost use Rattle.std.specs.Prelude.{◌≡◌, ◌++◌, ℕ, ◌+◌, ◌≤◌, length, take, drop};
 ghost use Rattle.image.specs.Bytes.{field, bytes};
 
-// The byte at a place, as a wide number.
-fn byte(buffer: &[u8], at: usize) -> u32
-    requires { at < length buffer.now }
-    ensures { (result ≡ get_or buffer.now at 0) × (result < 256) }
-{
-    buffer[at] as u32
+// A number as it stands in an image: of how many bytes it is, and how it is read and written.
+pub trait Word: Copy {
+    const BYTES: usize;
+
+    ghost BYTES: { ℕ };
+
+    ghost value: { Self → ℕ };
+
+    // The number at an offset.
+    fn read(buffer: &[u8], at: usize) -> Self
+        requires { at + BYTES ≤ length buffer.now }
+        ensures { value result ≡ field BYTES buffer.now at };
+
+    // Writes the number at an offset.
+    fn write(self, buffer: &mut [u8], at: usize)
+        requires { at + BYTES ≤ length buffer.old }
+        ensures { buffer.new ≡ take at buffer.old ++ (bytes BYTES (value self) ++ drop (at + BYTES) buffer.old) };
 }
 
-// The number of two bytes at an offset.
-pub fn read16(buffer: &[u8], at: usize) -> u32
-    requires { at + 2 ≤ length buffer.now }
-    ensures { (result ≡ field 2 buffer.now at) × (result < 65536) }
-{
-    byte(buffer, at) + 256 * byte(buffer, at + 1)
+impl Word for u16 {
+    const BYTES: usize = 2;
+
+    ghost BYTES = { 2 };
+
+    ghost value = { λ x. x };
+
+    fn read(buffer: &[u8], at: usize) -> u16 {
+        u16::from_le_bytes([buffer[at], buffer[at + 1]])
+    }
+
+    fn write(self, buffer: &mut [u8], at: usize) {
+        buffer[at..at + 2].copy_from_slice(&self.to_le_bytes());
+    }
 }
 
-// The number of four bytes at an offset.
-pub fn read32(buffer: &[u8], at: usize) -> u32
-    requires { at + 4 ≤ length buffer.now }
-    ensures { result ≡ field 4 buffer.now at }
-{
-    read16(buffer, at) + 65536 * read16(buffer, at + 2)
-}
+impl Word for u32 {
+    const BYTES: usize = 4;
 
-// Two bytes of a number at an offset.
-pub fn write16(buffer: &mut [u8], at: usize, x: u32)
-    requires { (at + 2 ≤ length buffer.old) × (x < 65536) }
-    ensures { buffer.new ≡ take at buffer.old ++ (bytes 2 x ++ drop (at + 2) buffer.old) }
-{
-    buffer[at] = (x % 256) as u8;
-    buffer[at + 1] = (x / 256 % 256) as u8;
-}
+    ghost BYTES = { 4 };
 
-// Four bytes of a number at an offset.
-pub fn write32(buffer: &mut [u8], at: usize, x: u32)
-    requires { at + 4 ≤ length buffer.old }
-    ensures { buffer.new ≡ take at buffer.old ++ (bytes 4 x ++ drop (at + 4) buffer.old) }
-{
-    buffer[at] = (x % 256) as u8;
-    buffer[at + 1] = (x / 256 % 256) as u8;
-    buffer[at + 2] = (x / 256 / 256 % 256) as u8;
-    buffer[at + 3] = (x / 256 / 256 / 256 % 256) as u8;
+    ghost value = { λ x. x };
+
+    fn read(buffer: &[u8], at: usize) -> u32 {
+        u32::from_le_bytes([buffer[at], buffer[at + 1], buffer[at + 2], buffer[at + 3]])
+    }
+
+    fn write(self, buffer: &mut [u8], at: usize) {
+        buffer[at..at + 4].copy_from_slice(&self.to_le_bytes());
+    }
 }

@@ -1,17 +1,16 @@
 // Check: whether an image is accepted, and its sizes.
-ghost use Rattle.std.specs.Prelude.{◌≡◌, ◌*◌, ◌≤◌, length};
-ghost use Rattle.image.specs.Bytes.{decode};
+ghost use Rattle.std.specs.Prelude.{◌≡◌, ◌+◌, ◌*◌, ◌≤◌, length};
+ghost use Rattle.image.specs.Bytes.{field};
 ghost use Rattle.image.specs.Outcome.{outcome};
-ghost use Rattle.image.specs.Rows.{pairs, arcs_fault, costs_fault, lists_fault};
+ghost use Rattle.image.specs.Rows.{pairs, lists_fault};
 ghost use Rattle.image.specs.Layout.{fields_right, total, nodes_in, costs_in};
 ghost use Rattle.image.specs.Calls.{header_fault, taken_fault, sizes, check_outcome};
-ghost use Rattle.image.specs.Refusals.{verdict};
 ghost use Rattle.image.specs.Answers.{answer, size_list};
 
-use super::bytes::{read16, read32};
+use super::bytes::Word;
 use super::layout::{cost_count, costs_start, image_length};
 use super::refusal::Refusal;
-use super::rows::{check_arc, in_range, is_cost, is_taken};
+use super::rows::{check_arcs, check_costs, in_range, is_taken};
 
 // The numbers of nodes, arcs and columns: n, m and k; and the edition.
 #[derive(Clone, Copy, Debug, PartialEq, Eq)]
@@ -19,6 +18,7 @@ pub struct Sizes {
     pub n: u32,
     pub m: u32,
     pub k: u32,
+    // a number and no enum: rows 2 and 9 are asked of any number, and each answer gives it as one
     pub edition: u32,
 }
 
@@ -28,10 +28,10 @@ fn fields_right(image: &[u8], m: u32, k: u32) -> bool
     requires { (24 ≤ length image.now) × (m ≤ 1000) × (k ≤ 8) }
     ensures { result ≡ fields_right image.now m k }
 {
-    read32(image, 8) == 24
-        && read32(image, 12) == costs_start(m)
-        && read32(image, 16) == image_length(m, k)
-        && read32(image, 20) == 0
+    u32::read(image, 8) == 24
+        && u32::read(image, 12) == costs_start(m)
+        && u32::read(image, 16) == image_length(m, k)
+        && u32::read(image, 20) == 0
 }
 
 // Rows 1 to 5, for a call that takes the editions up to `latest`, and the sizes if none of them applies.
@@ -41,13 +41,13 @@ fn check_header(image: &[u8], latest: u32) -> Result<Sizes, Refusal>
     if image.len() < 24 {
         return Err(Refusal::ImageTooShort);
     }
-    let edition = read16(image, 0);
+    let edition = u32::from(u16::read(image, 0));
     if !is_taken(latest, edition) {
         return Err(Refusal::WrongEdition);
     }
-    let n = read16(image, 2);
-    let m = read16(image, 4);
-    let k = read16(image, 6);
+    let n = u32::from(u16::read(image, 2));
+    let m = u32::from(u16::read(image, 4));
+    let k = u32::from(u16::read(image, 6));
     if !in_range(n, m, k) {
         return Err(Refusal::SizeOutOfRange);
     }
@@ -60,34 +60,6 @@ fn check_header(image: &[u8], latest: u32) -> Result<Sizes, Refusal>
     Ok(Sizes { n, m, k, edition })
 }
 
-// Rows 6 to 8, over the arc records of an image.
-fn check_arcs(records: &[u8], n: u32, m: usize) -> Result<(), Refusal>
-    requires { (4 * m ≤ length records.now) × (m ≤ 1000) }
-    ensures { verdict result ≡ arcs_fault n (0, 0) 0 (pairs m (decode 2 (2 * m) records.now)) }
-{
-    let mut last = (0, 0);
-    for i in 0..m {
-        let tail = read16(records, 4 * i);
-        let head = read16(records, 4 * i + 2);
-        check_arc(n, last, i as u32, (tail, head))?;
-        last = (tail, head);
-    }
-    Ok(())
-}
-
-// Row 9, over the costs of an image of this edition.
-fn check_costs(costs: &[u8], count: usize, edition: u32) -> Result<(), Refusal>
-    requires { (4 * count ≤ length costs.now) × (count ≤ 8000) }
-    ensures { verdict result ≡ costs_fault edition 0 (decode 4 count costs.now) }
-{
-    for i in 0..count {
-        if !is_cost(edition, read32(costs, 4 * i)) {
-            return Err(Refusal::CostTooLarge(i as u32));
-        }
-    }
-    Ok(())
-}
-
 // Rows 6 to 9 for an image whose header is sound, and its sizes if none of them applies.
 fn check_body(image: &[u8], sizes: Sizes) -> Result<Sizes, Refusal>
     requires { (sizes.m ≤ 1000) × (sizes.k ≤ 8) × (length image.now ≡ total sizes.m sizes.k) }
@@ -95,9 +67,22 @@ fn check_body(image: &[u8], sizes: Sizes) -> Result<Sizes, Refusal>
 {
     let m = sizes.m;
     let k = sizes.k;
-    check_arcs(&image[24..], sizes.n, m as usize)?;
-    let start = costs_start(m) as usize;
-    check_costs(&image[start..], cost_count(m, k) as usize, sizes.edition)?;
+    let records = &image[24..];
+    let arc_at = |i: usize| -> (u32, u32)
+        requires { 4 * i + 4 ≤ length records.now }
+        ensures { result ≡ (field 2 records.entry.now (4 * i), field 2 records.entry.now (4 * i + 2)) }
+    {
+        let tail = u16::read(records, 4 * i);
+        let head = u16::read(records, 4 * i + 2);
+        (u32::from(tail), u32::from(head))
+    };
+    check_arcs(sizes.n, m as usize, arc_at)?;
+    let costs = &image[costs_start(m) as usize..];
+    let cost_at = |i: usize| -> u32
+        requires { 4 * i + 4 ≤ length costs.now }
+        ensures { result ≡ field 4 costs.entry.now (4 * i) }
+    { u32::read(costs, 4 * i) };
+    check_costs(sizes.edition, cost_count(m, k) as usize, cost_at)?;
     Ok(sizes)
 }
 

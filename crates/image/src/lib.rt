@@ -9,9 +9,9 @@ mod reading;
 mod refusal;
 mod rows;
 
-pub use bytes::{read16, read32, write16, write32};
+pub use bytes::Word;
 pub use check::Sizes;
 pub use layout::{cost_count, costs_start, image_length};
-pub use reading::read_costs;
+pub use reading::read_words;
 pub use refusal::Refusal;
-pub use rows::{CLOSED, check_arc, in_range, is_cost, is_node, is_taken};
+pub use rows::{CLOSED, check_arcs, check_costs, in_range, is_cost, is_node, is_taken};

@@ -1,6 +1,6 @@
-// The rows of the refusal table that Check and Build share: the edition, sizes, one arc and one cost.
-ghost use Rattle.std.specs.Prelude.{◌≡◌, ◌&&◌, leb};
-ghost use Rattle.image.specs.Rows.{in_range, is_node, is_cost, arc_fault};
+// The rows of the refusal table that Check and Build share: the edition, the sizes, the arcs and the costs.
+ghost use Rattle.std.specs.Prelude.{◌≡◌, ◌&&◌, List, ℕ, ◌≤◌, ◌<◌, leb, length, get_or};
+ghost use Rattle.image.specs.Rows.{in_range, is_node, is_cost, arc_fault, arcs_fault, costs_fault};
 ghost use Rattle.image.specs.Refusals.{verdict};
 ghost use Rattle.terms.specs.Network.{below};
 
@@ -45,7 +45,7 @@ fn is_after(last: (u32, u32), arc: (u32, u32)) -> bool
 }
 
 // Rows 6, 7 and 8 for the arc at an index, its tail and its head, which stands after the arc `last`.
-pub fn check_arc(n: u32, last: (u32, u32), index: u32, arc: (u32, u32)) -> Result<(), Refusal>
+fn check_arc(n: u32, last: (u32, u32), index: u32, arc: (u32, u32)) -> Result<(), Refusal>
     ensures { verdict result ≡ arc_fault n last index arc }
 {
     if !joins_nodes(n, arc) {
@@ -60,6 +60,21 @@ pub fn check_arc(n: u32, last: (u32, u32), index: u32, arc: (u32, u32)) -> Resul
     Ok(())
 }
 
+// Rows 6 to 8, over `count` arcs, each of which `arc` gives.
+pub fn check_arcs<F: Fn(usize) -> (u32, u32)>(n: u32, count: usize, arc: F) -> Result<(), Refusal>
+    requires small { count ≤ 1000 }
+    requires callable { (i : ℕ) → i < count → F.pre arc i }
+    ensures { (arcs : List (ℕ × ℕ)) → length arcs ≡ count → ((i : ℕ) (a : ℕ × ℕ) → i < count → F.post arc i a → get_or arcs i (0, 0) ≡ a) → verdict result ≡ arcs_fault n (0, 0) 0 arcs }
+{
+    let mut last = (0, 0);
+    for i in 0..count {
+        let here = arc(i);
+        check_arc(n, last, i as u32, here)?;
+        last = here;
+    }
+    Ok(())
+}
+
 // In the place of a cost: the arc is closed in that column.
 pub const CLOSED: u32 = 4294967295;
 
@@ -69,4 +84,18 @@ pub fn is_cost(edition: u32, cost: u32) -> bool
     ensures { result ≡ is_cost edition cost }
 {
     cost <= 1000000 || (edition == 2 && cost == CLOSED)
+}
+
+// Row 9, over `count` costs of an image of this edition, each of which `cost` gives.
+pub fn check_costs<F: Fn(usize) -> u32>(edition: u32, count: usize, cost: F) -> Result<(), Refusal>
+    requires small { count ≤ 8000 }
+    requires callable { (i : ℕ) → i < count → F.pre cost i }
+    ensures { (costs : List ℕ) → length costs ≡ count → ((i x : ℕ) → i < count → F.post cost i x → get_or costs i 0 ≡ x) → verdict result ≡ costs_fault edition 0 costs }
+{
+    for i in 0..count {
+        if !is_cost(edition, cost(i)) {
+            return Err(Refusal::CostTooLarge(i as u32));
+        }
+    }
+    Ok(())
 }

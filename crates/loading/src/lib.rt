@@ -3,14 +3,12 @@
 #![tactic(auto)]
 
 mod filling;
-mod network;
-
-pub use network::Network;
-
 mod loading;
+mod network;
 mod reading;
 mod selecting;
 
 pub use loading::{label_nodes, load, load_all, load_common, load_common_left, load_left};
+pub use network::Network;
 pub use reading::read_arcs;
 pub use selecting::number_arcs;

@@ -8,7 +8,7 @@ ghost use Rattle.loading.specs.Networks.{net};
 ghost use Rattle.loading.specs.Selected.{Indices, at_places, selected, in_a_row};
 
 use crate::network::Network;
-use image::{costs_start, read_costs, read16, read32};
+use image::{Word, costs_start, read_words};
 
 // The tails and heads of the arcs at these indices.
 pub fn read_arcs(network: &Network<'_>, kept: &[u16], tails: &mut [u16], heads: &mut [u16])
@@ -19,8 +19,8 @@ pub fn read_arcs(network: &Network<'_>, kept: &[u16], tails: &mut [u16], heads: 
 {
     for (i, &index) in kept.iter().enumerate() {
         let arc = index as usize;
-        tails[i] = read16(network.image, 24 + 4 * arc) as u16;
-        heads[i] = read16(network.image, 26 + 4 * arc) as u16;
+        tails[i] = u16::read(network.image, 24 + 4 * arc);
+        heads[i] = u16::read(network.image, 26 + 4 * arc);
     }
 }
 
@@ -39,7 +39,7 @@ fn pick_costs(column: &[u8], m: usize, kept: &[u16], weights: &mut [u32])
 {
     for (i, &index) in kept.iter().enumerate() {
         let arc = index as usize;
-        weights[i] = read32(column, 4 * arc);
+        weights[i] = u32::read(column, 4 * arc);
     }
 }
 
@@ -49,7 +49,7 @@ fn copy_costs(column: &[u8], m: usize, kept: &[u16], weights: &mut [u32])
     ensures { weights.new ≡ at_places kept.now (decode 4 m column.now) }
 {
     if kept.len() == m {
-        read_costs(column, m, weights);
+        read_words(column, m, weights);
     } else {
         pick_costs(column, m, kept, weights);
     }

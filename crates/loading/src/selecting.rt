@@ -12,7 +12,7 @@ ghost use Rattle.loading.specs.Selected.{passing, Indices, unmarked_at};
 use super::reading::column_start;
 use crate::network::Network;
 use closures::is_closed;
-use image::{CLOSED, read32};
+use image::{CLOSED, Word};
 
 // The indices of all arcs: 0, 1 and so on.
 pub fn number_arcs(kept: &mut [u16])
@@ -60,7 +60,7 @@ fn drop_marked(costs: &[u8], m: usize, kept: &mut [u16], count: usize) -> usize
     let mut front = 0;
     for i in 0..count {
         let arc = kept[i];
-        if read32(costs, 4 * (arc as usize)) != CLOSED {
+        if u32::read(costs, 4 * (arc as usize)) != CLOSED {
             kept[front] = arc;
             front += 1;
         }

@@ -5,7 +5,6 @@ use native.Mathlib.Omega.{arith}
 use mathlib.Core.Path.{◌≡◌, ◌∙◌, ap}
 use mathlib.Core.Bool.{Bool, true, false, not, ◌&&◌, ◌||◌}
 use mathlib.Core.List.{List}
-use mathlib.Core.Option.{none, some}
 use lib.Dec.{leb, eqb}
 use lib.ListN.{length}
 use borrow.Author.Tests.{lt-ltb, le-ltb, leb-true, ltb-false, eqb-false, not-false}
@@ -22,9 +21,8 @@ use Rattle.image.proofs.CheckLaws.{sized, same_sizes}
 use Rattle.loading.proofs.PartLaws.{length_arcs}
 use Rattle.loading.proofs.DecodeLaws.{accepted_of, admitted}
 use Rattle.image.proofs.NetworkLaws.{length_columns}
-use Rattle.outcomes.specs.Calls.{ends_row, goal_row, column_row, room_row, list_row, count_row, workspace, search_rows, ranking_rows, label_fault}
+use Rattle.outcomes.specs.Calls.{ends_row, goal_row, column_row, room_row, count_row, workspace, search_rows, ranking_rows, label_fault}
 use Rattle.loading.specs.Accepted.{Accepted, Node, InColumn, Ends}
-use Rattle.terms.specs.Regret.{open_fault}
 
 -- ---- what an answer that gives sizes says: the rows so far are sound, the image is accepted, and these are its sizes
 pub given_sizes : {b : List ℕ} (f : Fault) {z : Sizes} → (f ≡ sound → image_fault b ≡ sound) → gives (size_list z) ≡ outcome f (sizes b) → (f ≡ sound) × Accepted b z
@@ -180,13 +178,3 @@ label_sound b u t room e =
     let e₃ = then_sound _ _ e₂.1 in
     let c = and_both (leb 1 u) (leb u (length (net_of b).columns)) (not-false _ (row_sound _ _ _ e₃.0)) in
     record { accepted = e₁.0; goal = node_true (not-false _ (row_sound _ _ _ e₂.0)); from = leb-true _ _ c.0; upto = leb-true _ _ c.1; room_for = ltb-false _ _ (row_sound _ _ _ e₃.1) }
-
--- ---- Regret
-module _ (net : Net) (s t : ℕ) (nodes : List ℕ) where
-  pub no_path_at : {place : ℕ} → some place ≡ open_fault net s t nodes → list_row (open_fault net s t nodes) ≡ fault 14 place
-  unfolding list_row
-  no_path_at e = rw (← e)
-
-  pub list_passes : none ≡ open_fault net s t nodes → list_row (open_fault net s t nodes) ≡ sound
-  unfolding list_row
-  list_passes e = rw (← e)

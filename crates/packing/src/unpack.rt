@@ -1,6 +1,5 @@
 // Unpack: the lists of an image.
-ghost use Rattle.std.specs.Prelude.{◌≡◌, ◌++◌, ◌*◌, ◌≤◌, length, drop};
-ghost use Rattle.image.specs.Bytes.{decode};
+ghost use Rattle.std.specs.Prelude.{◌≡◌, length};
 ghost use Rattle.image.specs.Outcome.{sound, after};
 ghost use Rattle.image.specs.Layout.{node_list, cost_list};
 ghost use Rattle.image.specs.Answers.{answer, size_list};
@@ -8,17 +7,7 @@ ghost use Rattle.packing.specs.Calls.{unpack_fault, unpack_outcome};
 ghost use Rattle.packing.specs.RoundTrip.{WritesAgain};
 
 use image::check::check;
-use image::{Refusal, Sizes, cost_count, costs_start, read_costs, read16};
-
-// The first `count` numbers of two bytes each.
-fn read_nodes(source: &[u8], count: usize, nodes: &mut [u16])
-    requires { (2 * count ≤ length source.now) × (count ≤ length nodes.old) }
-    ensures { nodes.new ≡ decode 2 count source.now ++ drop count nodes.old }
-{
-    for i in 0..count {
-        nodes[i] = read16(source, 2 * i) as u16;
-    }
-}
+use image::{Refusal, Sizes, cost_count, costs_start, read_words};
 
 // REFERENCE, section 4.8.
 pub fn unpack(image: &[u8], nodes: &mut [u16], costs: &mut [u32]) -> Result<Sizes, Refusal>
@@ -35,8 +24,8 @@ pub fn unpack(image: &[u8], nodes: &mut [u16], costs: &mut [u32]) -> Result<Size
     if nodes.len() < nodes_needed || costs.len() < costs_needed {
         return Err(Refusal::SliceTooShort);
     }
-    read_nodes(&image[24..], nodes_needed, nodes);
+    read_words(&image[24..], nodes_needed, nodes);
     let start = costs_start(m) as usize;
-    read_costs(&image[start..], costs_needed, costs);
+    read_words(&image[start..], costs_needed, costs);
     Ok(sizes)
 }

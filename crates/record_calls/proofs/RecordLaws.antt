@@ -5,10 +5,10 @@ use native.Mathlib.Numerals.{add-one}
 use native.Mathlib.Nat.{mul_comm, mul-le-mul, suc-mul, mod-eq_of_lt, div-eq_of_lt, div-add-mod', mul-add-div_right, mul-add-mod_self_right}
 use mathlib.Core.Path.{◌≡◌, refl, sym, ◌∙◌, ap, ap₂}
 use mathlib.Core.Bool.{true}
-use mathlib.Core.List.{List, [], ◌∷◌}
+use mathlib.Core.List.{List, [], ◌∷◌, ◌++◌}
 use lib.Dec.{leb, eqb}
-use lib.ListN.{length, get_or, drop, drop_of_length-le}
-use lib.Seq.{drop-cons, get_or-drop}
+use lib.ListN.{length, get_or, drop, length-append, length-drop, drop_of_length-le, get_or-append}
+use lib.Seq.{drop-cons, drop_at, drop-drop, get_or-drop}
 use borrow.Author.Tests.{ltb-true, leb-true, eqb-true, eq-eqb, not-false}
 use Rattle.terms.proofs.ListLaws.{and_both}
 use Rattle.image.specs.Outcome.{sound, fault, ◌then◌}
@@ -98,6 +98,30 @@ fit_at (one_more f all) (suc i) h = fit_at all i (omega arith)
 -- record i of a list of numbers that passes
 pub fit_here : {e m k : ℕ} (l : List ℕ) → records_fault e m k 0 (record_list l) ≡ sound → (i : ℕ) → i < length l / 4 → Fits e m k (record_at l i)
 fit_here {e} {m} {k} l h i low = rw (list_at l i low) at (fit_at (all_fit e m k 0 (record_list l) h) i (omega (arith, length_list l)))
+
+-- ---- chunk after chunk
+-- chunk x is taken off the front of what is left from record i on: it is record i, and the chunks from i + 1 on are left
+module _ (l rest x rest' : List ℕ) (i : ℕ) (left : rest ≡ drop (4 * i) l) (taken : rest ≡ x ++ rest') (four : length x ≡ 4) where
+  chunk_length : length (drop (4 * i) l) ≡ 4 + length rest'
+  chunk_length = ap length (sym left ∙ taken) ∙ length-append x rest' ∙ ap (λ (n : ℕ). n + length rest') four
+
+  pub chunk_low : i < length l / 4
+  chunk_low = omega (arith, chunk_length, length-drop (4 * i) l)
+
+  pub chunk_left : rest' ≡ drop (4 * (i + 1)) l
+  chunk_left =
+      let step : 4 * i + 4 ≡ 4 * (i + 1) = omega arith in
+      sym (drop_at x rest' 4 four) ∙ ap (drop 4) (sym taken ∙ left) ∙ drop-drop 4 (4 * i) l ∙ ap (λ (n : ℕ). drop n l) step
+
+  pub chunk_at : (j : ℕ) → j < 4 → get_or l (4 * i + j) 0 ≡ get_or x j 0
+  chunk_at j h = sym (get_or-drop (4 * i) l j 0) ∙ ap (λ (t : List ℕ). get_or t j 0) (sym left ∙ taken) ∙ get_or-append x rest' 0 j (omega (arith, four))
+
+  pub chunk_is : get_or (record_list l) i blank ≡ record_of (get_or x 0 0) (get_or x 1 0) (get_or x 2 0) (get_or x 3 0)
+  chunk_is =
+      let first : 4 * i ≡ 4 * i + 0 = omega arith in
+      list_at l i chunk_low
+      ∙ ap₂ (λ (a c : ℕ). record_of a c (get_or l (4 * i + 2) 0) (get_or l (4 * i + 3) 0)) (ap (λ (n : ℕ). get_or l n 0) first ∙ chunk_at 0 (omega arith)) (chunk_at 1 (omega arith))
+      ∙ ap₂ (λ (c s : ℕ). record_of (get_or x 0 0) (get_or x 1 0) c s) (chunk_at 2 (omega arith)) (chunk_at 3 (omega arith))
 
 -- ---- the place of a cost
 abbrev pub place_of : ℕ → Record → ℕ

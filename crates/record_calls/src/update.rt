@@ -12,7 +12,7 @@ ghost use Rattle.record_calls.specs.Updates.{Updates};
 ghost use Rattle.image.proofs.ByteLaws.{AllBytes};
 
 use image::check::check;
-use image::{Refusal, Sizes, cost_count, costs_start, is_cost, write32};
+use image::{Refusal, Sizes, Word, cost_count, costs_start, is_cost};
 
 // Rows 17, 18 and 9 for the record at an index, in an image of these sizes.
 fn check_record(sizes: Sizes, index: usize, arc: u32, column: u32, cost: u32) -> Result<(), Refusal>
@@ -35,14 +35,8 @@ fn check_record(sizes: Sizes, index: usize, arc: u32, column: u32, cost: u32) ->
 fn check_records(sizes: Sizes, records: &[u32]) -> Result<(), Refusal>
     ensures { verdict result ≡ records_fault sizes.edition sizes.m sizes.k 0 (record_list records.now) }
 {
-    for i in 0..records.len() / 4 {
-        check_record(
-            sizes,
-            i,
-            records[4 * i],
-            records[4 * i + 1],
-            records[4 * i + 2],
-        )?;
+    for (i, record) in records.chunks_exact(4).enumerate() {
+        check_record(sizes, i, record[0], record[1], record[2])?;
     }
     Ok(())
 }
@@ -62,7 +56,7 @@ fn write_record(
 {
     if stamps[place] <= stamp {
         stamps[place] = stamp;
-        write32(image, start + 4 * place, cost);
+        cost.write(image, start + 4 * place);
     }
 }
 

@@ -9,7 +9,7 @@ ghost use Rattle.week_calls.specs.Weeks.{stands};
 
 use super::week::Week;
 use closures::touches;
-use image::read16;
+use image::Word;
 use loading::Network;
 use network_calls::own_bests;
 
@@ -33,8 +33,8 @@ fn touched(network: &Network<'_>, arc: usize, route: &[u16]) -> bool
     requires { arc < network.now.sizes.m }
     ensures { result ≡ standing.touches (get_or (net network.now).arcs arc (0, 0)) route.now }
 {
-    let tail = read16(network.image, 24 + 4 * arc) as u16;
-    let head = read16(network.image, 26 + 4 * arc) as u16;
+    let tail = u16::read(network.image, 24 + 4 * arc);
+    let head = u16::read(network.image, 26 + 4 * arc);
     touches(tail, head, route)
 }
 

@@ -17,7 +17,7 @@ returns-then-image-lt24 c = rw (row_1 c.args.latest c.args.image.now c.if-image-
 pub returns-then-not-is_taken : goal.returns-then-not-is_taken
 unfolding outcome edition
 returns-then-not-is_taken c =
-    let e_is : c.read16-edition.result ≡ edition c.args.image.now = c.read16-edition.ensures.0 in
+    let e_is : c.from-edition.result ≡ edition c.args.image.now = c.from-edition.ensures ∙ c.read.ensures in
     let taken_is : c.is_taken.result ≡ (leb 1 (edition c.args.image.now) && leb (edition c.args.image.now) c.args.latest) = rw (← e_is) c.is_taken.ensures in
     rw (row_2 c.args.latest c.args.image.now c.if-image-lt24.false (sym taken_is ∙ c.if-not-is_taken.true))
 
@@ -25,12 +25,12 @@ pub returns-then-not-in_range : goal.returns-then-not-in_range
 unfolding outcome edition node_count arc_count column_count
 returns-then-not-in_range c =
     let long : 24 ≤ length c.args.image.now = c.if-image-lt24.false in
-    let e_is : c.read16-edition.result ≡ edition c.args.image.now = c.read16-edition.ensures.0 in
+    let e_is : c.from-edition.result ≡ edition c.args.image.now = c.from-edition.ensures ∙ c.read.ensures in
     let taken_is : c.is_taken.result ≡ (leb 1 (edition c.args.image.now) && leb (edition c.args.image.now) c.args.latest) = rw (← e_is) c.is_taken.ensures in
     let taken : (leb 1 (edition c.args.image.now) && leb (edition c.args.image.now) c.args.latest) ≡ true = sym taken_is ∙ c.if-not-is_taken.false in
-    let n_is : c.read16-n.result ≡ node_count c.args.image.now = c.read16-n.ensures.0 in
-    let m_is : c.read16-m.result ≡ arc_count c.args.image.now = c.read16-m.ensures.0 in
-    let k_is : c.read16-k.result ≡ column_count c.args.image.now = c.read16-k.ensures.0 in
+    let n_is : c.from-n.result ≡ node_count c.args.image.now = c.from-n.ensures ∙ c.read-2.ensures in
+    let m_is : c.from-m.result ≡ arc_count c.args.image.now = c.from-m.ensures ∙ c.read-3.ensures in
+    let k_is : c.from-k.result ≡ column_count c.args.image.now = c.from-k.ensures ∙ c.read-4.ensures in
     let ranges_is : c.in_range.result ≡ in_range (node_count c.args.image.now) (arc_count c.args.image.now) (column_count c.args.image.now) = rw (← n_is, ← m_is, ← k_is) c.in_range.ensures in
     rw (row_3 c.args.latest c.args.image.now long taken (sym ranges_is ∙ c.if-not-in_range.true))
 
@@ -38,9 +38,9 @@ pub fields_right-requires : goal.fields_right-requires
 unfolding arc_count column_count node_count
 fields_right-requires c =
     let long : 24 ≤ length c.args.image.now = c.if-image-lt24.false in
-    let m_is : c.read16-m.result ≡ arc_count c.args.image.now = c.read16-m.ensures.0 in
-    let k_is : c.read16-k.result ≡ column_count c.args.image.now = c.read16-k.ensures.0 in
-    let n_is : c.read16-n.result ≡ node_count c.args.image.now = c.read16-n.ensures.0 in
+    let m_is : c.from-m.result ≡ arc_count c.args.image.now = c.from-m.ensures ∙ c.read-3.ensures in
+    let k_is : c.from-k.result ≡ column_count c.args.image.now = c.from-k.ensures ∙ c.read-4.ensures in
+    let n_is : c.from-n.result ≡ node_count c.args.image.now = c.from-n.ensures ∙ c.read-2.ensures in
     let ranges_is : c.in_range.result ≡ in_range (node_count c.args.image.now) (arc_count c.args.image.now) (column_count c.args.image.now) = rw (← n_is, ← m_is, ← k_is) c.in_range.ensures in
     let ranges : in_range (node_count c.args.image.now) (arc_count c.args.image.now) (column_count c.args.image.now) ≡ true = sym ranges_is ∙ c.if-not-in_range.false in
     let r = in_range_true ranges in
@@ -52,12 +52,12 @@ pub returns-then-not-fields_right : goal.returns-then-not-fields_right
 unfolding outcome edition node_count arc_count column_count
 returns-then-not-fields_right c =
     let long : 24 ≤ length c.args.image.now = c.if-image-lt24.false in
-    let e_is : c.read16-edition.result ≡ edition c.args.image.now = c.read16-edition.ensures.0 in
+    let e_is : c.from-edition.result ≡ edition c.args.image.now = c.from-edition.ensures ∙ c.read.ensures in
     let taken_is : c.is_taken.result ≡ (leb 1 (edition c.args.image.now) && leb (edition c.args.image.now) c.args.latest) = rw (← e_is) c.is_taken.ensures in
     let taken : (leb 1 (edition c.args.image.now) && leb (edition c.args.image.now) c.args.latest) ≡ true = sym taken_is ∙ c.if-not-is_taken.false in
-    let n_is : c.read16-n.result ≡ node_count c.args.image.now = c.read16-n.ensures.0 in
-    let m_is : c.read16-m.result ≡ arc_count c.args.image.now = c.read16-m.ensures.0 in
-    let k_is : c.read16-k.result ≡ column_count c.args.image.now = c.read16-k.ensures.0 in
+    let n_is : c.from-n.result ≡ node_count c.args.image.now = c.from-n.ensures ∙ c.read-2.ensures in
+    let m_is : c.from-m.result ≡ arc_count c.args.image.now = c.from-m.ensures ∙ c.read-3.ensures in
+    let k_is : c.from-k.result ≡ column_count c.args.image.now = c.from-k.ensures ∙ c.read-4.ensures in
     let ranges_is : c.in_range.result ≡ in_range (node_count c.args.image.now) (arc_count c.args.image.now) (column_count c.args.image.now) = rw (← n_is, ← m_is, ← k_is) c.in_range.ensures in
     let ranges : in_range (node_count c.args.image.now) (arc_count c.args.image.now) (column_count c.args.image.now) ≡ true = sym ranges_is ∙ c.if-not-in_range.false in
     let fields_is : c.fields_right.result ≡ fields_right c.args.image.now (arc_count c.args.image.now) (column_count c.args.image.now) = rw (← m_is, ← k_is) c.fields_right.ensures in
@@ -66,9 +66,9 @@ returns-then-not-fields_right c =
 pub image_length-requires : goal.image_length-requires
 unfolding arc_count column_count node_count
 image_length-requires c =
-    let m_is : c.read16-m.result ≡ arc_count c.args.image.now = c.read16-m.ensures.0 in
-    let k_is : c.read16-k.result ≡ column_count c.args.image.now = c.read16-k.ensures.0 in
-    let n_is : c.read16-n.result ≡ node_count c.args.image.now = c.read16-n.ensures.0 in
+    let m_is : c.from-m.result ≡ arc_count c.args.image.now = c.from-m.ensures ∙ c.read-3.ensures in
+    let k_is : c.from-k.result ≡ column_count c.args.image.now = c.from-k.ensures ∙ c.read-4.ensures in
+    let n_is : c.from-n.result ≡ node_count c.args.image.now = c.from-n.ensures ∙ c.read-2.ensures in
     let ranges_is : c.in_range.result ≡ in_range (node_count c.args.image.now) (arc_count c.args.image.now) (column_count c.args.image.now) = rw (← n_is, ← m_is, ← k_is) c.in_range.ensures in
     let ranges : in_range (node_count c.args.image.now) (arc_count c.args.image.now) (column_count c.args.image.now) ≡ true = sym ranges_is ∙ c.if-not-in_range.false in
     let r = in_range_true ranges in
@@ -80,12 +80,12 @@ pub returns-then-image-image_length : goal.returns-then-image-image_length
 unfolding outcome edition node_count arc_count column_count
 returns-then-image-image_length c =
     let long : 24 ≤ length c.args.image.now = c.if-image-lt24.false in
-    let e_is : c.read16-edition.result ≡ edition c.args.image.now = c.read16-edition.ensures.0 in
+    let e_is : c.from-edition.result ≡ edition c.args.image.now = c.from-edition.ensures ∙ c.read.ensures in
     let taken_is : c.is_taken.result ≡ (leb 1 (edition c.args.image.now) && leb (edition c.args.image.now) c.args.latest) = rw (← e_is) c.is_taken.ensures in
     let taken : (leb 1 (edition c.args.image.now) && leb (edition c.args.image.now) c.args.latest) ≡ true = sym taken_is ∙ c.if-not-is_taken.false in
-    let n_is : c.read16-n.result ≡ node_count c.args.image.now = c.read16-n.ensures.0 in
-    let m_is : c.read16-m.result ≡ arc_count c.args.image.now = c.read16-m.ensures.0 in
-    let k_is : c.read16-k.result ≡ column_count c.args.image.now = c.read16-k.ensures.0 in
+    let n_is : c.from-n.result ≡ node_count c.args.image.now = c.from-n.ensures ∙ c.read-2.ensures in
+    let m_is : c.from-m.result ≡ arc_count c.args.image.now = c.from-m.ensures ∙ c.read-3.ensures in
+    let k_is : c.from-k.result ≡ column_count c.args.image.now = c.from-k.ensures ∙ c.read-4.ensures in
     let ranges_is : c.in_range.result ≡ in_range (node_count c.args.image.now) (arc_count c.args.image.now) (column_count c.args.image.now) = rw (← n_is, ← m_is, ← k_is) c.in_range.ensures in
     let ranges : in_range (node_count c.args.image.now) (arc_count c.args.image.now) (column_count c.args.image.now) ≡ true = sym ranges_is ∙ c.if-not-in_range.false in
     let fields_is : c.fields_right.result ≡ fields_right c.args.image.now (arc_count c.args.image.now) (column_count c.args.image.now) = rw (← m_is, ← k_is) c.fields_right.ensures in
@@ -97,13 +97,13 @@ returns-then-image-image_length c =
 pub returns : goal.returns
 unfolding outcome edition node_count arc_count column_count
 returns c =
-    let e_is : c.read16-edition.result ≡ edition c.args.image.now = c.read16-edition.ensures.0 in
+    let e_is : c.from-edition.result ≡ edition c.args.image.now = c.from-edition.ensures ∙ c.read.ensures in
     let long : 24 ≤ length c.args.image.now = c.if-image-lt24.false in
     let taken_is : c.is_taken.result ≡ (leb 1 (edition c.args.image.now) && leb (edition c.args.image.now) c.args.latest) = rw (← e_is) c.is_taken.ensures in
     let taken : (leb 1 (edition c.args.image.now) && leb (edition c.args.image.now) c.args.latest) ≡ true = sym taken_is ∙ c.if-not-is_taken.false in
-    let n_is : c.read16-n.result ≡ node_count c.args.image.now = c.read16-n.ensures.0 in
-    let m_is : c.read16-m.result ≡ arc_count c.args.image.now = c.read16-m.ensures.0 in
-    let k_is : c.read16-k.result ≡ column_count c.args.image.now = c.read16-k.ensures.0 in
+    let n_is : c.from-n.result ≡ node_count c.args.image.now = c.from-n.ensures ∙ c.read-2.ensures in
+    let m_is : c.from-m.result ≡ arc_count c.args.image.now = c.from-m.ensures ∙ c.read-3.ensures in
+    let k_is : c.from-k.result ≡ column_count c.args.image.now = c.from-k.ensures ∙ c.read-4.ensures in
     let ranges_is : c.in_range.result ≡ in_range (node_count c.args.image.now) (arc_count c.args.image.now) (column_count c.args.image.now) = rw (← n_is, ← m_is, ← k_is) c.in_range.ensures in
     let ranges : in_range (node_count c.args.image.now) (arc_count c.args.image.now) (column_count c.args.image.now) ≡ true = sym ranges_is ∙ c.if-not-in_range.false in
     let fields_is : c.fields_right.result ≡ fields_right c.args.image.now (arc_count c.args.image.now) (column_count c.args.image.now) = rw (← m_is, ← k_is) c.fields_right.ensures in

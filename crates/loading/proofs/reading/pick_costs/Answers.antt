@@ -15,8 +15,8 @@ use Rattle.loading.proofs.reading.pick_costs.Goals as goal
 pub loop-i-init : goal.loop-i-init
 loop-i-init c = (omega arith, refl, refl)
 
-pub read32-requires : goal.read32-requires
-read32-requires c =
+pub read-requires : goal.read-requires
+read-requires c =
     let below : get_or c.args.kept.now c.loop-i.i 0 < c.args.m = index_below c.requires.2 c.loop-i.i c.loop-i-test.true in
     omega (arith, below, c.requires.0)
 
@@ -24,7 +24,7 @@ pub loop-i-preserved : goal.loop-i-preserved
 loop-i-preserved c =
     let all = at_places c.args.kept.now (decode 4 c.args.m c.args.column.now) in
     let long = length-map c.args.kept.now (λ (j : ℕ). get_or (decode 4 c.args.m c.args.column.now) j 0) in
-    let read : c.read32.result ≡ get_or all c.loop-i.i 0 = c.read32.ensures ∙ sym (picked_cost c.args.m c.args.column.now c.args.kept.now c.requires.2 c.loop-i.i (omega arith)) in
+    let read : c.read.result ≡ get_or all c.loop-i.i 0 = c.read.ensures ∙ sym (picked_cost c.args.m c.args.column.now c.args.kept.now c.requires.2 c.loop-i.i (omega arith)) in
     (omega arith, simp length-set (omega arith), rw (c.loop-i.invariant.2, read) (copy_more all c.args.weights.now c.loop-i.i (omega arith) (omega arith)))
 
 pub returns : goal.returns

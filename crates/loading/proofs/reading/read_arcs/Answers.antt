@@ -16,14 +16,14 @@ use Rattle.loading.proofs.reading.read_arcs.Goals as goal
 pub loop-i-init : goal.loop-i-init
 loop-i-init c = (omega arith, refl, refl, refl, refl)
 
-pub read16-requires : goal.read16-requires
-read16-requires c =
+pub read-requires : goal.read-requires
+read-requires c =
     let below : get_or c.args.kept.now c.loop-i.i 0 < c.args.network.now.sizes.m = index_below c.requires.indices c.loop-i.i c.loop-i-test.true in
     let inside : (24 + 4 * c.args.network.now.sizes.m ≤ length c.args.network.now.image.now) × (c.args.network.now.sizes.m ≤ 1000) = (omega (arith, arc_count_is c.args.network.now.accepted, length_is c.args.network.now.image.now c.args.network.now.accepted.passes), few_arcs c.args.network.now.accepted) in
     omega (arith, below, inside)
 
-pub read16-requires-in-loop-i : goal.read16-requires-in-loop-i
-read16-requires-in-loop-i c =
+pub read-requires-in-loop-i : goal.read-requires-in-loop-i
+read-requires-in-loop-i c =
     let below : get_or c.args.kept.now c.loop-i.i 0 < c.args.network.now.sizes.m = index_below c.requires.indices c.loop-i.i c.loop-i-test.true in
     let inside : (24 + 4 * c.args.network.now.sizes.m ≤ length c.args.network.now.image.now) × (c.args.network.now.sizes.m ≤ 1000) = (omega (arith, arc_count_is c.args.network.now.accepted, length_is c.args.network.now.image.now c.args.network.now.accepted.passes), few_arcs c.args.network.now.accepted) in
     omega (arith, below, inside)
@@ -31,8 +31,8 @@ read16-requires-in-loop-i c =
 pub loop-i-preserved : goal.loop-i-preserved
 loop-i-preserved c =
     let arc = selected_arc c.args.network.now.accepted c.requires.indices c.loop-i.i c.loop-i-test.true in
-    let tail : c.read16.result ≡ get_or (map (λ (a : ℕ × ℕ). a.0) (selected c.args.kept.now (net_of c.args.network.now.image.now)).arcs) c.loop-i.i 0 = c.read16.ensures.0 ∙ sym (get_or-map (λ (a : ℕ × ℕ). a.0) (selected c.args.kept.now (net_of c.args.network.now.image.now)).arcs c.loop-i.i (0, 0) ∙ ap (λ (a : ℕ × ℕ). a.0) arc) in
-    let head : c.read16-in-loop-i.result ≡ get_or (map (λ (a : ℕ × ℕ). a.1) (selected c.args.kept.now (net_of c.args.network.now.image.now)).arcs) c.loop-i.i 0 = c.read16-in-loop-i.ensures.0 ∙ sym (get_or-map (λ (a : ℕ × ℕ). a.1) (selected c.args.kept.now (net_of c.args.network.now.image.now)).arcs c.loop-i.i (0, 0) ∙ ap (λ (a : ℕ × ℕ). a.1) arc) in
+    let tail : c.read.result ≡ get_or (map (λ (a : ℕ × ℕ). a.0) (selected c.args.kept.now (net_of c.args.network.now.image.now)).arcs) c.loop-i.i 0 = c.read.ensures ∙ sym (get_or-map (λ (a : ℕ × ℕ). a.0) (selected c.args.kept.now (net_of c.args.network.now.image.now)).arcs c.loop-i.i (0, 0) ∙ ap (λ (a : ℕ × ℕ). a.0) arc) in
+    let head : c.read-in-loop-i.result ≡ get_or (map (λ (a : ℕ × ℕ). a.1) (selected c.args.kept.now (net_of c.args.network.now.image.now)).arcs) c.loop-i.i 0 = c.read-in-loop-i.ensures ∙ sym (get_or-map (λ (a : ℕ × ℕ). a.1) (selected c.args.kept.now (net_of c.args.network.now.image.now)).arcs c.loop-i.i (0, 0) ∙ ap (λ (a : ℕ × ℕ). a.1) arc) in
     let long = selected_length c.args.kept.now (net_of c.args.network.now.image.now) in
     (omega arith, simp length-set (omega arith), simp length-set (omega arith), rw (c.loop-i.invariant.3, tail) (copy_more _ c.args.tails.now c.loop-i.i (simp length-map (omega arith)) (omega arith)), rw (c.loop-i.invariant.4, head) (copy_more _ c.args.heads.now c.loop-i.i (simp length-map (omega arith)) (omega arith)))
 

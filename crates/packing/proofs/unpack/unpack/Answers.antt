@@ -8,7 +8,7 @@ use Rattle.image.specs.Bytes.{decode}
 use Rattle.image.specs.Outcome.{gives, sound, fault}
 use Rattle.image.proofs.OutcomeLaws.{then_fault, then_sound, outcome_fault, outcome_sound, after_fault}
 use Rattle.image.proofs.AnswerLaws.{handed_on}
-use Rattle.image.proofs.ByteLaws.{AllBytes, all_bytes}
+use Rattle.image.proofs.ByteLaws.{AllBytes, all_bytes, as_read}
 use Rattle.image.proofs.SliceLaws.{to_end}
 use Rattle.image.proofs.CheckLaws.{same_sizes, rejected, costs_start_is}
 use Rattle.packing.specs.Calls.{unpack_fault, unpack_outcome}
@@ -42,16 +42,16 @@ returns-then-nodes-nodes_needed c =
     ] in
     record { result_value = sym (outcome_fault _ e); nodes_after = sym (after_fault _ _ e); costs_after = sym (after_fault _ _ e); writes_again = again _ _ _ (all_bytes _ (λ i. (c.type_inv.image i).fits)) }
 
-pub read_nodes-requires : goal.read_nodes-requires
-read_nodes-requires c =
+pub read_words-requires : goal.read_words-requires
+read_words-requires c =
     let u = unpackable c.in_ok-sizes.ensures in
     (rw to_end (omega (arith, length-drop 24 c.args.image.now, u.long)), c.if-nodes-nodes_needed.false)
 
 pub costs_start-start-requires : goal.costs_start-start-requires
 costs_start-start-requires c = (unpackable c.in_ok-sizes.ensures).arcs_to
 
-pub read_costs-requires : goal.read_costs-requires
-read_costs-requires c =
+pub read_words-requires-2 : goal.read_words-requires-2
+read_words-requires-2 c =
     let u = unpackable c.in_ok-sizes.ensures in
     (rw to_end (omega (arith, length-drop c.costs_start-start.result c.args.image.now, u.long, c.costs_start-start.ensures, costs_start_is c.in_ok-sizes.sizes.m, c.cost_count-costs_needed.ensures.0)), c.if-costs-costs_needed.false)
 
@@ -63,16 +63,16 @@ returns c =
     let nodes-part = ap (λ (l : List ℕ). decode 2 (2 * c.in_ok-sizes.sizes.m) l ++ drop (2 * c.in_ok-sizes.sizes.m) c.args.nodes.now) (to_end c.args.image.now 24) in
     let costs-part = ap (λ (l : List ℕ). decode 4 c.cost_count-costs_needed.result l ++ drop c.cost_count-costs_needed.result c.args.costs.now) (to_end c.args.image.now c.costs_start-start.result) in
     let counted = ap₂ (λ (x i : ℕ). decode 4 x (drop i c.args.image.now) ++ drop x c.args.costs.now) c.cost_count-costs_needed.ensures.0 c.costs_start-start.ensures in
-    record { result_value = ap gives (same_sizes c.args.image.now u.sizes) ∙ sym (outcome_sound _ e); nodes_after = c.read_nodes.ensures ∙ nodes-part ∙ nodes_after u _ _ c.args.nodes.now e; costs_after = c.read_costs.ensures ∙ costs-part ∙ counted ∙ costs_after u _ _ c.args.costs.now e; writes_again = again _ _ _ (all_bytes _ (λ i. (c.type_inv.image i).fits)) }
+    record { result_value = ap gives (same_sizes c.args.image.now u.sizes) ∙ sym (outcome_sound _ e); nodes_after = as_read 2 _ _ c.args.nodes.now c.read_words.ensures ∙ nodes-part ∙ nodes_after u _ _ c.args.nodes.now e; costs_after = as_read 4 _ _ c.args.costs.now c.read_words-2.ensures ∙ costs-part ∙ counted ∙ costs_after u _ _ c.args.costs.now e; writes_again = again _ _ _ (all_bytes _ (λ i. (c.type_inv.image i).fits)) }
 
-pub slice_bounds-read_nodes-count : goal.slice_bounds-read_nodes-count
-slice_bounds-read_nodes-count c = omega (arith, (unpackable c.in_ok-sizes.ensures).long)
+pub slice_bounds-read_words-count : goal.slice_bounds-read_words-count
+slice_bounds-read_words-count c = omega (arith, (unpackable c.in_ok-sizes.ensures).long)
 
-pub slice_bounds-read_nodes-start : goal.slice_bounds-read_nodes-start
-slice_bounds-read_nodes-start c = omega (arith, (unpackable c.in_ok-sizes.ensures).long)
+pub slice_bounds-read_words-start : goal.slice_bounds-read_words-start
+slice_bounds-read_words-start c = omega (arith, (unpackable c.in_ok-sizes.ensures).long)
 
-pub slice_bounds-read_costs-count : goal.slice_bounds-read_costs-count
-slice_bounds-read_costs-count c = omega (arith, (unpackable c.in_ok-sizes.ensures).long, c.costs_start-start.ensures, costs_start_is c.in_ok-sizes.sizes.m)
+pub slice_bounds-read_words-count-2 : goal.slice_bounds-read_words-count-2
+slice_bounds-read_words-count-2 c = omega (arith, (unpackable c.in_ok-sizes.ensures).long, c.costs_start-start.ensures, costs_start_is c.in_ok-sizes.sizes.m)
 
-pub slice_bounds-read_costs-start : goal.slice_bounds-read_costs-start
-slice_bounds-read_costs-start c = omega (arith, (unpackable c.in_ok-sizes.ensures).long, c.costs_start-start.ensures, costs_start_is c.in_ok-sizes.sizes.m)
+pub slice_bounds-read_words-start-2 : goal.slice_bounds-read_words-start-2
+slice_bounds-read_words-start-2 c = omega (arith, (unpackable c.in_ok-sizes.ensures).long, c.costs_start-start.ensures, costs_start_is c.in_ok-sizes.sizes.m)

@@ -15,7 +15,7 @@ left {y = y} x h e = e ∙ sym (ap (λ (t : Bool). cond t x y) h)
 pub returns-then-stamps-place : goal.returns-then-stamps-place
 returns-then-stamps-place c =
     let t = le-leb _ _ c.if-stamps-place.true in
-    record { stamps_after = taken _ t refl; image_after = taken _ t c.write32.ensures }
+    record { stamps_after = taken _ t refl; image_after = taken _ t c.write.ensures }
 
 pub returns-else-stamps-place : goal.returns-else-stamps-place
 returns-else-stamps-place c =

@@ -4,14 +4,14 @@ use mathlib.Core.Path.{◌∙◌}
 use Rattle.week_calls.proofs.WeekLaws.{arc_inside, arc_read}
 use Rattle.week_calls.proofs.standing.touched.Goals as goal
 
-pub read16-tail-requires : goal.read16-tail-requires
-read16-tail-requires c = omega (arith, arc_inside c.args.network.now.accepted c.args.arc c.requires)
+pub read-tail-requires : goal.read-tail-requires
+read-tail-requires c = omega (arith, arc_inside c.args.network.now.accepted c.args.arc c.requires)
 
-pub read16-head-requires : goal.read16-head-requires
-read16-head-requires c = omega (arith, arc_inside c.args.network.now.accepted c.args.arc c.requires)
+pub read-head-requires : goal.read-head-requires
+read-head-requires c = omega (arith, arc_inside c.args.network.now.accepted c.args.arc c.requires)
 
 pub returns : goal.returns
-returns c = c.touches.ensures ∙ arc_read c.args.network.now.accepted c.args.arc c.requires c.args.route.now c.read16-tail.ensures.0 c.read16-head.ensures.0
+returns c = c.touches.ensures ∙ arc_read c.args.network.now.accepted c.args.arc c.requires c.args.route.now c.read-tail.ensures c.read-head.ensures
 
 pub overflow_mul-arc : goal.overflow_mul-arc
 overflow_mul-arc c = omega (arith, arc_inside c.args.network.now.accepted c.args.arc c.requires)
