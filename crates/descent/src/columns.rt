@@ -38,10 +38,12 @@ impl Columns<'_> {
         requires { (i < self.now.arcs) × (h < self.now.places) × Low 200 sums.now }
         ensures { Drops self.now.arcs self.now.places i h self.now.costs.now self.now.labels.now self.now.bests.now sums.now figure result }
     {
-        for u in 0..self.bests.len() {
-            let cost = self.costs[u * self.arcs + i];
-            let label = self.labels[u * self.places + h];
-            if drops_in(cost, label, self.bests[u], sums[u], figure) {
+        // read once: in the loop each column would read the slices' addresses anew
+        let (costs, labels, bests) = (self.costs, self.labels, self.bests);
+        for u in 0..bests.len() {
+            let cost = costs[u * self.arcs + i];
+            let label = labels[u * self.places + h];
+            if drops_in(cost, label, bests[u], sums[u], figure) {
                 return true;
             }
         }

@@ -6,11 +6,11 @@ use Rattle.descent.specs.Rows.{in_column, in_none}
 use Rattle.descent.proofs.StarLaws.{cost_in, label_in}
 use Rattle.descent.proofs.columns.Columns.drops.Goals as goal
 
-pub bounds-self-u : goal.bounds-self-u
-bounds-self-u c = cost_in c.args.self.now.fits c.loop-u.u c.args.i (omega arith) (omega arith)
+pub bounds-costs-u : goal.bounds-costs-u
+bounds-costs-u c = cost_in c.args.self.now.fits c.loop-u.u c.args.i (omega arith) (omega arith)
 
-pub bounds-self-u-in-loop-u : goal.bounds-self-u-in-loop-u
-bounds-self-u-in-loop-u c = label_in c.args.self.now.fits c.loop-u.u c.args.h (omega arith) (omega arith)
+pub bounds-labels-u : goal.bounds-labels-u
+bounds-labels-u c = label_in c.args.self.now.fits c.loop-u.u c.args.h (omega arith) (omega arith)
 
 pub drops_in-requires : goal.drops_in-requires
 drops_in-requires c = (omega (arith, c.requires.2.low c.loop-u.u), c.args.self.now.fits.ground.rows.labels_low _)
