@@ -4,48 +4,47 @@ use native.Mathlib.Omega.{arith}
 use native.Mathlib.Nat.{le_refl}
 use native.Mathlib.Decide.{ℕ_discrete}
 use mathlib.Core.Path.{◌≡◌, refl, sym, ◌∙◌, ap}
-use mathlib.Core.Bool.{Bool, true, false, not}
+use mathlib.Core.Bool.{Bool, true, false}
 use mathlib.Core.Logic.{◌⊎◌, inl, inr, ⊎_elim}
 use mathlib.Core.List.{List}
-use lib.ListN.{length, get_or, set, take, length-set, replicate, length-replicate}
-use lib.Seq.{get_or-set_same, get_or-set_other, length-take-le}
+use lib.ListN.{length, get_or, set, take, replicate, length-replicate, get_or-eq_default}
+use lib.Seq.{get_or-set_same, get_or-set_other, get_or-take, length-take-le}
 use Rattle.terms.specs.Lists.{elem}
 use Rattle.terms.specs.Network.{Graph, linked, weight}
-use Rattle.terms.proofs.ListLaws.{clash}
-use Rattle.terms.proofs.RoomLaws.{part_zero}
+use Rattle.terms.proofs.ListLaws.{le_or_lt}
+use Rattle.terms.proofs.RoomLaws.{part_long, part_zero}
 use Rattle.labels.specs.Labels.{far}
-use Rattle.star.proofs.Stores.{set_each}
 use Rattle.exits.specs.Exits.{Unmarked}
-use Rattle.sharpening.specs.Sharp.{Listed, Among, Raises, Lifted, Fits, Mends}
-use Rattle.exits.specs.Small.{Small, longest}
+use Rattle.sharpening.specs.Sharp.{IsFront, Among, Raises, Lifted, Fits, Mends}
 use Rattle.exits.specs.Walks.{Consistent, Exit, Choice}
 
-pub from_not : (b : Bool) → not b ≡ false → b ≡ true
-from_not true e = refl
-from_not false e = clash refl e
-
--- ---- lists of places
-pub listed_none : {k : ℕ} (n m : ℕ) → 0 < k → Listed k (take n (replicate m 0)) 0 0
-listed_none n m h = record { below = λ j. omega (arith, part_zero m n j); part = omega arith; upto = omega arith }
-
-pub listed_set : {k taken met taken' met' : ℕ} {nodes : List ℕ} (i a : ℕ) → i < length nodes → a < k → taken' ≤ met' → met' ≤ length nodes → Listed k nodes taken met → Listed k (set nodes i a) taken' met'
-listed_set {k} {nodes = nodes} i a h b p c l = record { below = set_each (λ _ x. x < k) nodes i a h b (λ j _. l.below j); part = p; upto = simp length-set (omega arith) }
-
-pub listed_to : {k taken met taken' met' : ℕ} {nodes : List ℕ} → taken' ≤ met' → met' ≤ length nodes → Listed k nodes taken met → Listed k nodes taken' met'
-listed_to p h l = record { below = l.below; part = p; upto = h }
-
--- ---- keys: the first k places of N marks
-pub marks_long : (N k : ℕ) → k ≤ N → length {A = ℕ} (take k (replicate N far)) ≡ k
-marks_long N k h = length-take-le k (replicate N far) (omega (arith, length-replicate {A = ℕ} N far))
-
+-- ---- what a search goes by
+-- nothing was met: the first k of N marks, and of N zeros
 mark_or_none : (N k x : ℕ) → get_or {A = ℕ} (take k (replicate N far)) x 0 < far → get_or {A = ℕ} (take k (replicate N far)) x 0 ≡ 0
 mark_or_none N zero x h = refl
 mark_or_none zero (suc k) x h = refl
 mark_or_none (suc N) (suc k) zero h = absurd (omega arith)
 mark_or_none (suc N) (suc k) (suc x) h = mark_or_none N k x h
 
-pub marks_small : (N k : ℕ) → k ≤ N → Small k (take k (replicate N far))
-marks_small N k h = record { long = marks_long N k h; low = λ v b. omega (arith, mark_or_none N k v b) }
+pub marks_long : (N k : ℕ) → k ≤ N → length {A = ℕ} (take k (replicate N far)) ≡ k
+marks_long N k h = length-take-le k (replicate N far) (omega (arith, length-replicate {A = ℕ} N far))
+
+pub front_none : (N k : ℕ) → 0 < k → k ≤ N → k ≤ 201 → IsFront (length {A = ℕ} (take k (replicate N far))) (take k (replicate N far)) (take k (replicate N 0)) 0 0
+front_none N k some h few = rw (marks_long N k h) (record {
+  few = few;
+  keyed = record { long = marks_long N k h; low = λ v b. omega (arith, mark_or_none N k v b) };
+  nodes_long = part_long N k h;
+  listed = record { below = λ j. omega (arith, part_zero N k j); part = omega arith; upto = omega arith };
+})
+
+module _ {k : ℕ} {keys nodes : List ℕ} {taken met : ℕ} (f : IsFront k keys nodes taken met) where
+  -- the nodes that were taken
+  pub taken_long : length (take taken nodes) ≡ taken
+  taken_long = length-take-le taken nodes (omega (arith, f.listed.part, f.listed.upto))
+
+  pub taken_below : (j : ℕ) → get_or (take taken nodes) j 0 < k
+  taken_below j =
+      ⊎_elim (λ h. omega (arith, get_or-eq_default (take taken nodes) 0 {n = j} (omega (arith, taken_long)), f.listed.below j)) (λ h. omega (arith, get_or-take taken nodes j 0 h, f.listed.below j)) (le_or_lt taken j)
 
 -- ---- one label raised
 pub raises_none : (x : ℕ) (ls : List ℕ) → Raises x ls ls
@@ -53,9 +52,6 @@ raises_none x ls = record { others = λ z n. refl; no_less = le_refl _ }
 
 pub raises_set : (x a : ℕ) (ls : List ℕ) → x < length ls → get_or ls x 0 ≤ a → Raises x ls (set ls x a)
 raises_set x a ls h k = record { others = λ z n. get_or-set_other ls x z a 0 n; no_less = rw (get_or-set_same ls x a 0 h) k }
-
-pub small_set : {k : ℕ} {ls : List ℕ} (x a : ℕ) → x < k → (a < far → a ≤ longest) → Small k ls → Small k (set ls x a)
-small_set {k} {ls} x a h b s = record { long = simp length-set s.long; low = λ v. set_each (λ v c. c < far → c ≤ longest) ls x a (omega (arith, s.long)) b (λ v _. s.low v) v }
 
 module _ {x : ℕ} {ls ls' : List ℕ} (r : Raises x ls ls') where
   raises_each : (z : ℕ) → get_or ls z 0 ≤ get_or ls' z 0

@@ -11,10 +11,28 @@ pub record Listed (k : ℕ) (nodes : List ℕ) (taken met : ℕ) : Type 0 where
   pub upto : met ≤ length nodes
 
 -- what the search goes by: a key for each node, and the list of those that it met and took
-pub record Front (k : ℕ) (keys nodes : List ℕ) (taken met : ℕ) : Type 0 where
+pub record IsFront (k : ℕ) (keys nodes : List ℕ) (taken met : ℕ) : Type 0 where
   pub few : k ≤ 201
   pub keyed : Small k keys
+  pub nodes_long : length nodes ≡ k
   pub listed : Listed k nodes taken met
+
+-- what is seen of it: nodes have the places below `places`, those of the list were taken, and so many were met
+pub record Seen : Type 0 where
+  pub places : ℕ
+  pub taken : List ℕ
+  pub met : ℕ
+
+-- no node was taken in between
+pub record Same (s s' : Seen) : Type 0 where
+  pub places : s'.places ≡ s.places
+  pub taken : s'.taken ≡ s.taken
+
+-- a node that was met and not taken stands at that place
+pub record Picked (s : Seen) (at : ℕ) : Type 0 where
+  pub behind : length s.taken ≤ at
+  pub before : at < s.met
+  pub upto : s.met ≤ 201
 
 -- x is one of the first `count` nodes
 pub record Among (nodes : List ℕ) (count x : ℕ) : Type 0 where

@@ -4,6 +4,7 @@
 // through are consistent whatever the search found: no fact about it is needed.
 #![tactic(auto)]
 
+mod front;
 mod raise;
 mod search;
 mod sharp;

@@ -5,19 +5,20 @@ ghost use Rattle.labels.specs.Labels.{far};
 ghost use Rattle.star.specs.Graphs.{arcs_of};
 ghost use Rattle.exits.specs.Small.{Small, longest};
 ghost use Rattle.exits.specs.Walks.{Consistent};
-ghost use Rattle.sharpening.specs.Sharp.{Listed, Raises, Lifted, Mends};
+ghost use Rattle.sharpening.specs.Sharp.{Raises, Lifted, Mends};
 
+use crate::front::Front;
 use crate::search::LONGEST;
 use exits::least_exit;
 use labels::FAR;
 use star::Graph;
 
 // Raises the label of x by what its key falls short of `level`, or to FAR if level is.
-fn lift(x: usize, level: u64, keys: &[u64], labels: &mut [u64])
-    requires small { Small (length keys.now) labels.old }
-    requires node { x < length keys.now }
+fn lift(x: usize, level: u64, front: &Front<'_>, labels: &mut [u64])
+    requires small { Small front.now.places labels.old }
+    requires node { x < front.now.places }
     requires level { level < far → level ≤ longest }
-    ensures still_small { Small (length keys.now) labels.new }
+    ensures still_small { Small front.now.places labels.new }
     ensures raises { Raises x labels.old labels.new }
 {
     let old = labels[x];
@@ -25,31 +26,24 @@ fn lift(x: usize, level: u64, keys: &[u64], labels: &mut [u64])
         labels[x] = FAR;
         return;
     }
-    let key = keys[x];
+    let key = front.key(x);
     if key <= level && old <= LONGEST - (level - key) {
         labels[x] = old + (level - key);
     }
 }
 
-// The same for each node of nodes[..taken] but the goal.
-pub fn lift_all(
-    nodes: &[u16],
-    taken: usize,
-    goal: usize,
-    level: u64,
-    keys: &[u64],
-    labels: &mut [u64],
-)
-    requires small { Small (length keys.now) labels.old }
-    requires listed { Listed (length keys.now) nodes.now 0 taken }
+// The same for each node that was taken but the goal.
+pub fn lift_all(front: &Front<'_>, goal: usize, level: u64, labels: &mut [u64])
+    requires small { Small front.now.places labels.old }
     requires level { level < far → level ≤ longest }
-    ensures still_small { Small (length keys.now) labels.new }
-    ensures lifted { Lifted goal nodes.now taken labels.old labels.new }
+    ensures still_small { Small front.now.places labels.new }
+    ensures lifted { Lifted goal front.now.taken (length front.now.taken) labels.old labels.new }
 {
-    for i in 0..taken {
-        let x = nodes[i] as usize;
+    let taken = front.taken();
+    for i in 0..taken.len() {
+        let x = taken[i] as usize;
         if x != goal {
-            lift(x, level, keys, labels);
+            lift(x, level, front, labels);
         }
     }
 }
@@ -78,23 +72,23 @@ fn mend(graph: &Graph<'_>, x: usize, used: &[bool], labels: &mut [u64]) -> bool
     true
 }
 
-// The same for each node of nodes[..taken] but the goal, from the last to the first.
+// The same for each node that was taken but the goal, from the last to the first.
 pub fn mend_all(
     graph: &Graph<'_>,
-    nodes: &[u16],
-    taken: usize,
+    front: &Front<'_>,
     goal: usize,
     used: &[bool],
     labels: &mut [u64],
 ) -> bool
     requires used_long { length used.now ≡ graph.now.nodes + 1 }
+    requires places { front.now.places ≡ length used.now }
     requires small { Small (length used.now) labels.old }
-    requires listed { Listed (length used.now) nodes.now 0 taken }
     ensures still_small { Small (length used.now) labels.new }
-    ensures consistent { (os bar : List ℕ) → result ≡ true → Lifted goal nodes.now taken os labels.old → ((z : ℕ) → elem z bar ≡ false → get_or used.now z false ≡ false) → Consistent (arcs_of graph.now) goal os bar → Consistent (arcs_of graph.now) goal labels.new bar }
+    ensures consistent { (os bar : List ℕ) → result ≡ true → Lifted goal front.now.taken (length front.now.taken) os labels.old → ((z : ℕ) → elem z bar ≡ false → get_or used.now z false ≡ false) → Consistent (arcs_of graph.now) goal os bar → Consistent (arcs_of graph.now) goal labels.new bar }
 {
-    for i in (0..taken).rev() {
-        let x = nodes[i] as usize;
+    let taken = front.taken();
+    for i in (0..taken.len()).rev() {
+        let x = taken[i] as usize;
         if x != goal && !mend(graph, x, used, labels) {
             return false;
         }

@@ -1,9 +1,10 @@
 // The search: it takes nodes outwards from the end of a branch's beginning, and says how far it went.
-ghost use Rattle.std.specs.Prelude.{◌≡◌, ℕ, ◌+◌, ◌≤◌, ◌<◌, length};
+ghost use Rattle.std.specs.Prelude.{◌≡◌, ◌+◌, ◌≤◌, ◌<◌, length};
 ghost use Rattle.labels.specs.Labels.{far};
 ghost use Rattle.exits.specs.Small.{Small, longest};
-ghost use Rattle.sharpening.specs.Sharp.{Listed, Front};
+ghost use Rattle.sharpening.specs.Sharp.{Same};
 
+use crate::front::Front;
 use exits::{tight_exit, via_below};
 use labels::FAR;
 use star::Graph;
@@ -20,90 +21,26 @@ pub struct Quest {
 }
 
 // The node whose arcs are followed. Its key is the least cost of a path through it, by the labels at
-// hand, and a path may cost `room` more; `taken` nodes were taken up to now.
+// hand, and a path may cost `room` more.
 #[derive(Clone, Copy)]
 pub struct Hub {
     pub node: usize,
     pub key: u64,
     pub room: u64,
-    pub taken: usize,
-}
-
-// How far a search went: how many nodes it took, and what a path costs at least: the key with which it
-// came to the goal, or one more than the most, or FAR if any path would do.
-#[derive(Clone, Copy)]
-pub struct Level {
-    pub taken: usize,
-    pub key: u64,
-}
-
-// Lists y. The nodes met are nodes[..met], and those taken nodes[..taken]; if y is to be the next that is
-// taken, it comes first among the others. Returns how many are then met.
-fn list(y: usize, is_next: bool, nodes: &mut [u16], taken: usize, met: usize) -> usize
-    requires node { y < 65536 }
-    requires part { taken ≤ met }
-    requires room { met ≤ length nodes.old }
-    ensures { (k : ℕ) → y < k → Listed k nodes.old taken met → Listed k nodes.new taken result }
-{
-    if nodes.len() <= met {
-        return met;
-    }
-    if is_next {
-        nodes[met] = nodes[taken];
-        nodes[taken] = y as u16;
-        return met + 1;
-    }
-    nodes[met] = y as u16;
-    met + 1
-}
-
-// Notes that y has that key, if it had none or a greater one.
-fn note(
-    y: usize,
-    key: u64,
-    is_next: bool,
-    keys: &mut [u64],
-    nodes: &mut [u16],
-    taken: usize,
-    met: usize,
-) -> usize
-    requires front { Front (length keys.old) keys.old nodes.old taken met }
-    requires node { y < length keys.old }
-    requires key { key ≤ longest }
-    ensures { Front (length keys.old) keys.new nodes.new taken result }
-{
-    let old = keys[y];
-    if old <= key {
-        return met;
-    }
-    keys[y] = key;
-    if old != FAR {
-        return met;
-    }
-    list(y, is_next, nodes, taken, met)
 }
 
 // Follows an arc from the hub, whose label is `own`, to y, with weight and label l. A y with the hub's
 // own key is next: no node has a smaller one.
-fn reach(
-    y: usize,
-    l: u64,
-    own: u64,
-    hub: Hub,
-    keys: &mut [u64],
-    nodes: &mut [u16],
-    met: usize,
-) -> usize
-    requires front { Front (length keys.old) keys.old nodes.old hub.taken met }
-    requires node { y < length keys.old }
+fn reach(y: usize, l: u64, own: u64, hub: Hub, front: &mut Front<'_>)
+    requires node { y < front.old.places }
     requires room { hub.key + hub.room ≤ longest }
-    ensures { Front (length keys.old) keys.new nodes.new hub.taken result }
+    ensures { Same front.old front.new }
 {
     if l < own || hub.room < l - own {
-        return met;
+        return;
     }
     let more = l - own;
-    note(y, hub.key + more, more == 0, keys, nodes, hub.taken, met)
+    front.note(y, hub.key + more, more == 0);
 }
 
 // Follows each arc from the hub to a node that is neither used nor barred.
@@ -113,53 +50,27 @@ fn spread(
     overall: &[u64],
     used: &[bool],
     barred: &[bool],
-    keys: &mut [u64],
-    nodes: &mut [u16],
-    met: usize,
-) -> usize
+    front: &mut Front<'_>,
+)
     requires overall_long { length overall.now ≡ graph.now.nodes + 1 }
     requires small { Small (length overall.now) overall.now }
     requires node { hub.node < length overall.now }
     requires room { hub.key + hub.room ≤ longest }
     requires used_long { length used.now ≡ length overall.now }
     requires barred_long { length barred.now ≡ length overall.now }
-    requires front { Front (length overall.now) keys.old nodes.old hub.taken met }
-    ensures { Front (length overall.now) keys.new nodes.new hub.taken result }
+    requires places { front.old.places ≡ length overall.now }
+    ensures { Same front.old front.new }
 {
     let heads = graph.heads();
     let weights = graph.weights;
     let own = overall[hub.node];
-    let mut met = met;
     let outs = graph.outs(hub.node);
     for i in outs.start..outs.end {
         let y = heads[i] as usize;
         if let Some(l) = via_below(y, weights[i], FAR, overall, used, barred) {
-            met = reach(y, l, own, hub, keys, nodes, met);
+            reach(y, l, own, hub, front);
         }
     }
-    met
-}
-
-// The place of a node with the least key in nodes[from..to]: the first, if its key is `floor`, than which
-// none is less.
-fn pick(nodes: &[u16], from: usize, to: usize, keys: &[u64], floor: u64) -> usize
-    requires front { Front (length keys.now) keys.now nodes.now from to }
-    requires some { from < to }
-    ensures { result < to }
-{
-    let mut best = from;
-    let mut least = keys[nodes[from] as usize];
-    if least <= floor {
-        return from;
-    }
-    for i in from + 1..to {
-        let key = keys[nodes[i] as usize];
-        if key < least {
-            best = i;
-            least = key;
-        }
-    }
-    best
 }
 
 // Whether a walk along the labels leads from x to the goal in at most `most` steps, and meets neither a
@@ -169,7 +80,7 @@ fn leads(
     goal: usize,
     overall: &[u64],
     used: &[bool],
-    keys: &[u64],
+    front: &Front<'_>,
     x: usize,
     key: u64,
     most: usize,
@@ -177,7 +88,7 @@ fn leads(
     requires overall_long { length overall.now ≡ graph.now.nodes + 1 }
     requires node { x < length overall.now }
     requires used_long { length used.now ≡ length overall.now }
-    requires keys_long { length keys.now ≡ length overall.now }
+    requires places { front.now.places ≡ length overall.now }
 {
     let mut at = x;
     let mut left = most;
@@ -190,7 +101,7 @@ fn leads(
             return false;
         };
         at = y as usize;
-        if keys[at] <= key {
+        if front.key(at) <= key {
             return false;
         }
     }
@@ -199,8 +110,8 @@ fn leads(
 
 // How many steps that walk may have: none from the first node, where it was tried before, nor from one
 // that has the key of the last node taken, because it goes on from there; else any number.
-fn steps_allowed(taken: usize, floor: u64, key: u64, nodes: usize) -> usize {
-    if taken == 0 || key <= floor { 0 } else { nodes }
+fn steps_allowed(none_taken: bool, floor: u64, key: u64, nodes: usize) -> usize {
+    if none_taken || key <= floor { 0 } else { nodes }
 }
 
 // What a path costs at least if none was found that costs `most` at the most.
@@ -212,59 +123,45 @@ fn beyond(most: u64) -> u64
 }
 
 // Takes node after node, by its key, and follows its arcs, until it comes to the goal, or a walk along
-// the labels leads there, or all keys are above `most`. The nodes taken are then nodes[..taken].
+// the labels leads there, or all keys are above `most`. Returns what a path costs at least: the key with
+// which it came to the goal, or one more than the most, or FAR if any path would do.
 fn search(
     graph: &Graph<'_>,
     goal: usize,
     overall: &[u64],
     used: &[bool],
-    keys: &mut [u64],
-    nodes: &mut [u16],
-    met: usize,
+    front: &mut Front<'_>,
     most: u64,
-) -> Level
+) -> u64
     requires overall_long { length overall.now ≡ graph.now.nodes + 1 }
     requires small { Small (length overall.now) overall.now }
     requires used_long { length used.now ≡ length overall.now }
     requires most { most ≤ longest }
-    requires front { Front (length overall.now) keys.old nodes.old 0 met }
-    ensures listed { Listed (length overall.now) nodes.new 0 result.taken }
-    ensures key { result.key < far → result.key ≤ longest }
+    requires places { front.old.places ≡ length overall.now }
+    ensures places { front.new.places ≡ front.old.places }
+    ensures level { result < far → result ≤ longest }
 {
-    let mut listed = met;
-    let mut taken = 0;
     let mut floor = 0;
-    while taken < listed {
-        let at = pick(nodes, taken, listed, keys, floor);
-        let node = nodes[at];
-        let x = node as usize;
-        let key = keys[x];
+    while let Some(at) = front.pick(floor) {
+        let node = front.node(at);
+        let key = front.key(node);
         if most < key {
-            return Level {
-                taken,
-                key: beyond(most),
-            };
+            return beyond(most);
         }
-        let steps = steps_allowed(taken, floor, key, used.len());
-        if leads(graph, goal, overall, used, keys, x, key, steps) {
-            return Level { taken, key };
+        let steps = steps_allowed(front.taken().is_empty(), floor, key, used.len());
+        if leads(graph, goal, overall, used, front, node, key, steps) {
+            return key;
         }
-        nodes[at] = nodes[taken];
-        nodes[taken] = node;
-        taken += 1;
+        front.take(at);
         floor = key;
         let hub = Hub {
-            node: x,
+            node,
             key,
             room: most - key,
-            taken,
         };
-        listed = spread(graph, hub, overall, used, used, keys, nodes, listed);
+        spread(graph, hub, overall, used, used, front);
     }
-    Level {
-        taken,
-        key: beyond(most),
-    }
+    beyond(most)
 }
 
 // The whole search, from the last node of the branch's beginning. No node has been met.
@@ -274,33 +171,28 @@ pub fn search_from(
     overall: &[u64],
     used: &[bool],
     barred: &[bool],
-    keys: &mut [u64],
-    nodes: &mut [u16],
-) -> Level
+    front: &mut Front<'_>,
+) -> u64
     requires overall_long { length overall.now ≡ graph.now.nodes + 1 }
     requires small { Small (length overall.now) overall.now }
     requires from { quest.from < length overall.now }
     requires most { quest.most ≤ longest }
     requires used_long { length used.now ≡ length overall.now }
     requires barred_long { length barred.now ≡ length overall.now }
-    requires front { Front (length overall.now) keys.old nodes.old 0 0 }
-    ensures listed { Listed (length overall.now) nodes.new 0 result.taken }
-    ensures key { result.key < far → result.key ≤ longest }
+    requires places { front.old.places ≡ length overall.now }
+    ensures places { front.new.places ≡ front.old.places }
+    ensures level { result < far → result ≤ longest }
 {
     let most = quest.most;
     let key = overall[quest.from];
     if most < key {
-        return Level {
-            taken: 0,
-            key: beyond(most),
-        };
+        return beyond(most);
     }
     let hub = Hub {
         node: quest.from,
         key,
         room: most - key,
-        taken: 0,
     };
-    let met = spread(graph, hub, overall, used, barred, keys, nodes, 0);
-    search(graph, quest.goal, overall, used, keys, nodes, met, most)
+    spread(graph, hub, overall, used, barred, front);
+    search(graph, quest.goal, overall, used, front, most)
 }

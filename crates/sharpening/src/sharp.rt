@@ -4,40 +4,12 @@ ghost use Rattle.terms.specs.Lists.{elem};
 ghost use Rattle.star.specs.Graphs.{arcs_of};
 ghost use Rattle.exits.specs.Small.{Small, longest};
 ghost use Rattle.exits.specs.Walks.{Consistent};
-ghost use Rattle.sharpening.specs.Sharp.{Front};
 
+use crate::front::Front;
 use crate::raise::{lift_all, mend_all};
 use crate::search::{Quest, search_from};
 use labels::FAR;
 use star::Graph;
-
-// The same as below, with room for the search.
-fn sharpen_in(
-    graph: &Graph<'_>,
-    quest: Quest,
-    overall: &[u64],
-    used: &[bool],
-    barred: &[bool],
-    keys: &mut [u64],
-    nodes: &mut [u16],
-    labels: &mut [u64],
-) -> bool
-    requires overall_long { length overall.now ≡ graph.now.nodes + 1 }
-    requires small { Small (length overall.now) overall.now }
-    requires from { quest.from < length overall.now }
-    requires most { quest.most ≤ longest }
-    requires labels_long { length labels.old ≡ length overall.now }
-    requires used_long { length used.now ≡ length overall.now }
-    requires barred_long { length barred.now ≡ length overall.now }
-    requires front { Front (length overall.now) keys.old nodes.old 0 0 }
-    ensures still_small { Small (length overall.now) labels.new }
-    ensures consistent { (bar : List ℕ) → result ≡ true → ((z : ℕ) → elem z bar ≡ false → get_or used.now z false ≡ false) → Consistent (arcs_of graph.now) quest.goal overall.now bar → Consistent (arcs_of graph.now) quest.goal labels.new bar }
-{
-    let level = search_from(graph, quest, overall, used, barred, keys, nodes);
-    labels.copy_from_slice(overall);
-    lift_all(nodes, level.taken, quest.goal, level.key, keys, labels);
-    mend_all(graph, nodes, level.taken, quest.goal, used, labels)
-}
 
 // Fills labels from overall, and sharpens them for the branch whose beginning, which is flagged in
 // used, ends with the node from which the quest goes. Says whether they can be relied on.
@@ -59,17 +31,12 @@ pub fn sharpen(
     ensures still_small { Small (length overall.now) labels.new }
     ensures consistent { (bar : List ℕ) → result ≡ true → ((z : ℕ) → elem z bar ≡ false → get_or used.now z false ≡ false) → Consistent (arcs_of graph.now) quest.goal overall.now bar → Consistent (arcs_of graph.now) quest.goal labels.new bar }
 {
+    let places = overall.len();
     let mut keys = [FAR; 201];
     let mut nodes = [0u16; 201];
-    let places = overall.len();
-    sharpen_in(
-        graph,
-        quest,
-        overall,
-        used,
-        barred,
-        &mut keys[..places],
-        &mut nodes[..places],
-        labels,
-    )
+    let mut front = Front::new(&mut keys[..places], &mut nodes[..places]);
+    let level = search_from(graph, quest, overall, used, barred, &mut front);
+    labels.copy_from_slice(overall);
+    lift_all(&front, quest.goal, level, labels);
+    mend_all(graph, &front, quest.goal, used, labels)
 }

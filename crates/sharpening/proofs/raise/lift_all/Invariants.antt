@@ -1,8 +1,7 @@
 -- `raise::lift_all` lifts label after label. The loop: those of the first i nodes may be greater, and no others. Assumes nothing.
-use lib.ListN.{length}
 use Rattle.exits.specs.Small.{Small}
 use Rattle.sharpening.specs.Sharp.{Lifted}
 use Rattle.sharpening.proofs.raise.lift_all.Given as goal
 
 abbrev pub invariant-loop-i : goal.invariant-loop-i
-invariant-loop-i l = Small (length l.keys) l.labels × Lifted l.goal l.nodes l.i l.initial.labels l.labels
+invariant-loop-i l = Small l.front.places l.labels × Lifted l.goal l.front.taken l.i l.initial.labels l.labels

@@ -11,4 +11,4 @@ use Rattle.sharpening.proofs.raise.mend_all.Given as goal
 
 abbrev pub invariant-loop-i : goal.invariant-loop-i
 invariant-loop-i l = Small (length l.used) l.labels
-    × ((os : List ℕ) → get_or os l.goal 0 ≡ 0 → Lifted l.goal l.nodes l.taken os l.initial.labels → Mending (arcs_of l.graph) l.goal l.used l.nodes l.i os l.labels)
+    × ((os : List ℕ) → get_or os l.goal 0 ≡ 0 → Lifted l.goal l.front.taken (length l.front.taken) os l.initial.labels → Mending (arcs_of l.graph) l.goal l.used l.front.taken l.i os l.labels)

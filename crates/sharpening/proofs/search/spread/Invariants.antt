@@ -1,7 +1,6 @@
--- `search::spread` follows arc after arc. The loop: keys and list are as a search has them. Assumes nothing.
-use lib.ListN.{length}
-use Rattle.sharpening.specs.Sharp.{Front}
+-- `search::spread` follows arc after arc. The loop: no node is taken. Assumes nothing.
+use Rattle.sharpening.specs.Sharp.{Same}
 use Rattle.sharpening.proofs.search.spread.Given as goal
 
 abbrev pub invariant-loop-i : goal.invariant-loop-i
-invariant-loop-i l = Front (length l.overall) l.keys l.nodes l.hub.taken l.met
+invariant-loop-i l = Same l.initial.front l.front
