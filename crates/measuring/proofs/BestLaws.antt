@@ -1,12 +1,12 @@
 -- Each column's least cost: all columns have the same paths, and the start's label in a column is the least cost of one. Assumes nothing.
-use Prim.Native.Nat.{ℕ, zero, suc, ◌+◌, ◌*◌, ◌-◌, ◌≤◌, ◌<◌}
+use Prim.Native.Nat.{ℕ, ◌+◌, ◌-◌, ◌≤◌, ◌<◌}
 use native.Mathlib.Omega.{arith}
 use native.Mathlib.Nat.{eq-or-lt_of_le}
 use mathlib.Core.Path.{◌≡◌, refl, sym, ◌∙◌, ap, subst}
 use mathlib.Core.Bool.{true}
 use mathlib.Core.Logic.{⊎_elim}
-use mathlib.Core.List.{List, [], ◌∷◌, ◌++◌, map}
-use lib.ListN.{length, get_or, set, take, drop, length-map}
+use mathlib.Core.List.{List, [], map}
+use lib.ListN.{length, get_or, set, length-map}
 use lib.Seq.{ext_get_or}
 use Rattle.terms.specs.Lists.{numbers}
 use Rattle.terms.specs.Network.{Graph, linked, column}
@@ -16,14 +16,16 @@ use Rattle.terms.proofs.ListLaws.{length_numbers, get_or_map_numbers, map_number
 use Rattle.terms.proofs.PathLaws.{Within, path_listed}
 use Rattle.terms.proofs.RegretLaws.{label_reached}
 use Rattle.star.specs.Arcs.{graph, Arcs}
-use Rattle.star.specs.Layout.{tails_of, heads_of, graph_of, Network}
+use Rattle.star.specs.Layout.{graph_of, Holds}
 use Rattle.labels.specs.Labels.{Least}
 use Rattle.star.proofs.ArcLaws.{linked_at, at_linked, graph_within}
 use Rattle.labels.proofs.LabelLaws.{reached_best}
 use Rattle.star.proofs.Stores.{set_each}
-use Rattle.measuring.specs.Columns.{Columns, network, column_costs}
+use Rattle.measuring.specs.Columns.{network}
+use Rattle.measuring.specs.Networks.{network_of, IsColumn}
+use Rattle.measuring.specs.declared.columns.Columns.{Columns}
 use Rattle.measuring.specs.Bests.{Joined, Labelled}
-use Rattle.measuring.proofs.ColumnLaws.{length_columns, held_column, column_part, column_inside, column_graph, columns_arcs, columns_few}
+use Rattle.measuring.proofs.ColumnLaws.{length_columns, held_column, column_arcs, column_holds, column_graph}
 
 -- ---- every arc is open in every column, so all columns have the same paths
 by_links : {g g' : Graph} → ((a b : ℕ) → linked g a b ≡ true → linked g' a b ≡ true) → {p : Route} → ByArcs g p → ByArcs g' p
@@ -37,64 +39,41 @@ module _ {n : ℕ} {ts hs ws ws' : List ℕ} (arcs : Arcs n ts hs ws) (arcs' : A
   same_paths : {s t : ℕ} {p : Route} → Path (graph ts hs ws) s t p → Path (graph ts hs ws') s t p
   same_paths r = record { from_start = r.from_start; to_goal = r.to_goal; by_arcs = by_links same_links r.by_arcs; loopless = r.loopless }
 
-module _ {n m k : ℕ} {s costs : List ℕ} (C : Columns n m k s costs) where
-  -- a path in column u is one in column v
-  pub path_any_column : (u v : ℕ) → 1 ≤ u → u ≤ k → 1 ≤ v → v ≤ k → {a t : ℕ} {p : Route} → Path (column (network n m k s costs) u) a t p → Path (column (network n m k s costs) v) a t p
-  path_any_column u v from upto lo hi {a} {t} {p} r =
-      let here = subst (λ (g : Graph). Path g a t p) (held_column C u from upto) r in
-      subst (λ (g : Graph). Path g a t p) (sym (held_column C v lo hi)) (same_paths (columns_arcs C u from upto) (columns_arcs C v lo hi) here)
-
--- an element of a part at the front
-pub front_at : (l r : List ℕ) (i : ℕ) → i < length l → get_or (l ++ r) i 0 ≡ get_or l i 0
-front_at [] r i h = absurd (omega arith)
-front_at (x ∷ l) r zero h = refl
-front_at (x ∷ l) r (suc i) h = front_at l r i (omega arith)
+-- a path in column u is one in column v
+pub path_any_column : (c : Columns) {u v : ℕ} → IsColumn c u → IsColumn c v → {a t : ℕ} {p : Route} → Path (column (network_of c) u) a t p → Path (column (network_of c) v) a t p
+path_any_column c C D {a} {t} {p} r =
+    let here = subst (λ (g : Graph). Path g a t p) (held_column c C) r in
+    subst (λ (g : Graph). Path g a t p) (sym (held_column c D)) (same_paths (column_arcs c C) (column_arcs c D) here)
 
 -- ---- the start's label, where a path goes from it, is the least cost of one
-module _ {n a t : ℕ} {s ws ls : List ℕ} (N : Network (n + 1) s ws) (from : 1 ≤ a) (upto : a ≤ n) (long : length ls ≡ n + 1) (L : Least (graph_of s ws) [] t ls) where
+module _ {n a t : ℕ} {s ws ls : List ℕ} (H : Holds n s ws) (from : 1 ≤ a) (upto : a ≤ n) (long : length ls ≡ n + 1) (L : Least (graph_of s ws) [] t ls) where
   pub start_best : {p : Route} → Path (graph_of s ws) a t p → get_or ls a 0 ≡ best n (graph_of s ws) a t
   unfolding graph_of
-  start_best {p} r =
-      let e : N.nodes ≡ n = omega (arith, N.places) in
-      sym (reached_best (subst (λ x. Arcs x (tails_of (length ws) s) (heads_of (length ws) s) ws) e N.arcs) L (λ x _ _. refl) a from upto (omega arith) (L.least a p (record { path = r; free = λ x m. refl })).1)
+  start_best {p} r = sym (reached_best H.arcs L (λ x _ _. refl) a from upto (omega arith) (L.least a p (record { path = r; free = λ x m. refl })).1)
 
 -- ---- the best of column u
-module _ {n m k a t : ℕ} {s costs : List ℕ} (J : Joined n m k s costs a t) {u : ℕ} (from : 1 ≤ u) (upto : u ≤ k) where
-  abbrev C : Columns n m k s costs
-  C = J.columns
-
-  pub joined_inside : ((u - 1) * m + m ≤ length costs) × (length costs ≤ 8000)
-  joined_inside = column_inside costs C.columns_to (columns_few C) C.costs_long from upto
-
-  pub joined_network : Network (n + 1) s (take ((u - 1) * m + m - (u - 1) * m) (drop ((u - 1) * m) costs))
-  joined_network = subst (Network (n + 1) s) (sym (column_part m costs u)) (C.networks u from upto)
-
-  joined_path : Path (graph_of s (column_costs m costs u)) a t J.route
-  joined_path = subst (λ g. Path g a t J.route) (column_graph C u from upto) (path_any_column C J.in_column u J.from J.upto from upto J.path)
-
-  best_here : {x : ℕ} → x ≡ best n (graph_of s (column_costs m costs u)) a t → x ≡ best n (column (network n m k s costs) u) a t
-  best_here e = e ∙ ap (λ g. best n g a t) (sym (column_graph C u from upto))
+module _ {c : Columns} {a t : ℕ} (J : Joined c a t) {u : ℕ} (C : IsColumn c u) where
+  pub joined_path : Path (column (network_of c) u) a t J.route
+  joined_path = path_any_column c J.is_column C J.path
 
   -- it is the start's label, where the column is labelled
-  pub best_labelled : {ls : List ℕ} → Labelled n m s costs t u ls → get_or ls a 0 ≡ best n (column (network n m k s costs) u) a t
-  best_labelled L = best_here (start_best (C.networks u from upto) J.start_from J.start_to L.long L.least joined_path)
+  pub best_labelled : {ls : List ℕ} → Labelled c t u ls → get_or ls a 0 ≡ best c.nodes (column (network_of c) u) a t
+  best_labelled {ls} L =
+      let e = column_graph c C in
+      start_best (column_holds c C) J.start_from J.start_to L.long L.least (subst (λ g. Path g a t J.route) e joined_path) ∙ ap (λ g. best c.nodes g a t) (sym e)
 
-  -- it is the least cost of a path with the costs of the part
-  pub best_part : {x : ℕ} → ((p : Route) → Path (graph_of s (take ((u - 1) * m + m - (u - 1) * m) (drop ((u - 1) * m) costs))) a t p → x ≡ best n (graph_of s (take ((u - 1) * m + m - (u - 1) * m) (drop ((u - 1) * m) costs))) a t)
-      → x ≡ best n (column (network n m k s costs) u) a t
-  best_part {x} found = best_here (subst (λ l. (p : Route) → Path (graph_of s l) a t p → x ≡ best n (graph_of s l) a t) (column_part m costs u) found J.route joined_path)
-
--- the bests of the network that the slices hold: a path goes from the start in each column
-pub held_bests : {n m k : ℕ} {s costs : List ℕ} {a t : ℕ} → Joined n m k s costs a t → bests (network n m k s costs) a t ≡ map (λ u. best n (column (network n m k s costs) u) a t) (numbers 1 k)
+-- the bests of the network: a path goes from the start in each column
+pub held_bests : {c : Columns} {a t : ℕ} → Joined c a t → bests (network_of c) a t ≡ map (λ u. best c.nodes (column (network_of c) u) a t) (numbers 1 c.count)
 unfolding bests network
-held_bests {n} {m} {k} {s} {costs} {a} {t} J =
-    ap (λ x. map (λ u. label n (column (network n m k s costs) u) t a) (numbers 1 x)) (length_columns n m k s costs)
-    ∙ map_numbers (λ u. label n (column (network n m k s costs) u) t a) (λ u. best n (column (network n m k s costs) u) a t) 1 k (λ u lo hi. same u lo (omega arith))
+held_bests {c} {a} {t} J =
+    ap (λ x. map (λ u. label c.nodes (column (network_of c) u) t a) (numbers 1 x)) (length_columns c.nodes c.arcs c.count c.star.now c.costs.now)
+    ∙ map_numbers (λ u. label c.nodes (column (network_of c) u) t a) (λ u. best c.nodes (column (network_of c) u) a t) 1 c.count (λ u lo hi. same u lo (omega arith))
   where
-    same : (u : ℕ) → 1 ≤ u → u ≤ k → label n (column (network n m k s costs) u) t a ≡ best n (column (network n m k s costs) u) a t
+    same : (u : ℕ) → 1 ≤ u → u ≤ c.count → label c.nodes (column (network_of c) u) t a ≡ best c.nodes (column (network_of c) u) a t
     same u lo hi =
-        let within = subst (Within n) (sym (held_column J.columns u lo hi)) (graph_within (columns_arcs J.columns u lo hi)) in
-        label_reached n (column (network n m k s costs) u) a t (path_listed n within J.start_from J.start_to (path_any_column J.columns J.in_column u J.from J.upto lo hi J.path))
+        let C : IsColumn c u = record { from = lo; upto = hi } in
+        let within = subst (Within c.nodes) (sym (held_column c C)) (graph_within (column_arcs c C)) in
+        label_reached c.nodes (column (network_of c) u) a t (path_listed c.nodes within J.start_from J.start_to (joined_path J C))
 
 -- ---- a list filled place by place: before the place of column u it holds f of each column
 module _ (f : ℕ → ℕ) where

@@ -12,9 +12,10 @@ use Rattle.terms.proofs.ListLaws.{take_mem, mem_place, drop_mem}
 use Rattle.terms.proofs.NetworkLaws.{column_unmarked}
 use Rattle.terms.proofs.ColumnLaws.{length_cut, cut_at}
 use Rattle.star.specs.Arcs.{graph, Arcs}
-use Rattle.star.specs.Star.{Star}
-use Rattle.star.specs.Layout.{tails_of, heads_of, outs_of, graph_of}
-use Rattle.measuring.specs.Columns.{arc_pairs, network, column_costs, Columns}
+use Rattle.star.specs.Layout.{tails_of, heads_of, graph_of, Holds}
+use Rattle.measuring.specs.Columns.{arc_pairs, network, column_costs}
+use Rattle.measuring.specs.Networks.{network_of, costs_in, IsColumn}
+use Rattle.measuring.specs.declared.columns.Columns.{Columns}
 
 -- ---- columns
 weigh_pairs : (ts hs ws : List ℕ) → weigh (arc_pairs ts hs) ws ≡ graph ts hs ws
@@ -46,61 +47,53 @@ column_part m costs u = let e : (u - 1) * m + m - (u - 1) * m ≡ m = omega arit
 column_end : (m u : ℕ) {k : ℕ} (costs : List ℕ) → length costs ≡ k * m → 1 ≤ u → u ≤ k → (u - 1) * m + m ≤ length costs
 column_end m u {k} costs long from upto = omega (arith, long, suc-mul (u - 1) m, mul-le-mul_right {m = suc (u - 1)} {n = k} m (omega arith))
 
-pub column_full : {k : ℕ} (m u : ℕ) (costs : List ℕ) → length costs ≡ k * m → 1 ≤ u → u ≤ k → length (column_costs m costs u) ≡ m
-column_full m u costs long from upto = length-take-le m (drop ((u - 1) * m) costs) (omega (arith, length-drop ((u - 1) * m) costs, column_end m u costs long from upto))
+pub part_full : {k : ℕ} (m u : ℕ) (costs : List ℕ) → length costs ≡ k * m → 1 ≤ u → u ≤ k → length (column_costs m costs u) ≡ m
+part_full m u costs long from upto = length-take-le m (drop ((u - 1) * m) costs) (omega (arith, length-drop ((u - 1) * m) costs, column_end m u costs long from upto))
 
 -- the costs are not many
-pub column_inside : {k m u : ℕ} (costs : List ℕ) → k ≤ 8 → m ≤ 1000 → length costs ≡ k * m → 1 ≤ u → u ≤ k → ((u - 1) * m + m ≤ length costs) × (length costs ≤ 8000)
-column_inside {m} {u} costs columns_to few long from upto = (column_end m u costs long from upto, omega (arith, long, mul-le-mul columns_to few))
+pub part_inside : {k m u : ℕ} (costs : List ℕ) → k ≤ 8 → m ≤ 1000 → length costs ≡ k * m → 1 ≤ u → u ≤ k → ((u - 1) * m + m ≤ length costs) × (length costs ≤ 8000)
+part_inside {m} {u} costs columns_to few long from upto = (column_end m u costs long from upto, omega (arith, long, mul-le-mul columns_to few))
 
--- ---- one column of those that the slices hold
-module _ {n m k : ℕ} {s costs : List ℕ} (C : Columns n m k s costs) where
-  module _ (u : ℕ) (from : 1 ≤ u) (upto : u ≤ k) where
+-- ---- one of the columns
+module _ (c : Columns) where
+  pub first_column : IsColumn c 1
+  first_column = record { from = omega arith; upto = c.held.columns_from }
+
+  module _ {u : ℕ} (C : IsColumn c u) where
     -- no cost is the mark, so the column has all arcs
-    unmarked : (w : ℕ) → w ∈ cost_column (network n m k s costs) u → w ≡ mark → ⊥
+    unmarked : (w : ℕ) → w ∈ cost_column (network_of c) u → w ≡ mark → ⊥
     unmarked w h e =
-        let here = drop_mem ((u - 1) * m) costs (take_mem m (drop ((u - 1) * m) costs) (subst (λ l. w ∈ l) (own_costs n m k s costs u from upto) h)) in
-        let i = mem_place (length costs) costs 0 {x = w} (rw (take-length costs) here) in
-        omega (arith, C.costs_to i.0 i.1, i.3)
+        let here = drop_mem ((u - 1) * c.arcs) c.costs.now (take_mem c.arcs (drop ((u - 1) * c.arcs) c.costs.now) (subst (λ l. w ∈ l) (own_costs c.nodes c.arcs c.count c.star.now c.costs.now u C.from C.upto) h)) in
+        let i = mem_place (length c.costs.now) c.costs.now 0 {x = w} (rw (take-length c.costs.now) here) in
+        omega (arith, c.held.costs_to i.0 i.1, i.3)
 
-    pub held_column : column (network n m k s costs) u ≡ graph (tails_of m s) (heads_of m s) (column_costs m costs u)
+    pub held_column : column (network_of c) u ≡ graph (tails_of c.arcs c.star.now) (heads_of c.arcs c.star.now) (costs_in c u)
     held_column =
-        column_unmarked (network n m k s costs) u unmarked
-        ∙ ap₂ weigh (own_arcs n m k s costs) (own_costs n m k s costs u from upto)
-        ∙ weigh_pairs (tails_of m s) (heads_of m s) (column_costs m costs u)
+        column_unmarked (network_of c) u unmarked
+        ∙ ap₂ weigh (own_arcs c.nodes c.arcs c.count c.star.now c.costs.now) (own_costs c.nodes c.arcs c.count c.star.now c.costs.now u C.from C.upto)
+        ∙ weigh_pairs (tails_of c.arcs c.star.now) (heads_of c.arcs c.star.now) (costs_in c u)
 
-    full : length (column_costs m costs u) ≡ m
-    full = column_full m u costs C.costs_long from upto
+    pub column_full : length (costs_in c u) ≡ c.arcs
+    column_full = part_full c.arcs u c.costs.now c.held.costs_long C.from C.upto
 
-    nodes_are : (C.networks u from upto).nodes ≡ n
-    nodes_are = omega (arith, (C.networks u from upto).places)
+    pub column_holds : Holds c.nodes c.star.now (costs_in c u)
+    column_holds = c.held.graphs u C.from C.upto
 
-    pub columns_arcs : Arcs n (tails_of m s) (heads_of m s) (column_costs m costs u)
-    columns_arcs =
-        subst (λ x. Arcs x (tails_of m s) (heads_of m s) (column_costs m costs u)) nodes_are
-        (subst (λ x. Arcs (C.networks u from upto).nodes (tails_of x s) (heads_of x s) (column_costs m costs u)) full (C.networks u from upto).arcs)
+    pub column_arcs : Arcs c.nodes (tails_of c.arcs c.star.now) (heads_of c.arcs c.star.now) (costs_in c u)
+    column_arcs = subst (λ x. Arcs c.nodes (tails_of x c.star.now) (heads_of x c.star.now) (costs_in c u)) column_full column_holds.arcs
 
-    columns_star_of : Star n (tails_of m s) (heads_of m s) (outs_of (n + 1) m s)
-    columns_star_of =
-        subst (λ x. Star x (tails_of m s) (heads_of m s) (outs_of (n + 1) m s)) nodes_are
-        (subst (λ x. Star (C.networks u from upto).nodes (tails_of x s) (heads_of x s) (outs_of (n + 1) x s)) full (C.networks u from upto).star)
-
-    pub column_graph : column (network n m k s costs) u ≡ graph_of s (column_costs m costs u)
+    pub column_graph : column (network_of c) u ≡ graph_of c.star.now (costs_in c u)
     unfolding graph_of
-    column_graph = held_column ∙ ap (λ x. graph (tails_of x s) (heads_of x s) (column_costs m costs u)) (sym full)
+    column_graph = held_column ∙ ap (λ x. graph (tails_of x c.star.now) (heads_of x c.star.now) (costs_in c u)) (sym column_full)
 
-  pub columns_star : Star n (tails_of m s) (heads_of m s) (outs_of (n + 1) m s)
-  columns_star = columns_star_of 1 (omega arith) C.columns_from
-
-  pub columns_few : m ≤ 1000
+  pub columns_few : c.arcs ≤ 1000
   columns_few =
-      let N = C.networks 1 (omega arith) C.columns_from in
-      omega (arith, full 1 (omega arith) C.columns_from, N.arcs.weights_long, N.arcs.few)
+      let N = column_holds first_column in
+      omega (arith, column_full first_column, N.arcs.weights_long, N.arcs.few)
 
-  pub columns_nodes : n ≤ 200
-  columns_nodes = (columns_arcs 1 (omega arith) C.columns_from).few_nodes
+  pub columns_nodes : c.nodes ≤ 200
+  columns_nodes = (column_arcs first_column).few_nodes
 
-  pub columns_long : length s ≡ 3 * m + (n + 1) + 1 + (n + 1)
-  columns_long =
-      let N = C.networks 1 (omega arith) C.columns_from in
-      omega (arith, full 1 (omega arith) C.columns_from, N.long)
+  -- the part of the costs that holds a column lies inside
+  pub column_inside : {u : ℕ} → IsColumn c u → ((u - 1) * c.arcs + c.arcs ≤ length c.costs.now) × (length c.costs.now ≤ 8000)
+  column_inside {u} C = part_inside c.costs.now c.held.columns_to columns_few c.held.costs_long C.from C.upto

@@ -1,5 +1,5 @@
 -- The arcs of a path: where they are found, and that their sum in a column is the path's cost there. Assumes nothing.
-use Prim.Native.Nat.{ℕ, zero, suc, ◌+◌, ◌*◌, ◌-◌, ◌≤◌, ◌<◌}
+use Prim.Native.Nat.{ℕ, suc, ◌+◌, ◌-◌, ◌≤◌, ◌<◌}
 use native.Mathlib.Omega.{arith}
 use native.Mathlib.Nat.{eq-or-lt_of_le}
 use mathlib.Core.Path.{◌≡◌, refl, sym, ◌∙◌, ap, ap₂, subst}
@@ -8,37 +8,38 @@ use mathlib.Core.Logic.{⊎_elim}
 use mathlib.Core.List.Memᴰ
 use mathlib.Core.List.{List, [], ◌∷◌}
 use lib.Dec.{eqb}
-use lib.ListN.{length, get_or, set, take, drop, length-take}
-use lib.Seq.{get_or-take}
+use Rattle.std.specs.Prelude.{Option, unwrap_or}
+use lib.ListN.{length, get_or, set}
 use Rattle.std.proofs.lemmas.List.Elements.{All-from_get_or}
 use Rattle.std.proofs.lemmas.List.Sums.{sum_by-cons}
 use Rattle.terms.specs.Lists.{largest, index}
 use Rattle.terms.specs.Network.{Graph, linked, column}
-use Rattle.terms.specs.Paths.{Route, ByArcs, along, single, cost, cost_from}
+use Rattle.terms.specs.Paths.{Route, ByArcs, cost, cost_from}
 use Rattle.terms.specs.Regret.{over, figure_over, worst_over}
-use Rattle.terms.proofs.ListLaws.{get_or_mem, map_numbers, largest_ge, mem_numbers}
+use Rattle.terms.proofs.ListLaws.{map_numbers, largest_ge, mem_numbers}
 use Rattle.star.specs.Arcs.{graph, Arcs, At}
-use Rattle.star.proofs.ArcLaws.{at_weight, graph_within, tail_within}
+use Rattle.star.proofs.ArcLaws.{at_weight}
 use Rattle.star.proofs.Stores.{set_each}
 use Rattle.star.specs.Star.{Star}
-use Rattle.star.specs.Layout.{tails_of, heads_of, outs_of}
-use Rattle.terms.proofs.PathLaws.{arcs_linked, later_within}
-use Rattle.measuring.specs.Columns.{Columns, network, column_costs}
-use Rattle.measuring.specs.Steps.{Starred, Steps, sum_of, excess, excesses, Measured, Summed}
-use Rattle.measuring.proofs.ColumnLaws.{length_columns, held_column, column_full, columns_arcs, columns_star, columns_few}
+use Rattle.star.specs.Found.{ArcFound, here, missing}
+use Rattle.star.specs.Layout.{tails_of, heads_of}
+use Rattle.terms.proofs.PathLaws.{arcs_linked}
+use Rattle.measuring.specs.Networks.{network_of, costs_in, IsColumn}
+use Rattle.measuring.specs.declared.columns.Columns.{Columns}
+use Rattle.measuring.specs.Steps.{Steps, sum_of, excess, excesses, Measured, Summed}
+use Rattle.measuring.proofs.ColumnLaws.{length_columns, held_column, column_full, column_arcs, first_column}
 
 -- what the arcs cost beyond the best of one column is no more than the largest
 pub excess_within : (m : ℕ) (costs bests arcs : List ℕ) (u : ℕ) → 1 ≤ u → u ≤ length bests → excess m costs bests arcs u ≤ largest (excesses m costs bests arcs)
 unfolding excesses
 excess_within m costs bests arcs u lo hi = largest_ge (Memᴰ.map (excess m costs bests arcs) (mem_numbers 1 (length bests) u lo (omega arith)))
 
--- the sum of the arcs in the part of the costs that holds column i + 1, less the column's best
-pub excess_is : (m : ℕ) (costs bests arcs : List ℕ) (i : ℕ) {sum : ℕ} → sum ≡ sum_of (take (i * m + m - i * m) (drop (i * m) costs)) arcs → sum - get_or bests i 0 ≡ excess m costs bests arcs (i + 1)
+-- the sum of the arcs in column i + 1, less the column's best
+pub excess_is : (c : Columns) (bests arcs : List ℕ) (i : ℕ) {ws : List ℕ} {sum : ℕ} → ws ≡ costs_in c (i + 1) → sum ≡ sum_of ws arcs → sum - get_or bests i 0 ≡ excess c.arcs c.costs.now bests arcs (i + 1)
 unfolding excess
-excess_is m costs bests arcs i e =
-    let whole : i * m + m - i * m ≡ m = omega arith in
-    let place : i + 1 - 1 ≡ i = omega arith in
-    rw place (ap (λ x. x - get_or bests i 0) (rw whole at e))
+excess_is c bests arcs i own e =
+    let place : i ≡ i + 1 - 1 = omega arith in
+    ap₂ (λ (x y : ℕ). x - y) (e ∙ ap (λ (l : List ℕ). sum_of l arcs) own) (ap (λ (x : ℕ). get_or bests x 0) place)
 
 -- ---- the arcs of a path, found one by one
 pub step_linked : {g : Graph} {p : Route} (i : ℕ) → ByArcs g p → 1 ≤ i → i < length p → linked g (get_or p (i - 1) 0) (get_or p i 0) ≡ true
@@ -50,68 +51,48 @@ steps_more {ts} {hs} {path} {arcs} {i} {a} from inside found s = record { step =
     here : At ts hs (get_or path (i - 1) 0) (get_or path (suc (i - 1)) 0) a
     here = let e : suc (i - 1) ≡ i = omega arith in rw e found
 
+-- what is found where there is an arc
+pub found_or : {hs first : List ℕ} {v y i n : ℕ} {ts : List ℕ} {o : Option ℕ} → ArcFound hs first v y o → Star n ts hs first → At ts hs v y i → At ts hs v y (unwrap_or o 0)
+found_or {n = n} {ts = ts} (here {i} inside is_head at) star a = at n ts star
+found_or {i = i} {n = n} {ts = ts} (missing none) star a = absurd (none n ts star i a)
+
 -- ---- they cost together what the path costs
 module _ {n : ℕ} {ts hs ws : List ℕ} (A : Arcs n ts hs ws) where
-  cost_after : (v : ℕ) (p arcs : List ℕ) → length p ≤ length arcs → Steps ts hs (v ∷ p) arcs (length (v ∷ p)) → cost_from (graph ts hs ws) v p ≡ sum_of ws (take (length p) arcs)
+  cost_after : (v : ℕ) (p arcs : List ℕ) → length arcs ≡ length p → Steps ts hs (v ∷ p) arcs (length (v ∷ p)) → cost_from (graph ts hs ws) v p ≡ sum_of ws arcs
   unfolding cost_from
-  cost_after v [] arcs h s = refl
+  cost_after v [] [] h s = refl
+  cost_after v [] (a ∷ arcs) h s = absurd (omega arith)
   cost_after v (x ∷ p) [] h s = absurd (omega arith)
-  cost_after v (x ∷ p) (a ∷ arcs) h s = ap₂ (λ (y z : ℕ). y + z) (at_weight A (s.step 0 (omega arith))) (cost_after x p arcs (omega arith) (record { step = λ i l. s.step (suc i) (omega arith) })) ∙ sym (sum_by-cons (λ i. get_or ws i 0) a (take (length p) arcs))
+  cost_after v (x ∷ p) (a ∷ arcs) h s = ap₂ (λ (y z : ℕ). y + z) (at_weight A (s.step 0 (omega arith))) (cost_after x p arcs (omega arith) (record { step = λ i l. s.step (suc i) (omega arith) })) ∙ sym (sum_by-cons (λ i. get_or ws i 0) a arcs)
 
-  steps_cost : (path arcs : List ℕ) → length path ≤ length arcs + 1 → Steps ts hs path arcs (length path) → cost (graph ts hs ws) path ≡ sum_of ws (take (length path - 1) arcs)
+  steps_cost : (path arcs : List ℕ) → length arcs ≡ length path - 1 → Steps ts hs path arcs (length path) → cost (graph ts hs ws) path ≡ sum_of ws arcs
   unfolding cost
-  steps_cost [] arcs h s = refl
-  steps_cost (v ∷ p) arcs h s = let e : length (v ∷ p) - 1 ≡ length p = omega arith in rw e (cost_after v p arcs (omega arith) s)
+  steps_cost [] [] h s = refl
+  steps_cost [] (a ∷ arcs) h s = absurd (omega arith)
+  steps_cost (v ∷ p) arcs h s = cost_after v p arcs (omega arith) s
 
-  -- the nodes of a path of two or more are nodes
-  nodes_within : (path : List ℕ) → ByArcs (graph ts hs ws) path → 2 ≤ length path → (i : ℕ) → i < length path → get_or path i 0 ≤ n
-  nodes_within [] x h i l = elim x [ ]
-  nodes_within (v ∷ []) single h i l = absurd (omega arith)
-  nodes_within (v ∷ x ∷ p) (along a b) h zero l = (tail_within A v x a).1
-  nodes_within (v ∷ x ∷ p) (along a b) h (suc i) l = (later_within (graph_within A) v (x ∷ p) (along a b) (get_or_mem (x ∷ p) 0 i (omega arith))).1
+-- ---- a path in the columns, with its arcs
+module _ (c : Columns) {path arcs : List ℕ} (long : length arcs ≡ length path - 1) (steps : Steps (tails_of c.arcs c.star.now) (heads_of c.arcs c.star.now) path arcs (length path)) where
+  cost_is : {u : ℕ} → IsColumn c u → cost (column (network_of c) u) path ≡ sum_of (costs_in c u) arcs
+  cost_is C = ap (λ g. cost g path) (held_column c C) ∙ steps_cost (column_arcs c C) path arcs long steps
 
--- ---- a path in the columns that the slices hold
-module _ (bests : List ℕ) {n m : ℕ} {s costs path : List ℕ} (C : Columns n m (length bests) s costs) (b : ByArcs (column (network n m (length bests) s costs) 1) path) where
-  arcs_first : Arcs n (tails_of m s) (heads_of m s) (column_costs m costs 1)
-  arcs_first = columns_arcs C 1 (omega arith) C.columns_from
+  arcs_many : length (tails_of c.arcs c.star.now) ≡ c.arcs
+  arcs_many = omega (arith, (column_arcs c (first_column c)).weights_long, column_full c (first_column c))
 
-  by_arcs_first : ByArcs (graph (tails_of m s) (heads_of m s) (column_costs m costs 1)) path
-  by_arcs_first = subst (λ g. ByArcs g path) (held_column C 1 (omega arith) C.columns_from) b
-
-  pub starred_path : 2 ≤ length path → Starred (heads_of m s) (outs_of (n + 1) m s) path
-  starred_path h = record {
-    within = λ v l. omega (arith, (columns_star C).within v (omega (arith, (columns_star C).long)), arcs_first.heads_long);
-    nodes_in = λ i l. omega (arith, (columns_star C).long, nodes_within arcs_first path by_arcs_first h i l);
+  pub summed_path : (bests : List ℕ) → length bests ≡ c.count → length path ≤ 200 → ((u : ℕ) → 1 ≤ u → u ≤ c.count → get_or bests (u - 1) 0 ≤ cost (column (network_of c) u) path) → Summed c bests arcs
+  summed_path bests bests_long few low = record {
+    bests_long = bests_long;
+    steps_few = omega (arith, long);
+    arcs_in = All-from_get_or (λ a. a < c.arcs) arcs 0 (λ i h. omega (arith, arcs_many, (steps.step i (omega (arith, long))).below));
+    bests_below = λ u from upto. omega (arith, low u from upto, cost_is (record { from = from; upto = upto }));
   }
 
-  module _ {arcs : List ℕ} (room : length path ≤ length arcs + 1)
-      (found : (n' : ℕ) (ts ws : List ℕ) → Arcs n' ts (heads_of m s) ws → Star n' ts (heads_of m s) (outs_of (n + 1) m s) → ByArcs (graph ts (heads_of m s) ws) path → Steps ts (heads_of m s) path arcs (length path)) where
-    steps : Steps (tails_of m s) (heads_of m s) path arcs (length path)
-    steps = found n (tails_of m s) (column_costs m costs 1) arcs_first (columns_star C) by_arcs_first
+  -- what it costs beyond the bests is what its arcs do
+  over_is : (bests : List ℕ) → length bests ≡ c.count → over (network_of c) bests path ≡ excesses c.arcs c.costs.now bests arcs
+  unfolding over excesses excess
+  over_is bests bests_long = rw (length_columns c.nodes c.arcs c.count c.star.now c.costs.now, bests_long) (map_numbers _ (excess c.arcs c.costs.now bests arcs) 1 c.count (λ u lo hi. ap (λ x. x - get_or bests (u - 1) 0) (cost_is (record { from = lo; upto = omega arith }))))
 
-    cost_is : (u : ℕ) → 1 ≤ u → u ≤ length bests → cost (column (network n m (length bests) s costs) u) path ≡ sum_of (column_costs m costs u) (take (length path - 1) arcs)
-    cost_is u from upto = ap (λ g. cost g path) (held_column C u from upto) ∙ steps_cost (columns_arcs C u from upto) path arcs room steps
-
-    arcs_many : length (tails_of m s) ≡ m
-    arcs_many = omega (arith, arcs_first.weights_long, column_full m 1 costs C.costs_long (omega arith) C.columns_from)
-
-    pub summed_path : length path ≤ 200 → ((u : ℕ) → 1 ≤ u → u ≤ length bests → get_or bests (u - 1) 0 ≤ cost (column (network n m (length bests) s costs) u) path) → Summed m costs bests (take (length path - 1) arcs)
-    summed_path few low = record {
-      columns_from = C.columns_from;
-      columns_to = C.columns_to;
-      arcs_few = columns_few C;
-      costs_long = C.costs_long;
-      steps_few = omega (arith, length-take (length path - 1) arcs);
-      arcs_in = All-from_get_or (λ a. a < m) (take (length path - 1) arcs) 0 (λ i h. let l = rw length-take at h in rw (get_or-take (length path - 1) arcs i 0 (omega arith)) (omega (arith, arcs_many, (steps.step i (omega arith)).below)));
-      bests_below = λ u from upto. omega (arith, low u from upto, cost_is u from upto);
-    }
-
-    -- what it costs beyond the bests is what its arcs do
-    over_is : over (network n m (length bests) s costs) bests path ≡ excesses m costs bests (take (length path - 1) arcs)
-    unfolding over excesses excess
-    over_is = rw (length_columns n m (length bests) s costs) (map_numbers _ (excess m costs bests (take (length path - 1) arcs)) 1 (length bests) (λ u lo hi. ap (λ x. x - get_or bests (u - 1) 0) (cost_is u lo (omega arith))))
-
-    pub measured_path : {limit f w : ℕ} → Measured limit (largest (excesses m costs bests (take (length path - 1) arcs))) (suc (index (eqb (largest (excesses m costs bests (take (length path - 1) arcs)))) (excesses m costs bests (take (length path - 1) arcs)))) f w
-        → Measured limit (figure_over (network n m (length bests) s costs) bests path) (worst_over (network n m (length bests) s costs) bests path) f w
-    unfolding figure_over worst_over
-    measured_path {limit} {f} {w} r = subst (λ l. Measured limit (largest l) (suc (index (eqb (largest l)) l)) f w) (sym over_is) r
+  pub measured_path : (bests : List ℕ) → length bests ≡ c.count → {limit f w : ℕ} → Measured limit (largest (excesses c.arcs c.costs.now bests arcs)) (suc (index (eqb (largest (excesses c.arcs c.costs.now bests arcs))) (excesses c.arcs c.costs.now bests arcs))) f w
+      → Measured limit (figure_over (network_of c) bests path) (worst_over (network_of c) bests path) f w
+  unfolding figure_over worst_over
+  measured_path bests bests_long {limit} {f} {w} r = subst (λ l. Measured limit (largest l) (suc (index (eqb (largest l)) l)) f w) (sym (over_is bests bests_long)) r

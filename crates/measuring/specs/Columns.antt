@@ -1,8 +1,8 @@
 -- A network kept in two slices: the star, which has the topology of its arcs, and the costs of its columns, one after the other.
 -- Assumes nothing.
-use Rattle.std.specs.Prelude.{ℕ, ◌+◌, ◌*◌, ◌-◌, ◌≤◌, ◌<◌, ◌≡◌, List, [], ◌∷◌, length, get_or, take, drop}
+use Rattle.std.specs.Prelude.{ℕ, ◌*◌, ◌-◌, ◌≤◌, ◌<◌, ◌≡◌, List, [], ◌∷◌, length, get_or, take, drop}
 use Rattle.terms.specs.Network.{Net, cut}
-use Rattle.star.specs.Layout.{tails_of, heads_of, Network}
+use Rattle.star.specs.Layout.{tails_of, heads_of, Holds}
 
 -- the arcs of tails and heads
 unfoldable pub arc_pairs : List ℕ → List ℕ → List (ℕ × ℕ)
@@ -19,9 +19,9 @@ abbrev pub column_costs : ℕ → List ℕ → ℕ → List ℕ
 column_costs m costs u = take m (drop ((u - 1) * m) costs)
 
 -- the slices hold k columns of m arcs between n nodes, within the ranges of an image
-pub record Columns (n m k : ℕ) (s costs : List ℕ) : Type 0 where
+pub record HoldColumns (n m k : ℕ) (s costs : List ℕ) : Type 0 where
   pub columns_from : 1 ≤ k
   pub columns_to : k ≤ 8
   pub costs_long : length costs ≡ k * m
-  pub networks : (u : ℕ) → 1 ≤ u → u ≤ k → Network (n + 1) s (column_costs m costs u)
+  pub graphs : (u : ℕ) → 1 ≤ u → u ≤ k → Holds n s (column_costs m costs u)
   pub costs_to : (i : ℕ) → i < length costs → get_or costs i 0 ≤ 1000000

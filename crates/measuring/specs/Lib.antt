@@ -1,3 +1,4 @@
 pub mod Columns
+pub mod Networks
 pub mod Steps
 pub mod Bests

@@ -1,13 +1,10 @@
 -- The arcs of a path, found once and summed in each column. Assumes nothing.
-use Rattle.std.specs.Prelude.{ℕ, suc, ◌+◌, ◌*◌, ◌-◌, ◌≤◌, ◌<◌, ◌≡◌, List, map, length, get_or, sum_by, All}
+use Rattle.std.specs.Prelude.{ℕ, suc, ◌-◌, ◌≤◌, ◌<◌, ◌≡◌, List, map, length, get_or, sum_by, All}
 use Rattle.terms.specs.Lists.{numbers}
 use Rattle.star.specs.Arcs.{At}
 use Rattle.measuring.specs.Columns.{column_costs}
-
--- each node of the path has a place in first, which holds indices of arcs
-pub record Starred (hs first path : List ℕ) : Type 0 where
-  pub within : (v : ℕ) → v < length first → get_or first v 0 ≤ length hs
-  pub nodes_in : (i : ℕ) → i < length path → get_or path i 0 + 1 < length first
+use Rattle.measuring.specs.Networks.{costs_in}
+use Rattle.measuring.specs.declared.columns.Columns.{Columns}
 
 -- arc arcs[i] goes from path[i] to the next node, of the first c nodes
 pub record Steps (ts hs path arcs : List ℕ) (c : ℕ) : Type 0 where
@@ -30,11 +27,8 @@ pub record Measured (limit figure worst f w : ℕ) : Type 0 where
   pub beyond : limit ≤ f → limit ≤ figure
 
 -- arcs that can be summed in each column, and cost the bests at least
-pub record Summed (m : ℕ) (costs bests arcs : List ℕ) : Type 0 where
-  pub columns_from : 1 ≤ length bests
-  pub columns_to : length bests ≤ 8
-  pub arcs_few : m ≤ 1000
-  pub costs_long : length costs ≡ length bests * m
+pub record Summed (c : Columns) (bests arcs : List ℕ) : Type 0 where
+  pub bests_long : length bests ≡ c.count
   pub steps_few : length arcs ≤ 1000
-  pub arcs_in : All (λ a. a < m) arcs
-  pub bests_below : (u : ℕ) → 1 ≤ u → u ≤ length bests → get_or bests (u - 1) 0 ≤ sum_of (column_costs m costs u) arcs
+  pub arcs_in : All (λ a. a < c.arcs) arcs
+  pub bests_below : (u : ℕ) → 1 ≤ u → u ≤ c.count → get_or bests (u - 1) 0 ≤ sum_of (costs_in c u) arcs

@@ -3,7 +3,8 @@ ghost use Rattle.std.specs.Prelude.{◌≡◌, suc, eqb};
 ghost use Rattle.terms.specs.Lists.{largest, index};
 ghost use Rattle.measuring.specs.Steps.{Summed, excesses, Measured};
 
-use super::sums::arc_sum;
+use crate::columns::Columns;
+use crate::sums::arc_sum;
 
 // A path's greatest regret, and the lowest-numbered column that has it.
 #[derive(Clone, Copy)]
@@ -14,17 +15,16 @@ pub struct Measure {
 
 // The largest excess over the bests, and the first column that has it; an excess that reaches the limit
 // ends it.
-pub fn greatest_excess(m: usize, costs: &[u32], bests: &[u64], arcs: &[u16], limit: u64) -> Measure
-    requires { Summed m costs.now bests.now arcs.now }
-    ensures { Measured limit (largest (excesses m costs.now bests.now arcs.now)) (suc (index (eqb (largest (excesses m costs.now bests.now arcs.now))) (excesses m costs.now bests.now arcs.now))) result.figure result.worst }
+pub fn greatest_excess(columns: &Columns<'_>, bests: &[u64], arcs: &[u16], limit: u64) -> Measure
+    requires { Summed columns.now bests.now arcs.now }
+    ensures { Measured limit (largest (excesses columns.now.arcs columns.now.costs.now bests.now arcs.now)) (suc (index (eqb (largest (excesses columns.now.arcs columns.now.costs.now bests.now arcs.now))) (excesses columns.now.arcs columns.now.costs.now bests.now arcs.now))) result.figure result.worst }
 {
     let mut greatest = Measure {
         figure: 0,
         worst: 1,
     };
     for (i, &best) in bests.iter().enumerate() {
-        let from = i * m;
-        let excess = arc_sum(&costs[from..from + m], arcs) - best;
+        let excess = arc_sum(columns.costs_in(i + 1), arcs) - best;
         if greatest.figure < excess {
             greatest = Measure {
                 figure: excess,

@@ -1,17 +1,24 @@
--- `bests::column_best`: the start's label, or the least cost of a path with the part of the costs that holds the column. Assumes nothing.
+-- `bests::column_best`: the start's label, or the least cost of a path in the column. Assumes nothing.
 use native.Mathlib.Omega.{arith}
-use mathlib.Core.Path.{sym, subst}
+use mathlib.Core.Path.{sym, ◌∙◌, ap₂, subst}
+use Rattle.terms.specs.Paths.{Path}
+use Rattle.terms.specs.Regret.{best}
 use Rattle.measuring.specs.Bests.{Labelled}
-use Rattle.measuring.proofs.BestLaws.{joined_network, best_labelled, best_part}
+use Rattle.measuring.proofs.BestLaws.{best_labelled, joined_path}
 use Rattle.measuring.proofs.bests.column_best.Goals as goal
 
 pub returns-then-u-r : goal.returns-then-u-r
 returns-then-u-r c =
-    let labelled : Labelled c.args.n c.args.m c.args.star.now c.args.costs.now c.args.goal c.args.u c.args.overall.now = subst (λ x. Labelled c.args.n c.args.m c.args.star.now c.args.costs.now c.args.goal x c.args.overall.now) (sym c.if-u-r.true) (c.requires.labelled (omega (arith, c.requires.joined.1, c.if-u-r.true))) in
-    best_labelled c.requires.joined.0 c.requires.joined.1 c.requires.joined.2 labelled
+    let labelled = c.requires.labelled (omega (arith, c.requires.column.from, c.if-u-r.true)) in
+    best_labelled c.requires.joined c.requires.column (subst (λ x. Labelled c.args.columns.now c.args.goal x c.args.overall.now) (sym c.if-u-r.true) labelled)
 
 pub least_cost-requires : goal.least_cost-requires
-least_cost-requires c = (joined_network c.requires.joined.0 c.requires.joined.1 c.requires.joined.2, c.requires.joined.0.start_from, c.requires.joined.0.start_to, c.requires.joined.0.goal_to)
+least_cost-requires c =
+    let J = c.requires.joined in
+    let same = c.column.ensures.nodes in
+    record { start = (J.start_from, omega (arith, J.start_to, same)); goal = omega (arith, J.goal_to, same) }
 
 pub returns : goal.returns
-returns c = best_part c.requires.joined.0 c.requires.joined.1 c.requires.joined.2 c.least_cost.ensures
+returns c =
+    let e = c.column.ensures.graph in
+    c.least_cost.ensures _ (subst (λ g. Path g c.args.start c.args.goal c.requires.joined.route) (sym e) (joined_path c.requires.joined c.requires.column)) ∙ ap₂ (λ n g. best n g c.args.start c.args.goal) c.column.ensures.nodes e

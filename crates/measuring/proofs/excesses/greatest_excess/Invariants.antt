@@ -5,4 +5,4 @@ use Rattle.measuring.specs.Steps.{excess}
 use Rattle.measuring.proofs.excesses.greatest_excess.Given as goal
 
 abbrev pub invariant-loop-i : goal.invariant-loop-i
-invariant-loop-i l = SoFar (excess l.m l.costs l.bests l.arcs) (l.i + 1) l.greatest.figure l.greatest.worst
+invariant-loop-i l = SoFar (excess l.columns.arcs l.columns.costs.now l.bests l.arcs) (l.i + 1) l.greatest.figure l.greatest.worst
