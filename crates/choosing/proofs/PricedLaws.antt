@@ -1,8 +1,7 @@
--- Slices with the costs of several columns: all columns have the same paths, a path is measured, and what it costs beyond the bests is
--- small. Assumes nothing.
+-- Several columns: all have the same paths, a path is measured, and what it costs beyond the bests is small. Assumes nothing.
 use Prim.Native.Nat.{ℕ, ◌+◌, ◌-◌, ◌*◌, ◌≤◌, ◌<◌}
 use native.Mathlib.Omega.{arith}
-use mathlib.Core.Path.{◌≡◌, sym, ◌∙◌, ap, subst}
+use mathlib.Core.Path.{◌≡◌, sym, ◌∙◌, ap, ap₂, subst}
 use mathlib.Core.List.Memᴰ
 use mathlib.Core.List.{List, [], ◌∷◌, map, tail}
 use lib.ListN.{length, drop, get_or}
@@ -11,17 +10,20 @@ use Rattle.terms.specs.Lists.{◌∈◌, last, numbers}
 use Rattle.terms.specs.Network.{Graph, Net, column}
 use Rattle.terms.specs.Paths.{Route, ByArcs, Path, cost}
 use Rattle.terms.specs.Ranking.{ranked}
-use Rattle.terms.specs.Regret.{over, figure_over, worst_over}
+use Rattle.terms.specs.Regret.{over, figure_over}
 use Rattle.terms.specs.Robust.{answer, robust_over}
 use Rattle.terms.proofs.ListLaws.{largest_le, numbers_mem}
 use Rattle.terms.proofs.PathLaws.{Within, of_path, at_most_nodes}
-use Rattle.star.specs.Arcs.{graph, Arcs}
-use Rattle.star.specs.Layout.{tails_of, heads_of, graph_of}
+use Rattle.star.specs.Layout.{tails_of}
 use Rattle.star.proofs.ArcLaws.{graph_within, path_cost_le}
-use Rattle.measuring.specs.Columns.{Columns, network, column_costs}
-use Rattle.choosing.specs.Counting.{Priced, InColumn}
+use Rattle.measuring.specs.Columns.{network}
+use Rattle.measuring.specs.Networks.{network_of, costs_in, IsColumn}
+use Rattle.measuring.specs.declared.columns.Columns.{Columns}
 use Rattle.measuring.proofs.BestLaws.{path_any_column}
-use Rattle.measuring.proofs.ColumnLaws.{length_columns, held_column, column_full, column_inside, column_graph, columns_arcs, columns_few, columns_nodes}
+use Rattle.measuring.proofs.ColumnLaws.{length_columns, held_column, column_full, column_inside, column_arcs, columns_nodes, first_column}
+use Rattle.choosing.specs.declared.contest.Contest.{Contest}
+use Rattle.choosing.specs.Given.{Priced}
+use Rattle.choosing.specs.Contests.{nodes_in, graph_in, ranked_in, low_in, deviation_in, figure_in, worst_in, answer_in}
 
 -- a path between two nodes has two at least
 two_nodes : {g : Graph} {s t : ℕ} {p : Route} → (s ≡ t → ⊥) → Path g s t p → 2 ≤ length p
@@ -33,35 +35,25 @@ two_nodes {s} {t} {p} apart r = long p r.from_start r.to_goal
     long (x ∷ []) e z = let h : x ≡ s = cc in absurd (apart (sym h ∙ z))
     long (x ∷ y ∷ q) e z = omega arith
 
-module _ {n m s t : ℕ} {star costs bests : List ℕ} (Q : Priced n m s t star costs bests) where
+module _ (c : Columns) where
   abbrev net : Net
-  net = network n m (length bests) star costs
+  net = network_of c
 
   -- ---- one column
-  module _ (u : ℕ) (from : 1 ≤ u) (upto : u ≤ length bests) where
-    held : column (network n m (length bests) star costs) u ≡ graph (tails_of m star) (heads_of m star) (column_costs m costs u)
-    held = held_column Q.columns u from upto
-
-    arcs : Arcs n (tails_of m star) (heads_of m star) (column_costs m costs u)
-    arcs = columns_arcs Q.columns u from upto
-
-    light : (i : ℕ) → i < length (tails_of m star) → get_or (column_costs m costs u) i 0 ≤ 1000000
+  module _ {u : ℕ} (C : IsColumn c u) where
+    light : (i : ℕ) → i < length (tails_of c.arcs c.star.now) → get_or (costs_in c u) i 0 ≤ 1000000
     light i h =
-        let l : i < m = omega (arith, arcs.weights_long, column_full m u costs Q.columns.costs_long from upto) in
-        let e = get_or-take m (drop ((u - 1) * m) costs) i 0 l ∙ get_or-drop ((u - 1) * m) costs i 0 in
-        rw e (Q.columns.costs_to ((u - 1) * m + i) (omega (arith, column_inside costs Q.columns.columns_to (columns_few Q.columns) Q.columns.costs_long from upto)))
+        let l : i < c.arcs = omega (arith, (column_arcs c C).weights_long, column_full c C) in
+        let e = get_or-take c.arcs (drop ((u - 1) * c.arcs) c.costs.now) i 0 l ∙ get_or-drop ((u - 1) * c.arcs) c.costs.now i 0 in
+        rw e (c.held.costs_to ((u - 1) * c.arcs + i) (omega (arith, column_inside c C)))
 
-    pub cost_to : {p : Route} → Path (column (network n m (length bests) star costs) u) s t p → cost (column (network n m (length bests) star costs) u) p ≤ 199000000
-    cost_to r = rw held (path_cost_le arcs 1000000 light (rw held at r))
+    pub cost_to : {s t : ℕ} {p : Route} → Path (column (network_of c) u) s t p → cost (column (network_of c) u) p ≤ 199000000
+    cost_to r = rw (held_column c C) (path_cost_le (column_arcs c C) 1000000 light (rw (held_column c C) at r))
 
-  -- ---- a path in column 1 is one in all
-  path_all : (u : ℕ) → 1 ≤ u → u ≤ length bests → {p : Route} → Path (column (network n m (length bests) star costs) 1) s t p → Path (column (network n m (length bests) star costs) u) s t p
-  path_all u lo hi r = path_any_column Q.columns 1 u (omega arith) Q.columns.columns_from lo hi r
-
-  -- ---- what it costs beyond the bests is small
-  pub figure_to : (p : Route) → Path (column (network n m (length bests) star costs) 1) s t p → figure_over (network n m (length bests) star costs) bests p ≤ 199000000
+  -- ---- what a path costs beyond the bests is small
+  pub figure_to : (bests : List ℕ) {s t : ℕ} (p : Route) → Path (column (network_of c) 1) s t p → figure_over (network_of c) bests p ≤ 199000000
   unfolding figure_over over
-  figure_to p r = largest_le 199000000 (map beyond (numbers 1 (length net.columns))) (λ y k. small (Memᴰ.of_map beyond (numbers 1 (length net.columns)) k))
+  figure_to bests p r = largest_le 199000000 (map beyond (numbers 1 (length net.columns))) (λ y k. small (Memᴰ.of_map beyond (numbers 1 (length net.columns)) k))
     where
       beyond : ℕ → ℕ
       beyond u = cost (column net u) p - get_or bests (u - 1) 0
@@ -69,38 +61,37 @@ module _ {n m s t : ℕ} {star costs bests : List ℕ} (Q : Priced n m s t star 
       small : {y : ℕ} → (u : ℕ) × (u ∈ numbers 1 (length net.columns)) × (beyond u ≡ y) → y ≤ 199000000
       small (u, k, e) =
           let b = numbers_mem 1 (length net.columns) k in
-          let hi : u ≤ length bests = omega (arith, length_columns n m (length bests) star costs) in
-          omega (arith, e, cost_to u b.0 hi (path_all u b.0 hi r))
+          let C : IsColumn c u = record { from = b.0; upto = omega (arith, length_columns c.nodes c.arcs c.count c.star.now c.costs.now) } in
+          omega (arith, e, cost_to C (path_any_column c (first_column c) C r))
 
   -- ---- a path can be measured
-  module _ {p : Route} (from : 1 ≤ s) (upto : s ≤ n) (apart : s ≡ t → ⊥) (r : Path (column (network n m (length bests) star costs) 1) s t p) where
+  module _ {s t : ℕ} {bests : List ℕ} (Q : Priced c s t bests) {p : Route} (from : 1 ≤ s) (upto : s ≤ c.nodes) (apart : s ≡ t → ⊥) (r : Path (column (network_of c) 1) s t p) where
     short : length p ≤ 200
-    short =
-        let first = Q.columns.columns_from in
-        omega (arith, at_most_nodes (subst (Within n) (sym (held 1 (omega arith) first)) (graph_within (arcs 1 (omega arith) first))) from upto (of_path r), columns_nodes Q.columns)
+    short = omega (arith, at_most_nodes (subst (Within c.nodes) (sym (held_column c (first_column c))) (graph_within (column_arcs c (first_column c)))) from upto (of_path r), columns_nodes c)
 
-    pub measurable : Columns n m (length bests) star costs × (ByArcs (column (network n m (length bests) star costs) 1) p × (((2 ≤ length p) × (length p ≤ 200))
-        × ((u : ℕ) → 1 ≤ u → u ≤ length bests → get_or bests (u - 1) 0 ≤ cost (column (network n m (length bests) star costs) u) p)))
-    measurable = (Q.columns, (r.by_arcs, ((two_nodes apart r, short), λ u lo hi. Q.no_less u lo hi p (path_all u lo hi r))))
+    pub measurable : ByArcs (column (network_of c) 1) p × (((2 ≤ length p) × (length p ≤ 200)) × ((u : ℕ) → 1 ≤ u → u ≤ c.count → get_or bests (u - 1) 0 ≤ cost (column (network_of c) u) p))
+    measurable = (r.by_arcs, ((two_nodes apart r, short), λ u lo hi. Q.no_less u lo hi p (path_any_column c (first_column c) (record { from = lo; upto = hi }) r)))
 
-  -- ---- the graph of the weights is column r's, so the answer is that of its ranked list
-  module _ {r : ℕ} {ws : List ℕ} (I : InColumn r m (length bests) ws costs) where
-    pub column_is : column (network n m (length bests) star costs) r ≡ graph_of star ws
-    column_is = column_graph Q.columns r I.from I.upto ∙ ap (graph_of star) (sym I.weights_are)
+-- ---- the paths that are ranked are column r's, so the answer is that of their list
+module _ (x : Contest) where
+  pub robust_is : answer_in x ≡ answer (deviation_in x) (figure_in x) (worst_in x) (ranked_in x) x.wanted
+  unfolding robust_over network
+  robust_is = ap₂ (λ n g. answer (λ p. cost g p - low_in x) (figure_in x) (worst_in x) (ranked n g x.query.start x.query.goal) x.wanted) (sym x.posed.nodes_are) (sym x.posed.arcs_are)
 
-    pub robust_is : (K : ℕ) → robust_over (network n m (length bests) star costs) bests r s t K ≡ answer (λ p. cost (graph_of star ws) p - get_or bests (r - 1) 0) (figure_over (network n m (length bests) star costs) bests) (worst_over (network n m (length bests) star costs) bests) (ranked n (graph_of star ws) s t) K
-    unfolding robust_over network
-    robust_is K = ap (λ g. answer (λ p. cost g p - get_or bests (r - 1) 0) (figure_over net bests) (worst_over net bests) (ranked n g s t) K) column_is
+  in_own : {p : Route} → Path (graph_in x) x.query.start x.query.goal p → Path (column (network_of x.columns) x.column) x.query.start x.query.goal p
+  in_own {p} q = subst (λ g. Path g x.query.start x.query.goal p) x.posed.arcs_are q
 
-    in_own : {p : Route} → Path (graph_of star ws) s t p → Path (column (network n m (length bests) star costs) r) s t p
-    in_own {p} q = subst (λ g. Path g s t p) (sym column_is) q
+  pub column_one : {p : Route} → Path (graph_in x) x.query.start x.query.goal p → Path (column (network_of x.columns) 1) x.query.start x.query.goal p
+  column_one q = path_any_column x.columns x.posed.in_column (first_column x.columns) (in_own q)
 
-    pub column_one : {p : Route} → Path (graph_of star ws) s t p → Path (column (network n m (length bests) star costs) 1) s t p
-    column_one q = path_any_column Q.columns r 1 I.from I.upto (omega arith) Q.columns.columns_from (in_own q)
+  -- and each can be measured
+  pub measurable_in : {p q : Route} → q ≡ p → Path (graph_in x) x.query.start x.query.goal p
+      → ByArcs (column (network_of x.columns) 1) q × (((2 ≤ length q) × (length q ≤ 200)) × ((u : ℕ) → 1 ≤ u → u ≤ x.columns.count → get_or x.bests.now (u - 1) 0 ≤ cost (column (network_of x.columns) u) q))
+  measurable_in e r = measurable x.columns x.posed.priced x.query.posed.start_from (omega (arith, x.query.posed.start_to, x.posed.nodes_are)) x.query.posed.apart (subst (Path (column (network_of x.columns) 1) x.query.start x.query.goal) (sym e) (column_one r))
 
-    -- no path costs less than the best of r, or more than 199,000,000
-    pub low_no_less : (p : Route) → Path (graph_of star ws) s t p → get_or bests (r - 1) 0 ≤ cost (graph_of star ws) p
-    low_no_less p q = subst (λ g. get_or bests (r - 1) 0 ≤ cost g p) column_is (Q.no_less r I.from I.upto p (in_own q))
+  -- no path costs less than the best of the column, or more than 199,000,000
+  pub low_no_less : (p : Route) → Path (graph_in x) x.query.start x.query.goal p → low_in x ≤ cost (graph_in x) p
+  low_no_less p q = subst (λ g. low_in x ≤ cost g p) (sym x.posed.arcs_are) (x.posed.priced.no_less x.column x.posed.in_column.from x.posed.in_column.upto p (in_own q))
 
-    pub own_cost_to : (p : Route) → Path (graph_of star ws) s t p → cost (graph_of star ws) p ≤ 199000000
-    own_cost_to p q = subst (λ g. cost g p ≤ 199000000) column_is (cost_to r I.from I.upto (in_own q))
+  pub own_cost_to : (p : Route) → Path (graph_in x) x.query.start x.query.goal p → cost (graph_in x) p ≤ 199000000
+  own_cost_to p q = subst (λ g. cost g p ≤ 199000000) (sym x.posed.arcs_are) (cost_to x.columns x.posed.in_column (in_own q))

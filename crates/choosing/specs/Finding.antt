@@ -3,16 +3,8 @@ use Rattle.std.specs.Prelude.{ℕ, ◌≤◌, ◌≡◌, List, IfSome}
 use Rattle.terms.specs.Paths.{Route}
 use Rattle.terms.specs.Robust as terms
 use Rattle.candidates.specs.Routes.{route_at, Rooted}
-use Rattle.choosing.specs.declared.counting.Leader.{Leader}
 use Rattle.choosing.specs.declared.searching.Finding.{Finding}
-use Rattle.choosing.specs.Counting.{Ended}
 use Rattle.choosing.specs.Answers.{answer_of}
-
--- what is found with a leader when j paths are counted
-pub record Judged (n : ℕ) (w : List ℕ) (count j low : ℕ) (l : Leader) (f : Finding) : Type 0 where
-  pub leader_is : f.leader ≡ l
-  pub count_is : f.count ≡ j
-  pub ended : Ended n w count j low l.figure f.floor
 
 -- the answer that it gives, with p the leader's path
 abbrev pub told : Route → Finding → terms.Answer

@@ -1,3 +1,5 @@
+pub mod Given
+pub mod Contests
 pub mod Leader
 pub mod Counting
 pub mod Finding

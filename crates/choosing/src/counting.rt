@@ -1,19 +1,13 @@
 // Paths are counted in the ranking order, and the earliest with the least figure leads.
-ghost use Rattle.std.specs.Prelude.{◌≡◌, ◌+◌, ◌≤◌, ◌<◌, length};
-ghost use Rattle.terms.specs.Network.{column};
+ghost use Rattle.std.specs.Prelude.{◌≡◌};
 ghost use Rattle.terms.specs.Paths.{Path};
-ghost use Rattle.terms.specs.Regret.{figure_over, worst_over};
-ghost use Rattle.candidates.specs.Slots.{entry_at};
-ghost use Rattle.candidates.specs.Keeping.{Readable};
 ghost use Rattle.candidates.specs.Routes.{route_at, Rooted};
-ghost use Rattle.branching.specs.Found.{Ends};
-ghost use Rattle.measuring.specs.Columns.{network};
-ghost use Rattle.measuring.specs.Steps.{Measured};
-ghost use Rattle.choosing.specs.Counting.{Priced, Counted, Outlook};
+ghost use Rattle.choosing.specs.Contests.{nodes_in, graph_in};
+ghost use Rattle.choosing.specs.Counting.{Counting, Counted, Outlook};
 
-use crate::task::Task;
+use crate::contest::Contest;
 use candidates::{cost_at, lay_out, length_at};
-use measuring::{Measure, measure};
+use measuring::measure;
 
 // The earliest path with the least figure of those counted: its place among the ranked paths, its
 // figure and its worst column.
@@ -24,68 +18,42 @@ pub struct Leader {
     pub worst: u32,
 }
 
-// Whether the path at a place is the next to be counted: there is one, its deviation in the column is
-// below the least figure so far, and it is wanted. `best` is the column's best.
-pub fn due(
+// The deviation of the path at a place, behind those counted, if there is one and its deviation is below the
+// least figure so far: else the stopping rule holds there.
+pub fn next_deviation(
+    contest: &Contest<'_>,
     work: &[u32],
-    n: usize,
     count: usize,
     place: usize,
-    best: u64,
-    figure: u64,
-    wanted: usize,
-) -> bool
-    requires readable { Readable n work.now count × (place ≤ count) }
-    requires best_bound { place < count → best ≤ (entry_at n work.now place).cost }
-    ensures { Outlook n work.now count place (best + figure) wanted result }
+    leader: Leader,
+) -> Option<u64>
+    requires { Counting contest.now work.now count place leader }
+    ensures { Outlook contest.now work.now count place leader.figure result }
 {
-    place < count && cost_at(work, n, place) - best < figure && place < wanted
-}
-
-// The most that the path at the place `rank` costs beyond the bests, and its worst column, if it is below the
-// limit. The path is laid out in `path`; m is the number of arcs.
-fn measure_at(
-    task: Task,
-    star: &[u16],
-    m: usize,
-    costs: &[u32],
-    bests: &[u64],
-    work: &[u32],
-    rank: usize,
-    limit: u64,
-    path: &mut [u16],
-) -> Measure
-    requires priced { Priced task.n m task.start task.goal star.now costs.now bests.now }
-    requires ends { Ends (task.n + 1) task.start task.goal × (task.n ≤ length path.old) }
-    requires rooted { Rooted task.n work.now rank × Path (column (network task.n m (length bests.now) star.now costs.now) 1) task.start task.goal (route_at task.start task.n work.now rank) }
-    ensures { Measured limit (figure_over (network task.n m (length bests.now) star.now costs.now) bests.now (route_at task.start task.n work.now rank)) (worst_over (network task.n m (length bests.now) star.now costs.now) bests.now (route_at task.start task.n work.now rank)) result.figure result.worst }
-{
-    let n = task.n;
-    let len = length_at(work, n, rank);
-    lay_out(work, n, rank, len, task.start, path);
-    measure(star, m, costs, bests, n, &path[..len], limit)
+    if place < count {
+        let next = cost_at(work, contest.query.graph.nodes, place);
+        let deviation = next - contest.best();
+        if deviation < leader.figure {
+            return Some(deviation);
+        }
+    }
+    None
 }
 
 // Counts the path at the place `rank`, which is the next: it is measured, and leads from now on if its
 // figure is smaller than the leader's.
-pub fn count_path(
-    task: Task,
-    star: &[u16],
-    m: usize,
-    costs: &[u32],
-    bests: &[u64],
-    work: &[u32],
-    rank: usize,
-    leader: Leader,
-) -> Leader
-    requires priced { Priced task.n m task.start task.goal star.now costs.now bests.now }
-    requires ends { Ends (task.n + 1) task.start task.goal }
-    requires rooted { Rooted task.n work.now rank × Path (column (network task.n m (length bests.now) star.now costs.now) 1) task.start task.goal (route_at task.start task.n work.now rank) }
-    ensures { Counted (network task.n m (length bests.now) star.now costs.now) bests.now (route_at task.start task.n work.now rank) rank leader result }
+pub fn count_path(contest: &Contest<'_>, work: &[u32], rank: usize, leader: Leader) -> Leader
+    requires rooted { Rooted (nodes_in contest.now) work.now rank }
+    requires is_path { Path (graph_in contest.now) contest.now.query.start contest.now.query.goal (route_at contest.now.query.start (nodes_in contest.now) work.now rank) }
+    ensures { Counted contest.now (route_at contest.now.query.start (nodes_in contest.now) work.now rank) rank leader result }
 {
-    let mut path = [0u16; 200];
+    let n = contest.query.graph.nodes;
+    let len = length_at(work, n, rank);
+    let mut room = [0u16; 200];
+    let path = &mut room[..len];
+    lay_out(work, n, rank, len, contest.query.start, path);
     let limit = leader.figure;
-    let found = measure_at(task, star, m, costs, bests, work, rank, limit, &mut path);
+    let found = measure(&contest.columns, contest.bests, path, limit);
     if found.figure < limit {
         return Leader {
             place: rank,
