@@ -3,7 +3,7 @@
 // image stands a map of closed arcs, which may be empty.
 ghost use Rattle.std.specs.Prelude.{◌≡◌, [], ◌+◌, ◌*◌, ◌≤◌, ◌<◌, length, take};
 ghost use Rattle.closures.specs.Map.{without};
-ghost use Rattle.star.specs.Layout as layout;
+ghost use Rattle.star.specs.Graphs.{arcs_of};
 ghost use Rattle.labels.specs.Labels.{Least};
 ghost use Rattle.loading.specs.Accepted.{Node, InColumn};
 ghost use Rattle.loading.specs.Networks.{net};
@@ -17,19 +17,15 @@ use crate::network::Network;
 use labels::least;
 use star::Graph;
 
-// Labels each node of a graph in two slices with its least cost to the goal.
-pub fn label_nodes(star: &[u16], weights: &[u32], goal: usize, overall: &mut [u64])
-    requires { layout.Network (length overall.old) star.now weights.now × (goal < length overall.old) }
-    ensures { Least (layout.graph_of star.now weights.now) [] goal overall.new }
+// Labels each node of a graph with its least cost to the goal.
+pub fn label_nodes(graph: &Graph<'_>, goal: usize, overall: &mut [u64])
+    requires goal { goal ≤ graph.now.nodes }
+    requires overall_long { length overall.old ≡ graph.now.nodes + 1 }
+    ensures { Least (arcs_of graph.now) [] goal overall.new }
 {
     let barred = [false; 201];
     let places = overall.len();
-    let graph = Graph {
-        nodes: places - 1,
-        star,
-        weights,
-    };
-    least(&graph, &barred[..places], goal, overall);
+    least(graph, &barred[..places], goal, overall);
 }
 
 // Reads the arcs at these indices, all of them open in column u, and labels each node with its least cost to
@@ -51,7 +47,12 @@ fn label_column(
 {
     fill_star(network, kept, star);
     read_column(network, u, kept, weights);
-    label_nodes(star, weights, goal, overall);
+    let graph = Graph {
+        nodes: network.sizes.n as usize,
+        star,
+        weights,
+    };
+    label_nodes(&graph, goal, overall);
 }
 
 // Loads column u, with room for the indices of its arcs.

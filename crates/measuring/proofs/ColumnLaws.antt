@@ -25,6 +25,12 @@ weigh_pairs (t ∷ ts) [] ws = refl
 weigh_pairs (t ∷ ts) (h ∷ hs) [] = refl
 weigh_pairs (t ∷ ts) (h ∷ hs) (w ∷ ws) = ap (λ g. record { tail = t; head = h; weight = w } ∷ g) (weigh_pairs ts hs ws)
 
+pairs_long : (ts hs : List ℕ) → length hs ≡ length ts → length (arc_pairs ts hs) ≡ length ts
+unfolding arc_pairs
+pairs_long [] hs e = refl
+pairs_long (t ∷ ts) [] e = absurd (omega arith)
+pairs_long (t ∷ ts) (h ∷ hs) e = ap suc (pairs_long ts hs (omega arith))
+
 module _ (n m k : ℕ) (s costs : List ℕ) where
   pub length_columns : length (network n m k s costs).columns ≡ k
   unfolding network
@@ -93,6 +99,12 @@ module _ (c : Columns) where
 
   pub columns_nodes : c.nodes ≤ 200
   columns_nodes = (column_arcs first_column).few_nodes
+
+  pub length_arcs : length (network_of c).arcs ≡ c.arcs
+  unfolding network
+  length_arcs =
+      let A = column_arcs first_column in
+      pairs_long (tails_of c.arcs c.star.now) (heads_of c.arcs c.star.now) A.heads_long ∙ sym A.weights_long ∙ column_full first_column
 
   -- the part of the costs that holds a column lies inside
   pub column_inside : {u : ℕ} → IsColumn c u → ((u - 1) * c.arcs + c.arcs ≤ length c.costs.now) × (length c.costs.now ≤ 8000)

@@ -22,7 +22,6 @@ use Rattle.terms.proofs.PathLaws.{unseen, unseen_lt}
 use Rattle.star.specs.Arcs.{graph, Arcs}
 use Rattle.star.proofs.ArcLaws.{linked_at, at_linked}
 use Rattle.star.specs.Star.{Star}
-use Rattle.star.specs.Layout.{Network, tails_of, heads_of, outs_of}
 use Rattle.image.specs.Outcome.{sound}
 use Rattle.outcomes.specs.Calls.{list_row}
 use Rattle.loading.specs.Accepted.{Node}
@@ -99,17 +98,6 @@ module _ {n : ℕ} {ts hs ws : List ℕ} (arcs : Arcs n ts hs ws) (nodes : List 
           distinct = fresh k.1 before.distinct;
           nodes_of = λ x m. ⊎_elim (λ e. let q : x ≡ get_or hs arc.0 0 = e ∙ sym arc.1.head_is in rw q (record { from = arcs.head_from arc.0 arc.1.below; upto = arcs.head_to arc.0 arc.1.below })) (before.nodes_of x) (Memᴰ.cases_cons m);
         }
-
--- ---- a graph of n nodes in two slices, for a start that is one of them
-module _ {n s : ℕ} {star ws : List ℕ} (given : Network (n + 1) star ws × Node n s) where
-  nodes_are : given.0.nodes ≡ n
-  nodes_are = omega (arith, given.0.places)
-
-  pub arcs_for : Arcs n (tails_of (length ws) star) (heads_of (length ws) star) ws
-  arcs_for = subst (λ n. Arcs n (tails_of (length ws) star) (heads_of (length ws) star) ws) nodes_are given.0.arcs
-
-  pub star_for : Star n (tails_of (length ws) star) (heads_of (length ws) star) (outs_of (n + 1) (length ws) star)
-  star_for = subst (λ k. Star k (tails_of (length ws) star) (heads_of (length ws) star) (outs_of (n + 1) (length ws) star)) nodes_are given.0.star
 
 -- ---- the arcs of a list can be looked for where it begins with a node
 pub followed : {n s : ℕ} {ts hs ws outs nodes : List ℕ} → Arcs n ts hs ws → Star n ts hs outs → Node n s → 1 ≤ length nodes → get_or nodes 0 0 ≡ s → Followed hs outs nodes

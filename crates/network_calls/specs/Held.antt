@@ -1,24 +1,23 @@
 -- The arcs of an accepted image that are open in every column, with all columns for them and each column's best, and what else the measure of
 -- a path, or a search for the path of least greatest regret, is asked and lent. Assumes nothing.
 use Rattle.std.specs.Prelude.{ℕ, ◌+◌, ◌*◌, ◌≤◌, ◌≡◌, List, length}
-use Rattle.terms.specs.Network.{Net, cost_column, column, common}
+use Rattle.terms.specs.Network.{Net, column, common}
 use Rattle.terms.specs.Paths.{Route, OpenPath}
 use Rattle.terms.specs.Regret as terms
 use Rattle.image.specs.Outcome.{Fault}
 use Rattle.image.specs.Layout.{net_of}
 use Rattle.loading.specs.Accepted.{InColumn, Ends}
 use Rattle.loading.specs.Loaded.{star_size}
-use Rattle.measuring.specs.Columns.{network, column_costs}
-use Rattle.choosing.specs.Counting.{Priced}
+use Rattle.measuring.specs.declared.columns.Columns.{Columns}
+use Rattle.choosing.specs.Given.{Priced}
 use Rattle.outcomes.specs.Calls.{no_path_row}
-use Rattle.choosing.specs.declared.task.Task.{Task}
+use Rattle.network_calls.specs.declared.chosen.Task.{Task}
 
 -- ---- what is asked
 -- the task is one in the network of image b
 pub record Asked (b : List ℕ) (task : Task) : Type 0 where
   pub in_column : InColumn b task.column
   pub ends : Ends (net_of b).nodes task.start task.goal
-  pub nodes_are : task.n ≡ (net_of b).nodes
 
 -- row 15 for a network: no path from s to t is open in every column
 abbrev pub no_open_path : Net → ℕ → ℕ → ℕ → Fault
@@ -31,12 +30,10 @@ pub record Reached (net : Net) (s t : ℕ) : Type 0 where
   pub route : Route
   pub path : OpenPath net s t route
 
--- the slices hold the m arcs that are open in every column and all columns for them, one after the other, and best(u) for each column u
-pub record Held (net : Net) (m s t : ℕ) (star costs bests : List ℕ) : Type 0 where
-  pub network_is : network net.nodes m (length bests) star costs ≡ common net
-  pub costs_of : (u : ℕ) → 1 ≤ u → u ≤ length bests → column_costs m costs u ≡ cost_column (common net) u
+-- best(u) for each column u of the network, whose arcs that are open in every column have the columns c
+pub record Held (net : Net) (c : Columns) (s t : ℕ) (bests : List ℕ) : Type 0 where
   pub bests_are : bests ≡ terms.bests net s t
-  pub priced : Priced net.nodes m s t star costs bests
+  pub priced : Priced c s t bests
 
 -- ---- what is lent
 -- room for a star of m arcs between n nodes, and for k columns of m costs with their bests

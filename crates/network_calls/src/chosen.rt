@@ -1,167 +1,97 @@
 // The path whose greatest regret is least, of an accepted image.
-ghost use Rattle.std.specs.Prelude.{◌≡◌, ◌+◌, ◌≤◌, length, get_or, replicate};
-ghost use Rattle.terms.specs.Ranking.{ranked};
-ghost use Rattle.terms.specs.Robust.{robust, robust_over};
+ghost use Rattle.std.specs.Prelude.{◌≡◌, ◌+◌, ◌≤◌, length, replicate};
+ghost use Rattle.terms.specs.Robust.{robust};
 ghost use Rattle.closures.specs.Map.{without};
-ghost use Rattle.star.specs.Layout.{graph_of, Holds};
-ghost use Rattle.labels.specs.Labels.{far};
-ghost use Rattle.ranking.specs.Ranking.{Problem, Space};
-ghost use Rattle.measuring.specs.Columns.{network};
-ghost use Rattle.choosing.specs.Counting.{Priced};
-ghost use Rattle.choosing.specs.Counting as counting;
+ghost use Rattle.ranking.specs.Ranking.{Space};
+ghost use Rattle.choosing.specs.Contests.{nodes_in, answer_in};
 ghost use Rattle.image.specs.Outcome.{sound, outcome, after};
 ghost use Rattle.image.specs.Answers.{answer};
 ghost use Rattle.network_calls.specs.Answers.{decision_list};
 ghost use Rattle.outcomes.specs.Calls.{robust_of, chosen, robust_values, cleared};
 ghost use Rattle.loading.specs.Accepted.{InColumn, Ends};
 ghost use Rattle.loading.specs.Networks.{net};
-ghost use Rattle.loading.specs.Loaded.{Shared};
-ghost use Rattle.measuring.specs.Bests.{Labelled};
 ghost use Rattle.network_calls.specs.Held.{Asked, no_open_path, ChoiceRoom, ChoiceSlices};
 
+use super::common::load_columns;
 use super::pricing::{Trip, price};
-use choosing::{Decision, Task, least_regret};
+use choosing::{Contest, Decision, least_regret};
 use image::Refusal;
 use labels::FAR;
 use listing::clear;
-use loading::{Network, label_nodes, load_common_left};
+use loading::{Network, label_nodes};
+use ranking::Query;
 
-// Chooses the path, with all columns and bests for them at hand, and writes it. The workspace is cleared.
-fn choose_priced(
-    task: Task,
-    star: &[u16],
-    weights: &[u32],
-    overall: &[u64],
-    costs: &[u32],
-    bests: &[u64],
-    work: &mut [u32],
-    path: &mut [u16],
-) -> Decision
-    requires problem { Holds task.n star.now weights.now × Problem task.n task.start task.goal (graph_of star.now weights.now) overall.now × Space task.n (task.wanted + 1) work.old }
-    requires priced { Priced task.n (length weights.now) task.start task.goal star.now costs.now bests.now }
-    requires in_column { counting.InColumn task.column (length weights.now) (length bests.now) weights.now costs.now }
-    requires le_wanted { (1 ≤ task.wanted) × (1 ≤ length (ranked task.n (graph_of star.now weights.now) task.start task.goal)) }
-    requires n_in_bounds { task.n ≤ length path.old }
-    ensures result_value { decision_list result ≡ robust_values (robust_over (network task.n (length weights.now) (length bests.now) star.now costs.now) bests.now task.column task.start task.goal task.wanted) }
-    ensures path_after { path.new ≡ after sound (chosen (robust_over (network task.n (length weights.now) (length bests.now) star.now costs.now) bests.now task.column task.start task.goal task.wanted)) path.old }
+// What is asked: a path from start to goal, whose greatest regret is least among the first `wanted` paths
+// that are ranked in a column.
+#[derive(Clone, Copy)]
+pub struct Task {
+    pub start: u16,
+    pub goal: usize,
+    pub column: usize,
+    pub wanted: usize,
+}
+
+// Chooses the path of a contest, and writes it. The workspace is cleared.
+fn choose_priced(contest: &Contest<'_>, work: &mut [u32], path: &mut [u16]) -> Decision
+    requires space { Space (nodes_in contest.now) contest.now.query.slots work.old }
+    requires path_long { nodes_in contest.now ≤ length path.old }
+    ensures result_value { decision_list result ≡ robust_values (answer_in contest.now) }
+    ensures path_after { path.new ≡ after sound (chosen (answer_in contest.now)) path.old }
     ensures work_after { work.new ≡ replicate (length work.old) 0 }
 {
-    let decision = least_regret(task, star, weights, overall, costs, bests, work, path);
+    let decision = least_regret(contest, work, path);
     clear(work);
     decision
 }
 
-// The same where there is a path: the column's labels are at hand, and the bests are searched for.
-fn choose_reached(
-    network: &Network<'_>,
-    closed: &[u64],
-    m: usize,
-    task: Task,
-    star: &[u16],
-    costs: &[u32],
-    overall: &[u64],
-    bests: &mut [u64],
-    work: &mut [u32],
-    path: &mut [u16],
-) -> Decision
-    requires asked { Asked network.now.image.now task }
-    requires shared { Shared (without closed.now (net network.now)) m star.now costs.now }
-    requires labelled { Labelled task.n m star.now costs.now task.goal task.column overall.now × (get_or overall.now task.start 0 ≡ far → ⊥) }
-    requires bests_len { (length bests.old ≡ network.now.sizes.k) × ChoiceSlices (net network.now).nodes task.wanted path.old work.old }
-    ensures result_value { decision_list result ≡ robust_values (robust (without closed.now (net network.now)) task.column task.start task.goal task.wanted) }
-    ensures path_after { path.new ≡ after sound (chosen (robust (without closed.now (net network.now)) task.column task.start task.goal task.wanted)) path.old }
-    ensures work_after { work.new ≡ replicate (length work.old) 0 }
-{
-    let r = task.column;
-    let trip = Trip {
-        start: task.start as usize,
-        goal: task.goal,
-        labelled: r,
-    };
-    price(network, closed, m, trip, star, costs, overall, bests);
-    let from = (r - 1) * m;
-    let to = from + m;
-    choose_priced(
-        task,
-        star,
-        &costs[from..to],
-        overall,
-        costs,
-        bests,
-        work,
-        path,
-    )
-}
-
-// The same with the arcs that are open in every column at hand, and all columns for them. Nothing is touched
-// if there is no path.
-fn choose_shared(
-    network: &Network<'_>,
-    closed: &[u64],
-    m: usize,
-    task: Task,
-    star: &[u16],
-    costs: &[u32],
-    overall: &mut [u64],
-    bests: &mut [u64],
-    work: &mut [u32],
-    path: &mut [u16],
-) -> Result<Decision, Refusal>
-    requires asked { Asked network.now.image.now task }
-    requires shared { Shared (without closed.now (net network.now)) m star.now costs.now }
-    requires overall_len { (length overall.old ≡ network.now.sizes.n + 1) × (length bests.old ≡ network.now.sizes.k) × ChoiceSlices (net network.now).nodes task.wanted path.old work.old }
-    ensures result_value { answer decision_list result ≡ outcome (no_open_path (without closed.now (net network.now)) task.column task.start task.goal) (robust_values (robust (without closed.now (net network.now)) task.column task.start task.goal task.wanted)) }
-    ensures path_after { path.new ≡ after (no_open_path (without closed.now (net network.now)) task.column task.start task.goal) (chosen (robust (without closed.now (net network.now)) task.column task.start task.goal task.wanted)) path.old }
-    ensures work_after { work.new ≡ cleared (no_open_path (without closed.now (net network.now)) task.column task.start task.goal) work.old }
-{
-    let r = task.column;
-    let start = task.start as usize;
-    let from = (r - 1) * m;
-    let to = from + m;
-    label_nodes(star, &costs[from..to], task.goal, overall);
-    if overall[start] == FAR {
-        return Err(Refusal::NoPath);
-    }
-    Ok(choose_reached(
-        network, closed, m, task, star, costs, overall, bests, work, path,
-    ))
-}
-
-// The same from the image on, with room for all that the search needs.
-fn choose_in(
+// Chooses the path of an accepted image without the arcs that the map closes, with room for all that the
+// search needs. Nothing is touched if there is no path.
+fn choose_in<'a>(
     network: &Network<'_>,
     closed: &[u64],
     task: Task,
-    star: &mut [u16],
-    costs: &mut [u32],
-    overall: &mut [u64],
-    bests: &mut [u64],
+    star: &'a mut [u16],
+    costs: &'a mut [u32],
+    overall: &'a mut [u64],
+    bests: &'a mut [u64],
     work: &mut [u32],
     path: &mut [u16],
 ) -> Result<Decision, Refusal>
     requires asked { Asked network.now.image.now task }
     requires choice_room { ChoiceRoom network.now.sizes.n network.now.sizes.m network.now.sizes.k star.old costs.old bests.old }
-    requires overall_len { (length overall.old ≡ network.now.sizes.n + 1) × ChoiceSlices (net network.now).nodes task.wanted path.old work.old }
+    requires overall_long { length overall.old ≡ network.now.sizes.n + 1 }
+    requires choice_slices { ChoiceSlices (net network.now).nodes task.wanted path.old work.old }
     ensures result_value { answer decision_list result ≡ outcome (no_open_path (without closed.now (net network.now)) task.column task.start task.goal) (robust_values (robust (without closed.now (net network.now)) task.column task.start task.goal task.wanted)) }
     ensures path_after { path.new ≡ after (no_open_path (without closed.now (net network.now)) task.column task.start task.goal) (chosen (robust (without closed.now (net network.now)) task.column task.start task.goal task.wanted)) path.old }
     ensures work_after { work.new ≡ cleared (no_open_path (without closed.now (net network.now)) task.column task.start task.goal) work.old }
 {
-    let m = load_common_left(network, closed, star, costs);
-    let places = overall.len();
-    let size = 3 * m + places + 1 + places;
-    let all = m * bests.len();
-    choose_shared(
-        network,
-        closed,
-        m,
-        task,
-        &star[..size],
-        &costs[..all],
-        overall,
+    let columns = load_columns(network, closed, star, costs);
+    let graph = columns.column(task.column);
+    label_nodes(&graph, task.goal, overall);
+    if overall[task.start as usize] == FAR {
+        return Err(Refusal::NoPath);
+    }
+    let trip = Trip {
+        start: task.start as usize,
+        goal: task.goal,
+        labelled: task.column,
+    };
+    price(network, closed, &columns, trip, overall, bests);
+    let query = Query {
+        graph,
+        labels: overall,
+        start: task.start,
+        goal: task.goal,
+        slots: task.wanted + 1,
+    };
+    let contest = Contest {
+        columns,
         bests,
-        work,
-        path,
-    )
+        column: task.column,
+        query,
+        wanted: task.wanted,
+    };
+    Ok(choose_priced(&contest, work, path))
 }
 
 // The same, with room made for it.
@@ -188,14 +118,12 @@ pub fn choose_left(
     let mut bests = [0u64; 8];
     let m = network.sizes.m as usize;
     let k = network.sizes.k as usize;
-    let n = network.sizes.n as usize;
-    let places = n + 1;
+    let places = network.sizes.n as usize + 1;
     let size = 3 * m + places + 1 + places;
     let all = m * k;
     let task = Task {
         start: start as u16,
         goal: goal as usize,
-        n,
         column: r as usize,
         wanted: wanted as usize,
     };

@@ -3,6 +3,7 @@
 #![tactic(auto)]
 
 mod chosen;
+mod common;
 mod measured;
 mod node_list;
 mod pricing;
@@ -11,5 +12,6 @@ pub mod robust;
 
 pub use choosing::Decision;
 pub use chosen::choose_left;
+pub use common::load_columns;
 pub use measured::{Measure, measure_path};
 pub use pricing::own_bests;

@@ -1,22 +1,24 @@
 // A node list held to the paths that are open in every column of an accepted image, and measured.
-ghost use Rattle.std.specs.Prelude.{◌≡◌, [], ◌∷◌, ◌+◌, length};
+ghost use Rattle.std.specs.Prelude.{◌≡◌, [], ◌∷◌, length};
+ghost use Rattle.terms.specs.Network.{common};
 ghost use Rattle.terms.specs.Paths.{OpenPath};
 ghost use Rattle.terms.specs.Regret as terms;
 ghost use Rattle.image.specs.Outcome.{outcome};
 ghost use Rattle.image.specs.Answers.{answer};
 ghost use Rattle.loading.specs.Accepted.{Ends};
 ghost use Rattle.loading.specs.Networks.{net};
-ghost use Rattle.loading.specs.Loaded.{Shared};
+ghost use Rattle.measuring.specs.Networks.{network_of};
 ghost use Rattle.outcomes.specs.Calls.{list_row};
 ghost use Rattle.network_calls.specs.Answers.{measure_list};
 ghost use Rattle.network_calls.specs.Held.{ChoiceRoom};
 
+use super::common::load_columns;
 use super::node_list::check_list;
 use super::pricing::{Trip, price};
 use image::Refusal;
 use labels::FAR;
-use loading::{Network, load_common};
-use measuring::measure;
+use loading::Network;
+use measuring::{Columns, measure};
 
 // A path's greatest regret, and the lowest-numbered column that has it.
 #[derive(Clone, Copy, Debug, PartialEq, Eq)]
@@ -25,20 +27,19 @@ pub struct Measure {
     pub worst: u32,
 }
 
-// Measures a path that is open in every column, with the m arcs that are so at hand, and all columns for them.
+// Measures a path that is open in every column, with the columns of the arcs that are so.
 pub fn measure_path(
     network: &Network<'_>,
-    m: usize,
+    columns: &Columns<'_>,
     start: usize,
     goal: usize,
     nodes: &[u16],
-    star: &[u16],
-    costs: &[u32],
     bests: &mut [u64],
 ) -> Measure
-    requires shared { Shared (net network.now) m star.now costs.now }
-    requires bests_len { length bests.old ≡ network.now.sizes.k }
-    requires ends { Ends (net network.now).nodes start goal × OpenPath (net network.now) start goal nodes.now }
+    requires common { network_of columns.now ≡ common (net network.now) }
+    requires bests_long { length bests.old ≡ network.now.sizes.k }
+    requires ends { Ends (net network.now).nodes start goal }
+    requires path { OpenPath (net network.now) start goal nodes.now }
     ensures { (result.figure ≡ terms.figure (net network.now) start goal nodes.now) × (result.worst ≡ terms.worst (net network.now) start goal nodes.now) }
 {
     let none = [0u64; 0];
@@ -48,10 +49,9 @@ pub fn measure_path(
         goal,
         labelled: 0,
     };
-    price(network, &none, m, trip, star, costs, &none, bests);
-    let n = network.sizes.n as usize;
+    price(network, &none, columns, trip, &none, bests);
     // no figure comes near to it
-    let found = measure(star, m, costs, bests, n, nodes, FAR);
+    let found = measure(columns, bests, nodes, FAR);
     Measure {
         figure: found.figure as u32,
         worst: found.worst,
@@ -61,35 +61,24 @@ pub fn measure_path(
 // Row 14, and the measure where it does not apply.
 fn measure_shared(
     network: &Network<'_>,
-    m: usize,
+    columns: &Columns<'_>,
     start: u32,
     goal: u32,
     nodes: &[u16],
-    star: &[u16],
-    costs: &[u32],
     bests: &mut [u64],
 ) -> Result<Measure, Refusal>
-    requires shared { Shared (net network.now) m star.now costs.now }
-    requires bests_len { length bests.old ≡ network.now.sizes.k }
+    requires common { network_of columns.now ≡ common (net network.now) }
+    requires bests_long { length bests.old ≡ network.now.sizes.k }
     requires ends { Ends (net network.now).nodes start goal }
     ensures { answer measure_list result ≡ outcome (list_row (terms.open_fault (net network.now) start goal nodes.now)) (terms.figure (net network.now) start goal nodes.now ∷ terms.worst (net network.now) start goal nodes.now ∷ []) }
 {
-    check_list(
-        star,
-        &costs[..m],
-        network.sizes.n as usize,
-        start,
-        goal,
-        nodes,
-    )?;
+    check_list(&columns.column(1), start, goal, nodes)?;
     Ok(measure_path(
         network,
-        m,
+        columns,
         start as usize,
         goal as usize,
         nodes,
-        star,
-        costs,
         bests,
     ))
 }
@@ -108,20 +97,9 @@ fn measure_in(
     requires ends { Ends (net network.now).nodes start goal }
     ensures { answer measure_list result ≡ outcome (list_row (terms.open_fault (net network.now) start goal nodes.now)) (terms.figure (net network.now) start goal nodes.now ∷ terms.worst (net network.now) start goal nodes.now ∷ []) }
 {
-    let m = load_common(network, star, costs);
-    let places = network.sizes.n as usize + 1;
-    let size = 3 * m + places + 1 + places;
-    let all = m * bests.len();
-    measure_shared(
-        network,
-        m,
-        start,
-        goal,
-        nodes,
-        &star[..size],
-        &costs[..all],
-        bests,
-    )
+    let none = [0u64; 0];
+    let columns = load_columns(network, &none, star, costs);
+    measure_shared(network, &columns, start, goal, nodes, bests)
 }
 
 // The figure and the worst column of a node list, or the row that refuses it.

@@ -1,15 +1,15 @@
 // Node lists: whether one is a path, and where it fails.
-ghost use Rattle.std.specs.Prelude.{◌≡◌, List, ℕ, ◌+◌, length};
+ghost use Rattle.std.specs.Prelude.{◌≡◌, List, ℕ, length};
 ghost use Rattle.terms.specs.Regret.{fault};
 ghost use Rattle.image.specs.Refusals.{verdict};
 ghost use Rattle.star.specs.Star.{Star};
-ghost use Rattle.star.specs.Layout.{graph_of, Network};
+ghost use Rattle.star.specs.Graphs.{arcs_of};
 ghost use Rattle.loading.specs.Accepted.{Node};
 ghost use Rattle.outcomes.specs.Calls.{list_row};
 ghost use Rattle.network_calls.specs.NodeLists.{Followed, FirstError};
 
 use image::Refusal;
-use star::arc_between;
+use star::{Graph, arc_between};
 
 // The first position after the first whose node repeats or has no arc from the node before; the
 // length if there is none.
@@ -31,17 +31,10 @@ fn first_error(heads: &[u16], first_out: &[u16], nodes: &[u16]) -> usize
     nodes.len()
 }
 
-// Whether a node list is a path from start to goal in a graph of n nodes in two slices: row 14.
-pub fn check_list(
-    star: &[u16],
-    weights: &[u32],
-    n: usize,
-    start: u32,
-    goal: u32,
-    nodes: &[u16],
-) -> Result<(), Refusal>
-    requires { Network (n + 1) star.now weights.now × Node n start }
-    ensures { verdict result ≡ list_row (fault (graph_of star.now weights.now) start goal nodes.now) }
+// Whether a node list is a path from start to goal in a graph: row 14.
+pub fn check_list(graph: &Graph<'_>, start: u32, goal: u32, nodes: &[u16]) -> Result<(), Refusal>
+    requires { Node graph.now.nodes start }
+    ensures { verdict result ≡ list_row (fault (arcs_of graph.now) start goal nodes.now) }
 {
     if nodes.len() == 0 {
         return Err(Refusal::NotAPath(0));
@@ -49,11 +42,7 @@ pub fn check_list(
     if nodes[0] as u32 != start {
         return Err(Refusal::NotAPath(0));
     }
-    let m = weights.len();
-    let places = n + 1;
-    let outs = 3 * m;
-    let ins = outs + places + 1;
-    let at = first_error(&star[m..2 * m], &star[outs..ins], nodes);
+    let at = first_error(graph.heads(), graph.first_out(), nodes);
     if at < nodes.len() {
         return Err(Refusal::NotAPath(at as u32));
     }

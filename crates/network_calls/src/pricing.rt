@@ -1,16 +1,18 @@
 // Each column's best: the least cost of a path that is open in it.
 ghost use Rattle.std.specs.Prelude.{◌≡◌, ◌≤◌, length};
+ghost use Rattle.terms.specs.Network.{common};
 ghost use Rattle.terms.specs.Regret as terms;
 ghost use Rattle.closures.specs.Map.{without};
 ghost use Rattle.loading.specs.Accepted.{Ends};
 ghost use Rattle.loading.specs.Networks.{net};
-ghost use Rattle.loading.specs.Loaded.{Room, Shared};
+ghost use Rattle.loading.specs.Loaded.{Room};
 ghost use Rattle.measuring.specs.Bests.{Labelled};
+ghost use Rattle.measuring.specs.Networks.{network_of};
 ghost use Rattle.network_calls.specs.Held.{Reached, Held};
 
 use closures::closed_roads;
 use loading::{Network, load_left};
-use measuring::column_bests;
+use measuring::{Columns, column_bests};
 use outcomes::narrow;
 
 // From where to where, and the column whose labels are at hand; 0 if none is.
@@ -72,33 +74,35 @@ pub fn own_bests(
     );
 }
 
-// Finds each column's best. The slices hold the m arcs that the map leaves and that are open in every column,
-// with all columns, and overall their labels in the labelled column, if there is one. A path that is open in
-// every column goes from start to goal. Where these are all arcs that the map leaves, one star serves all columns.
+// Finds each column's best. A path that is open in every column goes from start to goal; the columns have the
+// arcs that the map leaves and that are open in every column, and overall their labels in the labelled
+// column, if there is one. Where these are all arcs that the map leaves, one star serves all columns.
 pub fn price(
     network: &Network<'_>,
     closed: &[u64],
-    m: usize,
+    columns: &Columns<'_>,
     trip: Trip,
-    star: &[u16],
-    costs: &[u32],
     overall: &[u64],
     bests: &mut [u64],
 )
-    requires shared { Shared (without closed.now (net network.now)) m star.now costs.now }
-    requires reached { Reached (without closed.now (net network.now)) trip.start trip.goal × (length bests.old ≡ network.now.sizes.k) }
-    requires labelled { 1 ≤ trip.labelled → Labelled network.now.sizes.n m star.now costs.now trip.goal trip.labelled overall.now }
-    ensures { Held (without closed.now (net network.now)) m trip.start trip.goal star.now costs.now bests.new }
+    requires common { network_of columns.now ≡ common (without closed.now (net network.now)) }
+    requires reached { Reached (without closed.now (net network.now)) trip.start trip.goal }
+    requires bests_long { length bests.old ≡ network.now.sizes.k }
+    requires labelled { 1 ≤ trip.labelled → Labelled columns.now trip.goal trip.labelled overall.now }
+    ensures { Held (without closed.now (net network.now)) columns.now trip.start trip.goal bests.new }
 {
-    let start = trip.start;
-    let goal = trip.goal;
     let arcs = network.sizes.m as usize;
     let gone = closed_roads(closed, arcs) as usize;
-    if m == arcs - gone {
-        let n = network.sizes.n as usize;
-        let r = trip.labelled;
-        column_bests(star, m, costs, overall, n, start, goal, r, bests);
+    if columns.arcs == arcs - gone {
+        column_bests(
+            columns,
+            overall,
+            trip.start,
+            trip.goal,
+            trip.labelled,
+            bests,
+        );
     } else {
-        own_bests(network, closed, start, goal, bests);
+        own_bests(network, closed, trip.start, trip.goal, bests);
     }
 }

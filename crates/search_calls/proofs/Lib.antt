@@ -1,4 +1,3 @@
 pub mod LabelLaws
 pub mod TableLaws
-pub mod SharedLaws
 pub mod AnswerLaws

@@ -1,10 +1,11 @@
 // Rows 15 and 19, and the answer where neither applies.
 ghost use Rattle.std.specs.Prelude.{◌≡◌, ◌+◌, ◌≤◌, length};
+ghost use Rattle.terms.specs.Network.{common};
 ghost use Rattle.image.specs.Outcome.{outcome, after};
 ghost use Rattle.image.specs.Answers.{answer};
 ghost use Rattle.loading.specs.Accepted.{Ends};
 ghost use Rattle.loading.specs.Networks.{net};
-ghost use Rattle.loading.specs.Loaded.{Shared};
+ghost use Rattle.measuring.specs.Networks.{network_of};
 ghost use Rattle.network_calls.specs.Held.{Reached, ChoiceRoom};
 ghost use Rattle.search_calls.specs.Answers.{found_list};
 ghost use Rattle.search_calls.specs.Calls.{limit_of, decided_rows, search_path, search_values};
@@ -13,8 +14,9 @@ use super::tables::search_image;
 use descent::Task;
 use image::Refusal;
 use labels::FAR;
-use loading::{Network, label_nodes, load_common};
-use network_calls::measure_path;
+use loading::{Network, label_nodes};
+use measuring::Columns;
+use network_calls::{load_columns, measure_path};
 use outcomes::write_path;
 
 // What Search gives: the length, figure and worst column of the path found, and how many arcs were tried.
@@ -26,21 +28,21 @@ pub struct Found {
     pub tried: u32,
 }
 
-// Row 19, and the answer where it does not apply. The slices hold the m arcs that are open in every column,
-// with all columns; a path that is open in every column goes from start to goal.
+// Row 19, and the answer where it does not apply. The columns have the arcs that are open in every column; a
+// path that is open in every column goes from start to goal.
 fn answer(
     network: &Network<'_>,
     task: Task,
-    m: usize,
-    star: &[u16],
-    costs: &[u32],
+    columns: &Columns<'_>,
     bests: &mut [u64],
     best: &mut [u16],
     path: &mut [u16],
 ) -> Result<Found, Refusal>
     requires reached { Reached (net network.now) task.start task.goal }
-    requires shared { Shared (net network.now) m star.now costs.now × (length bests.old ≡ network.now.sizes.k) }
-    requires n_in_bounds { (network.now.sizes.n ≤ length best.old) × (network.now.sizes.n ≤ length path.old) }
+    requires common { network_of columns.now ≡ common (net network.now) }
+    requires bests_long { length bests.old ≡ network.now.sizes.k }
+    requires best_long { network.now.sizes.n ≤ length best.old }
+    requires path_long { network.now.sizes.n ≤ length path.old }
     ensures result_value { answer found_list result ≡ outcome (limit_of network.now.image.now task.start task.goal task.limit) (search_values network.now.image.now task.start task.goal) }
     ensures path_after { path.new ≡ after (limit_of network.now.image.now task.start task.goal task.limit) (search_path network.now.image.now task.start task.goal) path.old }
 {
@@ -50,7 +52,7 @@ fn answer(
     };
     let start = usize::from(task.start);
     let route = &best[..held.length];
-    let found = measure_path(network, m, start, task.goal, route, star, costs, bests);
+    let found = measure_path(network, columns, start, task.goal, route, bests);
     write_path(best, held.length, path);
     Ok(Found {
         length: held.length as u32,
@@ -60,34 +62,8 @@ fn answer(
     })
 }
 
-// Row 15 before it: the start's label over the arcs that are open in every column. It is the same in each
-// column whether there is one.
-fn decide_shared(
-    network: &Network<'_>,
-    task: Task,
-    m: usize,
-    star: &[u16],
-    costs: &[u32],
-    overall: &mut [u64],
-    bests: &mut [u64],
-    best: &mut [u16],
-    path: &mut [u16],
-) -> Result<Found, Refusal>
-    requires ends { Ends (net network.now).nodes task.start task.goal }
-    requires shared { Shared (net network.now) m star.now costs.now × (length overall.old ≡ network.now.sizes.n + 1) × (length bests.old ≡ network.now.sizes.k) }
-    requires n_in_bounds { (network.now.sizes.n ≤ length best.old) × (network.now.sizes.n ≤ length path.old) }
-    ensures result_value { answer found_list result ≡ outcome (decided_rows network.now.image.now task.start task.goal task.limit) (search_values network.now.image.now task.start task.goal) }
-    ensures path_after { path.new ≡ after (decided_rows network.now.image.now task.start task.goal task.limit) (search_path network.now.image.now task.start task.goal) path.old }
-{
-    label_nodes(star, &costs[..m], task.goal, overall);
-    let start = usize::from(task.start);
-    if overall[start] == FAR {
-        return Err(Refusal::NoPath);
-    }
-    answer(network, task, m, star, costs, bests, best, path)
-}
-
-// The same from the image on, with room for the arcs that are open in every column, and all columns.
+// Row 15 before it, from the image on, with room for the arcs that are open in every column, and all columns:
+// the start's label over these arcs. It is the same in each column whether there is one.
 fn decide_in(
     network: &Network<'_>,
     task: Task,
@@ -99,26 +75,20 @@ fn decide_in(
     path: &mut [u16],
 ) -> Result<Found, Refusal>
     requires ends { Ends (net network.now).nodes task.start task.goal }
-    requires choice_room { ChoiceRoom network.now.sizes.n network.now.sizes.m network.now.sizes.k star.old costs.old bests.old × (length overall.old ≡ network.now.sizes.n + 1) }
-    requires n_in_bounds { (network.now.sizes.n ≤ length best.old) × (network.now.sizes.n ≤ length path.old) }
+    requires choice_room { ChoiceRoom network.now.sizes.n network.now.sizes.m network.now.sizes.k star.old costs.old bests.old }
+    requires overall_long { length overall.old ≡ network.now.sizes.n + 1 }
+    requires best_long { network.now.sizes.n ≤ length best.old }
+    requires path_long { network.now.sizes.n ≤ length path.old }
     ensures result_value { answer found_list result ≡ outcome (decided_rows network.now.image.now task.start task.goal task.limit) (search_values network.now.image.now task.start task.goal) }
     ensures path_after { path.new ≡ after (decided_rows network.now.image.now task.start task.goal task.limit) (search_path network.now.image.now task.start task.goal) path.old }
 {
-    let m = load_common(network, star, costs);
-    let places = overall.len();
-    let size = 3 * m + places + 1 + places;
-    let all = m * bests.len();
-    decide_shared(
-        network,
-        task,
-        m,
-        &star[..size],
-        &costs[..all],
-        overall,
-        bests,
-        best,
-        path,
-    )
+    let none = [0u64; 0];
+    let columns = load_columns(network, &none, star, costs);
+    label_nodes(&columns.column(1), task.goal, overall);
+    if overall[usize::from(task.start)] == FAR {
+        return Err(Refusal::NoPath);
+    }
+    answer(network, task, &columns, bests, best, path)
 }
 
 // The same, with room made for it.

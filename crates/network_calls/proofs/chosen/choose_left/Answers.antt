@@ -12,7 +12,7 @@ pub choose_in-requires : goal.choose_in-requires
 choose_in-requires c =
     let ready : Accepted c.args.network.now.image.now c.args.network.now.sizes = c.args.network.now.accepted in
     let a = ready in
-    record { asked = record { in_column = c.requires.column; ends = c.requires.ends; nodes_are = a.nodes_are }; choice_room = choice_room a; overall_len = (part_long 201 _ (places_fit a), c.requires.choice_slices) }
+    record { asked = record { in_column = c.requires.column; ends = c.requires.ends }; choice_room = choice_room a; overall_long = part_long 201 _ (places_fit a); choice_slices = c.requires.choice_slices }
 
 pub overflow_cast-task : goal.overflow_cast-task
 overflow_cast-task c =

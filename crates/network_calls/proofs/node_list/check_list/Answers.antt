@@ -1,9 +1,9 @@
 -- `node_list::check_list` gives row 14, with its place. The nodes before it are distinct, so it is at most n. Assumes nothing.
 use native.Mathlib.Omega.{arith}
 use mathlib.Core.Path.{sym, ap}
-use Rattle.star.specs.Layout.{heads_of, outs_of, graph_of}
+use Rattle.star.specs.Layout.{graph_of}
 use Rattle.outcomes.specs.Calls.{list_row}
-use Rattle.network_calls.proofs.NodeListLaws.{arcs_for, star_for, followed, no_nodes, wrong_first, place_to, error_found, wrong_last, right_last}
+use Rattle.network_calls.proofs.NodeListLaws.{followed, no_nodes, wrong_first, place_to, error_found, wrong_last, right_last}
 use Rattle.network_calls.proofs.node_list.check_list.Goals as goal
 
 pub returns-then-nodes-eq0 : goal.returns-then-nodes-eq0
@@ -15,49 +15,49 @@ unfolding list_row
 returns-then-nodes-start c = sym (ap list_row (wrong_first _ _ _ _ c.if-nodes-start.true))
 
 pub first_error-at-requires : goal.first_error-at-requires
-unfolding heads_of outs_of
-first_error-at-requires c = followed (arcs_for c.requires) (star_for c.requires) c.requires.1 (omega arith) c.if-nodes-start.false
+first_error-at-requires c =
+    let g = c.args.graph.now in
+    rw (c.heads.ensures.value, c.first_out.ensures.value) (followed g.holds.arcs g.holds.star c.requires (omega arith) c.if-nodes-start.false)
 
 pub returns-then-at-nodes : goal.returns-then-at-nodes
-unfolding graph_of heads_of outs_of list_row
+unfolding graph_of list_row
 returns-then-at-nodes c =
-    let found = c.first_error-at.ensures _ _ (star_for c.requires) in
-    sym (ap list_row (error_found (arcs_for c.requires) c.requires.1 c.if-nodes-start.false found _ c.if-at-nodes.true))
+    let g = c.args.graph.now in
+    let found = (rw (c.heads.ensures.value, c.first_out.ensures.value) at c.first_error-at.ensures) _ _ g.holds.star in
+    sym (ap list_row (error_found g.holds.arcs c.requires c.if-nodes-start.false found _ c.if-at-nodes.true))
 
 pub returns-then-nodes-at : goal.returns-then-nodes-at
-unfolding graph_of heads_of outs_of list_row
+unfolding graph_of list_row
 returns-then-nodes-at c =
-    let found = c.first_error-at.ensures _ _ (star_for c.requires) in
-    sym (ap list_row (wrong_last (arcs_for c.requires) c.requires.1 c.if-nodes-start.false found _ c.if-at-nodes.false c.if-nodes-at.true))
+    let g = c.args.graph.now in
+    let found = (rw (c.heads.ensures.value, c.first_out.ensures.value) at c.first_error-at.ensures) _ _ g.holds.star in
+    sym (ap list_row (wrong_last g.holds.arcs c.requires c.if-nodes-start.false found _ c.if-at-nodes.false c.if-nodes-at.true))
 
 pub returns : goal.returns
-unfolding graph_of heads_of outs_of list_row
+unfolding graph_of list_row
 returns c =
-    let found = c.first_error-at.ensures _ _ (star_for c.requires) in
-    sym (ap list_row (right_last (arcs_for c.requires) c.requires.1 c.if-nodes-start.false found _ c.if-at-nodes.false c.if-nodes-at.false))
+    let g = c.args.graph.now in
+    let found = (rw (c.heads.ensures.value, c.first_out.ensures.value) at c.first_error-at.ensures) _ _ g.holds.star in
+    sym (ap list_row (right_last g.holds.arcs c.requires c.if-nodes-start.false found _ c.if-at-nodes.false c.if-nodes-at.false))
 
 pub overflow_cast-result : goal.overflow_cast-result
-unfolding heads_of outs_of
 overflow_cast-result c =
-    let arcs = arcs_for c.requires in
-    let found = c.first_error-at.ensures _ _ (star_for c.requires) in
-    omega (arith, place_to arcs c.requires.1 c.if-nodes-start.false found, arcs.few_nodes)
+    let g = c.args.graph.now in
+    let found = (rw (c.heads.ensures.value, c.first_out.ensures.value) at c.first_error-at.ensures) _ _ g.holds.star in
+    omega (arith, place_to g.holds.arcs c.requires c.if-nodes-start.false found, g.holds.arcs.few_nodes)
 
 pub offset_bounds-nodes-at : goal.offset_bounds-nodes-at
-unfolding heads_of outs_of
 offset_bounds-nodes-at c =
-    let found = c.first_error-at.ensures _ _ (star_for c.requires) in
+    let found = (rw (c.heads.ensures.value, c.first_out.ensures.value) at c.first_error-at.ensures) _ _ c.args.graph.now.holds.star in
     omega (arith, found.upto)
 
 pub bounds-nodes-at : goal.bounds-nodes-at
-unfolding heads_of outs_of
 bounds-nodes-at c =
-    let found = c.first_error-at.ensures _ _ (star_for c.requires) in
+    let found = (rw (c.heads.ensures.value, c.first_out.ensures.value) at c.first_error-at.ensures) _ _ c.args.graph.now.holds.star in
     omega (arith, found.after_first, found.upto)
 
 pub overflow_cast-result-then-nodes-at : goal.overflow_cast-result-then-nodes-at
-unfolding heads_of outs_of
 overflow_cast-result-then-nodes-at c =
-    let arcs = arcs_for c.requires in
-    let found = c.first_error-at.ensures _ _ (star_for c.requires) in
-    omega (arith, place_to arcs c.requires.1 c.if-nodes-start.false found, arcs.few_nodes)
+    let g = c.args.graph.now in
+    let found = (rw (c.heads.ensures.value, c.first_out.ensures.value) at c.first_error-at.ensures) _ _ g.holds.star in
+    omega (arith, place_to g.holds.arcs c.requires c.if-nodes-start.false found, g.holds.arcs.few_nodes)

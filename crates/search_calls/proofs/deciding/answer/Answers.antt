@@ -11,7 +11,7 @@ use Rattle.search_calls.proofs.deciding.answer.Goals as goal
 
 pub search_image-run-requires : goal.search_image-run-requires
 search_image-run-requires c =
-    record { reached = c.requires.reached; n_in_bounds = c.requires.n_in_bounds.0 }
+    record { reached = c.requires.reached; n_in_bounds = c.requires.best_long }
 
 pub returns-in_default : goal.returns-in_default
 returns-in_default c =
@@ -21,12 +21,12 @@ returns-in_default c =
 pub measure_path-found-requires : goal.measure_path-found-requires
 measure_path-found-requires c =
     let told = found_in c.args.network.now c.args.task c.requires.reached c.search_image-run.ensures c.in-Ok.is in
-    rw c.from-start.ensures (record { shared = c.requires.shared.0; bests_len = c.requires.shared.1; ends = (c.requires.reached.ends, subst (OpenPath (net_of c.args.network.now.image.now) c.args.task.start c.args.task.goal) (sym told.path_is) told.is_open) })
+    rw c.from-start.ensures (record { common = c.requires.common; bests_long = c.requires.bests_long; ends = c.requires.reached.ends; path = subst (OpenPath (net_of c.args.network.now.image.now) c.args.task.start c.args.task.goal) (sym told.path_is) told.is_open })
 
 pub write_path-requires : goal.write_path-requires
 write_path-requires c =
     let told = found_in c.args.network.now c.args.task c.requires.reached c.search_image-run.ensures c.in-Ok.is in
-    (told.fits, omega (arith, told.short, c.args.network.now.accepted.nodes_are, c.requires.n_in_bounds.1))
+    (told.fits, omega (arith, told.short, c.args.network.now.accepted.nodes_are, c.requires.path_long))
 
 pub returns : goal.returns
 returns c =

@@ -12,7 +12,7 @@ pub decide_in-requires : goal.decide_in-requires
 decide_in-requires c =
     let ready : Accepted c.args.network.now.image.now c.args.network.now.sizes = c.args.network.now.accepted in
     let a = ready in
-    record { ends = c.requires.ends; choice_room = (choice_room a, part_long 201 _ (places_fit a)); n_in_bounds = (omega (arith, few_nodes a), omega (arith, a.nodes_are, c.requires.path_len)) }
+    record { ends = c.requires.ends; choice_room = choice_room a; overall_long = part_long 201 _ (places_fit a); best_long = omega (arith, few_nodes a); path_long = omega (arith, a.nodes_are, c.requires.path_len) }
 
 pub overflow_cast-task : goal.overflow_cast-task
 overflow_cast-task c =
