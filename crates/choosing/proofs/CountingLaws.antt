@@ -18,21 +18,19 @@ use Rattle.terms.proofs.ListLaws.{clash, get_or_mem}
 use Rattle.terms.proofs.RankingLaws.{ranked_rising, ranked_path}
 use Rattle.labels.specs.Labels.{far}
 use Rattle.candidates.specs.Slots.{Entry, none, entry_at, entries}
-use Rattle.candidates.specs.Keeping.{Readable}
 use Rattle.candidates.specs.Routes.{routes, route_at, Rooted}
-use Rattle.candidates.proofs.EntryLaws.{kept_readable, readable_less, length_entries, entries_at}
+use Rattle.candidates.proofs.EntryLaws.{kept_readable, length_entries, entries_at}
 use Rattle.candidates.proofs.RootedLaws.{family_rooted, route_at_entries}
 use Rattle.candidates.proofs.RouteLaws.{length_routes}
 use Rattle.ranking.specs.Ranking.{Due, Changed, Begins}
 use Rattle.exits.specs.Small.{longest}
 use Rattle.ranking.specs.State.{Beyond, Searching}
 use Rattle.terms.proofs.PathLaws.{Within}
-use Rattle.ranking.proofs.DueLaws.{due_rooted}
 use Rattle.ranking.proofs.EnterLaws.{problem_within, path_small}
 use Rattle.ranking.proofs.RankedLaws.{search_less, due_next}
 use Rattle.ranking.proofs.ResultLaws.{ranked_so_far, next_ranked, rest_beyond, rest_none}
 use Rattle.ranking.proofs.StateLaws.{entry_cost, length_done, next_is_path, search_rank}
-use Rattle.choosing.specs.Leader.{Leads, Leading}
+use Rattle.choosing.specs.Leader.{Leads}
 use Rattle.choosing.specs.Counting.{Counting, Counted, Outlook}
 use Rattle.choosing.specs.Contests.{nodes_in, graph_in, ranked_in, low_in, deviation_in, figure_in, worst_in}
 use Rattle.choosing.specs.declared.contest.Contest.{Contest}
@@ -86,9 +84,6 @@ module _ (x : Contest) where
       next_due : Due (nodes_in x) (graph_in x) x.query.start x.query.goal x.query.slots (low_in x + l.figure) (entries (nodes_in x) w count) j
       next_due = record { inside = omega (arith, long, due.0); cheap = next_cheap; search = C.search }
 
-      pub next_rooted : Rooted (nodes_in x) w j
-      next_rooted = due_rooted x.query.graph.holds x.query.posed C.filled next_due
-
       -- it is the next of the ranked list
       pub next_within : j < length (ranked_in x)
       next_within =
@@ -135,9 +130,6 @@ module _ (x : Contest) where
 
     pub candidate_least : j < count → (entry_at (nodes_in x) w j).cost ≤ 199000000
     candidate_least h = omega (arith, candidate_cost h, own_cost_to x _ (candidate_path h))
-
-    pub entry_readable : j < count → Readable (nodes_in x) w (j + 1)
-    entry_readable h = readable_less (j + 1) (omega arith) (kept_readable C.filled.kept)
 
     pub counted_inside : j ≤ count
     counted_inside = omega (arith, C.filled.entered.border, long)

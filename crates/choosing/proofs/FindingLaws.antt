@@ -1,5 +1,5 @@
 -- What the search found gives Robust's answer, and the route of its path is laid out. Assumes nothing.
-use Prim.Native.Nat.{ℕ, ◌+◌, ◌-◌, ◌≤◌, ◌<◌}
+use Prim.Native.Nat.{ℕ, ◌≤◌, ◌<◌}
 use native.Mathlib.Omega.{arith}
 use mathlib.Core.Path.{◌≡◌, refl, sym, ◌∙◌, ap}
 use Rattle.std.specs.Prelude.{Option, Some, None, IfSome, IsSome}
@@ -13,7 +13,7 @@ use Rattle.candidates.proofs.LayingLaws.{all_laid}
 use Rattle.candidates.proofs.RootedLaws.{rooted_fits, route_size}
 use Rattle.choosing.specs.declared.contest.Contest.{Contest}
 use Rattle.choosing.specs.declared.counting.Leader.{Leader}
-use Rattle.choosing.specs.Contests.{nodes_in, ranked_in, low_in, deviation_in, figure_in, worst_in, answer_in}
+use Rattle.choosing.specs.Contests.{nodes_in, ranked_in, deviation_in, figure_in, worst_in, answer_in}
 use Rattle.choosing.specs.Counting.{Counting, Outlook}
 use Rattle.choosing.specs.Finding.{Decided}
 use Rattle.choosing.specs.Answers.{answer_of}

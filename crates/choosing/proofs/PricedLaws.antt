@@ -23,7 +23,7 @@ use Rattle.measuring.proofs.BestLaws.{path_any_column}
 use Rattle.measuring.proofs.ColumnLaws.{length_columns, held_column, column_full, column_inside, column_arcs, columns_nodes, first_column}
 use Rattle.choosing.specs.declared.contest.Contest.{Contest}
 use Rattle.choosing.specs.Given.{Priced}
-use Rattle.choosing.specs.Contests.{nodes_in, graph_in, ranked_in, low_in, deviation_in, figure_in, worst_in, answer_in}
+use Rattle.choosing.specs.Contests.{graph_in, ranked_in, low_in, deviation_in, figure_in, worst_in, answer_in}
 
 -- a path between two nodes has two at least
 two_nodes : {g : Graph} {s t : ℕ} {p : Route} → (s ≡ t → ⊥) → Path g s t p → 2 ≤ length p

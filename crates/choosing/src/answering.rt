@@ -8,7 +8,7 @@ ghost use Rattle.choosing.specs.Finding.{told};
 
 use crate::contest::Contest;
 use crate::searching::{Finding, search};
-use candidates::{lay_out, length_at};
+use candidates::{Entries, Routes};
 
 // The chosen path: how many nodes it has, its figure and its worst column; how many paths were counted, and
 // the floor if the answer is open.
@@ -49,9 +49,17 @@ pub fn least_regret(contest: &Contest<'_>, work: &mut [u32], route: &mut [u16]) 
     ensures route_after { (route.new ≡ take (chosen_length result) route.new ++ drop (chosen_length result) route.old) × (chosen_length result ≤ nodes_in contest.now) }
 {
     let found = search(contest, work);
-    let n = contest.query.graph.nodes;
     let place = found.leader.place;
-    let length = length_at(work, n, place);
-    lay_out(work, n, place, length, contest.query.start, route);
+    let entries = Entries {
+        nodes: contest.query.graph.nodes,
+        work,
+        count: place + 1,
+    };
+    let ranked = Routes {
+        entries,
+        start: contest.query.start,
+    };
+    let length = ranked.length(place);
+    ranked.lay_out(place, length, route);
     state(found, length)
 }

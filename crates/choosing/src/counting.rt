@@ -1,12 +1,12 @@
 // Paths are counted in the ranking order, and the earliest with the least figure leads.
-ghost use Rattle.std.specs.Prelude.{◌≡◌};
+ghost use Rattle.std.specs.Prelude.{◌≡◌, ◌<◌};
 ghost use Rattle.terms.specs.Paths.{Path};
-ghost use Rattle.candidates.specs.Routes.{route_at, Rooted};
-ghost use Rattle.choosing.specs.Contests.{nodes_in, graph_in};
+ghost use Rattle.candidates.specs.Views.{route_in};
+ghost use Rattle.choosing.specs.Contests.{graph_in};
 ghost use Rattle.choosing.specs.Counting.{Counting, Counted, Outlook};
 
 use crate::contest::Contest;
-use candidates::{cost_at, lay_out, length_at};
+use candidates::{Entries, Routes};
 use measuring::measure;
 
 // The earliest path with the least figure of those counted: its place among the ranked paths, its
@@ -31,7 +31,12 @@ pub fn next_deviation(
     ensures { Outlook contest.now work.now count place leader.figure result }
 {
     if place < count {
-        let next = cost_at(work, contest.query.graph.nodes, place);
+        let entries = Entries {
+            nodes: contest.query.graph.nodes,
+            work,
+            count,
+        };
+        let next = entries.cost(place);
         let deviation = next - contest.best();
         if deviation < leader.figure {
             return Some(deviation);
@@ -42,16 +47,15 @@ pub fn next_deviation(
 
 // Counts the path at the place `rank`, which is the next: it is measured, and leads from now on if its
 // figure is smaller than the leader's.
-pub fn count_path(contest: &Contest<'_>, work: &[u32], rank: usize, leader: Leader) -> Leader
-    requires rooted { Rooted (nodes_in contest.now) work.now rank }
-    requires is_path { Path (graph_in contest.now) contest.now.query.start contest.now.query.goal (route_at contest.now.query.start (nodes_in contest.now) work.now rank) }
-    ensures { Counted contest.now (route_at contest.now.query.start (nodes_in contest.now) work.now rank) rank leader result }
+pub fn count_path(contest: &Contest<'_>, ranked: &Routes<'_>, rank: usize, leader: Leader) -> Leader
+    requires inside { rank < ranked.now.entries.count }
+    requires is_path { Path (graph_in contest.now) contest.now.query.start contest.now.query.goal (route_in ranked.now.start ranked.now.entries rank) }
+    ensures { Counted contest.now (route_in ranked.now.start ranked.now.entries rank) rank leader result }
 {
-    let n = contest.query.graph.nodes;
-    let len = length_at(work, n, rank);
+    let len = ranked.length(rank);
     let mut room = [0u16; 200];
     let path = &mut room[..len];
-    lay_out(work, n, rank, len, contest.query.start, path);
+    ranked.lay_out(rank, len, path);
     let limit = leader.figure;
     let found = measure(&contest.columns, contest.bests, path, limit);
     if found.figure < limit {

@@ -1,12 +1,12 @@
 // The search: paths are ranked and counted until the stopping rule holds or no more are wanted.
-ghost use Rattle.std.specs.Prelude.{◌≡◌, ◌+◌, ◌*◌, drop};
+ghost use Rattle.std.specs.Prelude.{◌≡◌, ◌+◌, ◌*◌, ◌<◌, drop};
 ghost use Rattle.ranking.specs.Ranking.{Space};
 ghost use Rattle.choosing.specs.Contests.{nodes_in, answer_in};
 ghost use Rattle.choosing.specs.Finding.{Decided};
 
 use crate::contest::Contest;
 use crate::counting::{Leader, count_path, next_deviation};
-use candidates::cost_at;
+use candidates::{Entries, Routes};
 use labels::FAR;
 use ranking::{begin, split};
 
@@ -25,10 +25,10 @@ pub struct Finding {
 pub fn search(contest: &Contest<'_>, work: &mut [u32]) -> Finding
     requires { Space (nodes_in contest.now) contest.now.query.slots work.old }
     ensures work_unchanged { drop (contest.now.query.slots * (nodes_in contest.now + 16)) work.new ≡ drop (contest.now.query.slots * (nodes_in contest.now + 16)) work.old }
+    ensures counted { result.leader.place < result.count }
     ensures decided { Decided (nodes_in contest.now) contest.now.query.start work.new (answer_in contest.now) result }
 {
     let query = &contest.query;
-    let n = query.graph.nodes;
     let wanted = contest.wanted;
     let best = contest.best();
     let mut count = begin(query, work);
@@ -45,10 +45,19 @@ pub fn search(contest: &Contest<'_>, work: &mut [u32]) -> Finding
                 floor: None,
             };
         }
-        leader = count_path(contest, work, j, leader);
+        let entries = Entries {
+            nodes: query.graph.nodes,
+            work,
+            count,
+        };
+        let ranked = Routes {
+            entries,
+            start: query.start,
+        };
+        leader = count_path(contest, &ranked, j, leader);
         // the path that is ranked costs less than the limit, also where its own deviation reaches the
         // least figure
-        let limit = (best + leader.figure).max(cost_at(work, n, j) + 1);
+        let limit = (best + leader.figure).max(entries.cost(j) + 1);
         count = split(query, limit, work, count, j);
     }
     Finding {

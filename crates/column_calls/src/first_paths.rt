@@ -11,6 +11,7 @@ ghost use Rattle.loading.specs.Loaded.{Room};
 ghost use Rattle.outcomes.specs.Calls.{rank_of, rank_rows_of, rank_costs_of};
 ghost use Rattle.column_calls.specs.Slices.{ListSlices, ListedWork};
 
+use candidates::{Entries, Routes};
 use labels::FAR;
 use listing::{clear, write_rows};
 use loading::{Network, load};
@@ -36,7 +37,16 @@ fn list_loaded(query: &Query<'_>, work: &mut [u32], rows: &mut [u16], costs: &mu
     ensures work_after { work.new ≡ replicate (length work.old) 0 }
 {
     let count = rank_paths(query, work);
-    write_rows(work, query.graph.nodes, count, query.start, rows, costs);
+    let entries = Entries {
+        nodes: query.graph.nodes,
+        work,
+        count,
+    };
+    let ranked = Routes {
+        entries,
+        start: query.start,
+    };
+    write_rows(&ranked, rows, costs);
     clear(work);
     count
 }

@@ -11,11 +11,10 @@ use Rattle.terms.specs.Paths.{Route, Loopless, Path, cost}
 use Rattle.terms.proofs.ListLaws.{get_or_mem}
 use Rattle.star.specs.Layout.{graph_of, Holds}
 use Rattle.candidates.specs.Slots.{Entry, none, entry_at, entries}
-use Rattle.candidates.specs.Keeping.{Readable}
-use Rattle.candidates.specs.Routes.{routes, size, route_at, Rooted}
-use Rattle.candidates.proofs.EntryLaws.{kept_readable, readable_less, length_entries, entries_at}
+use Rattle.candidates.specs.Routes.{routes, size, route_at}
+use Rattle.candidates.proofs.EntryLaws.{length_entries, entries_at}
 use Rattle.candidates.proofs.FamilyLaws.{route_length}
-use Rattle.candidates.proofs.RootedLaws.{family_rooted, route_at_entries}
+use Rattle.candidates.proofs.RootedLaws.{route_at_entries}
 use Rattle.branching.specs.Found.{Idle}
 use Rattle.branching.specs.Laid.{Laid}
 use Rattle.ranking.specs.Ranking.{Problem, Filled, Along, Markable, Due}
@@ -41,14 +40,18 @@ module _ {n s t : ℕ} {star ws overall : List ℕ} (H : Holds n star ws) (P : P
   pub due_filled : Filled n M (graph_of star ws) s (r + 1) w count
   due_filled = record { some = F.some; few = F.few; kept = F.kept; entered = entered_rank F.entered Q.inside }
 
-  pub due_readable : Readable n w (r + 1)
-  due_readable = readable_less (r + 1) (omega (arith, due_place)) (kept_readable F.kept)
-
-  pub due_rooted : Rooted n w r
-  due_rooted = family_rooted r due_place (kept_readable F.kept) F.entered.family
-
   pub due_entry : entry_at n w r ≡ e
   due_entry = sym (entries_at n w count r due_place)
+
+  -- its cost, and how many nodes it takes over and has
+  pub due_cost : {x : ℕ} → x ≡ (entry_at n w r).cost → x ≡ e.cost
+  due_cost h = h ∙ ap (λ (x : Entry). x.cost) due_entry
+
+  pub due_shared : {x : ℕ} → x ≡ (entry_at n w r).shared → x ≡ e.shared
+  due_shared h = h ∙ ap (λ (x : Entry). x.shared) due_entry
+
+  pub due_size : {x y : ℕ} → x ≡ (entry_at n w r).shared → y ≡ length (entry_at n w r).tail → x + y ≡ size e
+  due_size h k = let z = k ∙ ap (λ (x : Entry). length x.tail) due_entry in omega (arith, due_shared h)
 
   pub due_short : size e ≤ n
   due_short = (F.entered.family.fits r Q.inside).short

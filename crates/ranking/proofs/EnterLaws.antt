@@ -22,9 +22,11 @@ use Rattle.candidates.specs.Bars.{barred}
 use Rattle.candidates.specs.Placing.{Placed}
 use Rattle.branching.specs.Branches.{Branch, branch, In, First}
 use Rattle.exits.specs.Exits.{Unmarked}
-use Rattle.branching.specs.Found.{Ahead}
+use Rattle.branching.specs.Found.{Ahead, Kept}
+use Rattle.branching.specs.declared.first.Tail.{Tail}
+use Rattle.std.specs.Prelude.{Option}
 use Rattle.ranking.specs.Pool.{Candidate}
-use Rattle.ranking.specs.Ranking.{Problem, Filled, Deviation, Changed, Settled, TooDear}
+use Rattle.ranking.specs.Ranking.{Problem, Filled, Deviation, Restored, Changed, Settled, TooDear}
 use Rattle.exits.specs.Small.{longest}
 use Rattle.ranking.specs.State.{branch_of, Beyond, Entered, Searching, taking_over}
 use Rattle.exits.specs.Walks.{Consistent, Exit, Choice}
@@ -45,6 +47,10 @@ newcomer c d parent tail = record { cost = c; shared = d; parent = parent; tail 
 pub dear_facts : {M count bound : ℕ} {E : List Entry} {b : Bool} → TooDear M count E bound b → b ≡ true → (count ≡ M) × ((get_or E (M - 1) none).cost < bound)
 dear_facts {E = E} (TooDear.dear e h) t = (e, let z = ap (λ k. (get_or E (k - 1) none).cost) e in omega arith)
 dear_facts TooDear.cheap t = clash t refl
+
+-- ---- flags and path after the search of a branch
+pub restored : {used used' : List Bool} {path path' : List ℕ} {d : ℕ} {r : Option Tail} → Kept used path d used' path' r → Restored used path d used' path'
+restored K = record { flags = K.flags; kept = K.kept }
 
 -- ---- the workspace
 module _ {n M : ℕ} {g : Graph} {s j : ℕ} {w : List ℕ} {count : ℕ} (F : Filled n M g s j w count) where

@@ -3,36 +3,37 @@
 ghost use Rattle.std.specs.Prelude.{ℕ, ◌+◌, ◌-◌, ◌≤◌, get_or};
 ghost use Rattle.star.specs.Graphs.{arcs_of};
 ghost use Rattle.candidates.specs.Slots.{entries};
-ghost use Rattle.candidates.specs.Keeping.{Kept};
+ghost use Rattle.candidates.specs.Views.{listed};
 ghost use Rattle.exits.specs.Exits.{Unmarked};
-ghost use Rattle.ranking.specs.Ranking.{Filled, Deviation, Restored, Changed, Settled, TooDear, Wanted};
+ghost use Rattle.ranking.specs.Ranking.{Restored, TooDear, Wanted};
+ghost use Rattle.ranking.specs.Queries.{entries_for, FilledFor, ChangedFor, SettledFor, DeviationFor};
 ghost use Rattle.ranking.specs.State.{branch_of, taking_over};
 ghost use Rattle.exits.specs.Walks.{Choice};
 
 use crate::query::{Detour, Query};
 use branching::{Step, Tail, first_path};
-use candidates::{cost_at, insert, place_for};
+use candidates::{Entries, Routes, insert};
 use exits::least_exit;
 use sharpening::LONGEST;
 
 // Whether every slot is taken, and the last entry costs less than `bound`.
-fn too_dear(work: &[u32], n: usize, slots: usize, count: usize, bound: u64) -> bool
-    requires { Kept n slots work.now count × (1 ≤ slots) }
-    ensures { TooDear slots count (entries n work.now count) bound result }
+fn too_dear(entries: &Entries<'_>, slots: usize, bound: u64) -> bool
+    requires { 1 ≤ slots }
+    ensures { TooDear slots entries.now.count (listed entries.now) bound result }
 {
-    count == slots && cost_at(work, n, count - 1) < bound
+    entries.count == slots && entries.cost(entries.count - 1) < bound
 }
 
 // What the tail of a path may cost at the most, behind a beginning that costs `before`, so that the path
 // does not come after the last entry where every slot is taken.
-fn most_wanted(work: &[u32], n: usize, slots: usize, count: usize, before: u64) -> u64
-    requires { Kept n slots work.now count × (1 ≤ slots) }
-    ensures { Wanted slots count (entries n work.now count) before result }
+fn most_wanted(entries: &Entries<'_>, slots: usize, before: u64) -> u64
+    requires { (1 ≤ slots) × (entries.now.count ≤ slots) }
+    ensures { Wanted slots entries.now.count (listed entries.now) before result }
 {
-    if count < slots {
+    if entries.count < slots {
         return LONGEST;
     }
-    let dearest = cost_at(work, n, count - 1);
+    let dearest = entries.cost(entries.count - 1);
     if dearest <= before {
         return 0;
     }
@@ -55,12 +56,12 @@ fn enter(
     detour: Detour,
     step: Step,
 ) -> usize
-    requires filled { Filled query.now.graph.nodes query.now.slots (arcs_of query.now.graph) query.now.start detour.parent work.old detour.count }
-    requires deviation { Deviation query.now.graph.nodes (arcs_of query.now.graph) query.now.start query.now.goal (entries query.now.graph.nodes work.old detour.count) detour.parent used.old barred.now path.old detour.parent detour.d detour.before }
+    requires filled { FilledFor query.now detour.parent work.old detour.count }
+    requires deviation { DeviationFor query.now (entries_for query.now work.old detour.count) detour.parent used.old barred.now path.old detour.parent detour.d detour.before }
     requires choice { Choice (arcs_of query.now.graph) query.now.labels.now (Unmarked used.old barred.now) (get_or path.old (detour.d - 1) 0) step.rest step.node }
     ensures restored { Restored used.old path.old detour.d used.new path.new }
-    ensures changed { Changed query.now.graph.nodes query.now.slots (arcs_of query.now.graph) query.now.start detour.parent work.old detour.count work.new result }
-    ensures settled { (limit : ℕ) → Settled query.now.graph.nodes (arcs_of query.now.graph) query.now.start query.now.goal query.now.slots limit (entries query.now.graph.nodes work.old detour.count) detour.parent (branch_of query.now.start (entries query.now.graph.nodes work.old detour.count) (taking_over detour.d detour.parent)) (entries query.now.graph.nodes work.new result) }
+    ensures changed { ChangedFor query.now detour.parent work.old detour.count work.new result }
+    ensures settled { (limit : ℕ) → SettledFor query.now limit (entries_for query.now work.old detour.count) detour.parent (branch_of query.now.start (entries_for query.now work.old detour.count) (taking_over detour.d detour.parent)) (entries_for query.now work.new result) }
 {
     let n = query.graph.nodes;
     let slots = query.slots;
@@ -68,7 +69,12 @@ fn enter(
     let parent = detour.parent;
     let d = detour.d;
     let before = detour.before;
-    let most = most_wanted(work, n, slots, count, before);
+    let entries = Entries {
+        nodes: n,
+        work,
+        count,
+    };
+    let most = most_wanted(&entries, slots, before);
     let Some(Tail { len, cost: rest }) = first_path(
         &query.graph,
         query.goal,
@@ -83,7 +89,11 @@ fn enter(
         return count;
     };
     let cost = before + rest;
-    let place = place_for(work, n, parent, count, cost, &path[..len], query.start);
+    let routes = Routes {
+        entries,
+        start: query.start,
+    };
+    let place = routes.place_for(parent, cost, &path[..len]);
     if place == slots {
         return count;
     }
@@ -111,11 +121,11 @@ pub fn consider(
     work: &mut [u32],
     detour: Detour,
 ) -> usize
-    requires filled { Filled query.now.graph.nodes query.now.slots (arcs_of query.now.graph) query.now.start detour.parent work.old detour.count }
-    requires deviation { Deviation query.now.graph.nodes (arcs_of query.now.graph) query.now.start query.now.goal (entries query.now.graph.nodes work.old detour.count) detour.parent used.old barred.now path.old detour.parent detour.d detour.before }
+    requires filled { FilledFor query.now detour.parent work.old detour.count }
+    requires deviation { DeviationFor query.now (entries_for query.now work.old detour.count) detour.parent used.old barred.now path.old detour.parent detour.d detour.before }
     ensures restored { Restored used.old path.old detour.d used.new path.new }
-    ensures changed { Changed query.now.graph.nodes query.now.slots (arcs_of query.now.graph) query.now.start detour.parent work.old detour.count work.new result }
-    ensures settled { Settled query.now.graph.nodes (arcs_of query.now.graph) query.now.start query.now.goal query.now.slots limit (entries query.now.graph.nodes work.old detour.count) detour.parent (branch_of query.now.start (entries query.now.graph.nodes work.old detour.count) (taking_over detour.d detour.parent)) (entries query.now.graph.nodes work.new result) }
+    ensures changed { ChangedFor query.now detour.parent work.old detour.count work.new result }
+    ensures settled { SettledFor query.now limit (entries_for query.now work.old detour.count) detour.parent (branch_of query.now.start (entries_for query.now work.old detour.count) (taking_over detour.d detour.parent)) (entries_for query.now work.new result) }
 {
     let count = detour.count;
     let d = detour.d;
@@ -128,7 +138,12 @@ pub fn consider(
     if limit <= bound {
         return count;
     }
-    if too_dear(work, query.graph.nodes, query.slots, count, bound) {
+    let entries = Entries {
+        nodes: query.graph.nodes,
+        work,
+        count,
+    };
+    if too_dear(&entries, query.slots, bound) {
         return count;
     }
     enter(query, used, barred, path, work, detour, step)

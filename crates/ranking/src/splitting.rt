@@ -4,14 +4,16 @@ ghost use Rattle.std.specs.Prelude.{◌≡◌, true, List, [], ℕ, ◌+◌, ◌
 ghost use Rattle.terms.specs.Network.{linked, weight};
 ghost use Rattle.candidates.specs.Slots.{entries, none};
 ghost use Rattle.candidates.specs.Routes.{size};
+ghost use Rattle.candidates.specs.Bars.{barred, marked};
 ghost use Rattle.branching.specs.Laid.{Laid};
-ghost use Rattle.ranking.specs.Ranking.{Filled, Restored, Changed, Settled, Along, Emptied, Markable, Due};
+ghost use Rattle.ranking.specs.Ranking.{Restored, Markable};
+ghost use Rattle.ranking.specs.Queries.{entries_for, FilledFor, ChangedFor, SettledFor, EmptiedFor, SearchingFor, DueFor, AlongFor};
 ghost use Rattle.star.specs.Graphs.{arcs_of};
-ghost use Rattle.ranking.specs.State.{Searching, branch_of, taking_over, waiting_to};
+ghost use Rattle.ranking.specs.State.{branch_of, taking_over, waiting_to};
 
 use crate::branches::consider;
 use crate::query::{Detour, Query, Stem};
-use candidates::{cost_at, lay_out, set_bars, shared_at, tail_length_at};
+use candidates::{Entries, Routes};
 use star::{Graph, arc_between};
 
 // The weight of the arc from v to y.
@@ -48,6 +50,34 @@ fn step_back(graph: &Graph<'_>, used: &mut [bool], path: &[u16], d: usize) -> u6
     u64::from(arc_weight(graph, v, y))
 }
 
+// Sets the flags of the nodes with which ranked paths go on behind the first d nodes of the path at the place
+// `rank`.
+fn set_bars(
+    query: &Query<'_>,
+    work: &[u32],
+    count: usize,
+    rank: usize,
+    d: usize,
+    flags: &mut [bool],
+    value: bool,
+)
+    requires filled { FilledFor query.now (rank + 1) work.now count }
+    requires places { length flags.old ≡ query.now.graph.nodes + 1 }
+    requires in_tail { ((get_or (entries_for query.now work.now count) rank none).shared ≤ d) × (d < size (get_or (entries_for query.now work.now count) rank none)) }
+    ensures { flags.new ≡ marked value (barred (entries_for query.now work.now count) (taking_over d (rank + 1))) flags.old }
+{
+    let entries = Entries {
+        nodes: query.graph.nodes,
+        work,
+        count,
+    };
+    let routes = Routes {
+        entries,
+        start: query.start,
+    };
+    routes.set_bars(rank, d, flags, value);
+}
+
 // The part that leaves the path at the place `rank` after d nodes, which cost `before`: the nodes with which
 // ranked paths go on there are barred while it is looked into.
 fn deviate(
@@ -62,16 +92,15 @@ fn deviate(
     d: usize,
     before: u64,
 ) -> usize
-    requires filled { Filled query.now.graph.nodes query.now.slots (arcs_of query.now.graph) query.now.start (rank + 1) work.old count }
-    requires along { Along query.now.graph.nodes (arcs_of query.now.graph) query.now.start query.now.goal (entries query.now.graph.nodes work.old count) rank used.old barred.old path.old d before }
-    requires inside { d < size (get_or (entries query.now.graph.nodes work.old count) rank none) }
+    requires filled { FilledFor query.now (rank + 1) work.old count }
+    requires along { AlongFor query.now (entries_for query.now work.old count) rank used.old barred.old path.old d before }
+    requires inside { d < size (get_or (entries_for query.now work.old count) rank none) }
     ensures restored { Restored used.old path.old d used.new path.new }
     ensures barred_same { barred.new ≡ barred.old }
-    ensures changed { Changed query.now.graph.nodes query.now.slots (arcs_of query.now.graph) query.now.start (rank + 1) work.old count work.new result }
-    ensures settled { Settled query.now.graph.nodes (arcs_of query.now.graph) query.now.start query.now.goal query.now.slots limit (entries query.now.graph.nodes work.old count) (rank + 1) (branch_of query.now.start (entries query.now.graph.nodes work.old count) (taking_over d (rank + 1))) (entries query.now.graph.nodes work.new result) }
+    ensures changed { ChangedFor query.now (rank + 1) work.old count work.new result }
+    ensures settled { SettledFor query.now limit (entries_for query.now work.old count) (rank + 1) (branch_of query.now.start (entries_for query.now work.old count) (taking_over d (rank + 1))) (entries_for query.now work.new result) }
 {
-    let n = query.graph.nodes;
-    set_bars(work, n, rank, d, barred, true);
+    set_bars(query, work, count, rank, d, barred, true);
     let parent = rank + 1;
     let detour = Detour {
         count,
@@ -80,7 +109,7 @@ fn deviate(
         before,
     };
     let now = consider(query, limit, used, barred, path, work, detour);
-    set_bars(work, n, rank, d, barred, false);
+    set_bars(query, work, now, rank, d, barred, false);
     now
 }
 
@@ -96,17 +125,18 @@ fn deviations(
     count: usize,
     stem: Stem,
 ) -> usize
-    requires filled { Filled query.now.graph.nodes query.now.slots (arcs_of query.now.graph) query.now.start (stem.rank + 1) work.old count }
-    requires along { Along query.now.graph.nodes (arcs_of query.now.graph) query.now.start query.now.goal (entries query.now.graph.nodes work.old count) stem.rank used.old barred.old path.old stem.len stem.cost }
-    requires shared_is { stem.shared ≡ (get_or (entries query.now.graph.nodes work.old count) stem.rank none).shared }
-    ensures changed { Changed query.now.graph.nodes query.now.slots (arcs_of query.now.graph) query.now.start (stem.rank + 1) work.old count work.new result }
-    ensures emptied { Emptied query.now.graph.nodes (arcs_of query.now.graph) query.now.start query.now.goal query.now.slots limit (entries query.now.graph.nodes work.old count) (stem.rank + 1) (waiting_to query.now.start (entries query.now.graph.nodes work.old count) stem.rank stem.len) (entries query.now.graph.nodes work.new result) }
+    requires filled { FilledFor query.now (stem.rank + 1) work.old count }
+    requires along { AlongFor query.now (entries_for query.now work.old count) stem.rank used.old barred.old path.old stem.len stem.cost }
+    requires shared_is { stem.shared ≡ (get_or (entries_for query.now work.old count) stem.rank none).shared }
+    ensures changed { ChangedFor query.now (stem.rank + 1) work.old count work.new result }
+    ensures emptied { EmptiedFor query.now limit (entries_for query.now work.old count) (stem.rank + 1) (waiting_to query.now.start (entries_for query.now work.old count) stem.rank stem.len) (entries_for query.now work.new result) }
 {
     let shared = stem.shared;
     let len = stem.len;
     let mut now = count;
     // what the path costs from its node d on
     let mut behind: u64 = 0;
+    // by number of nodes: d is no index of one slice, but where the path is left
     for d in (shared..len).rev() {
         behind += step_back(&query.graph, used, path, d);
         let before = stem.cost - behind;
@@ -121,24 +151,29 @@ fn deviations(
 // the parts of its branch are put in their places, but for those that cost the limit at least. Returns
 // how many entries there are then.
 pub fn split(query: &Query<'_>, limit: u64, work: &mut [u32], count: usize, rank: usize) -> usize
-    requires filled { Filled query.now.graph.nodes query.now.slots (arcs_of query.now.graph) query.now.start rank work.old count }
-    requires due { Due query.now.graph.nodes (arcs_of query.now.graph) query.now.start query.now.goal query.now.slots limit (entries query.now.graph.nodes work.old count) rank }
-    ensures changed { Changed query.now.graph.nodes query.now.slots (arcs_of query.now.graph) query.now.start (rank + 1) work.old count work.new result }
-    ensures searching { Searching query.now.graph.nodes (arcs_of query.now.graph) query.now.start query.now.goal query.now.slots limit (entries query.now.graph.nodes work.new result) (rank + 1) [] }
+    requires filled { FilledFor query.now rank work.old count }
+    requires due { DueFor query.now limit (entries_for query.now work.old count) rank }
+    ensures changed { ChangedFor query.now (rank + 1) work.old count work.new result }
+    ensures searching { SearchingFor query.now limit (entries_for query.now work.new result) (rank + 1) [] }
 {
-    let n = query.graph.nodes;
-    let places = n + 1;
+    let nodes = query.graph.nodes;
+    let places = nodes + 1;
     let mut flags = [false; 201];
     let mut bars = [false; 201];
     let mut room = [0u16; 200];
     let used = &mut flags[..places];
     let barred = &mut bars[..places];
-    let path = &mut room[..n];
-    let shared = shared_at(work, n, rank);
-    let len = shared + tail_length_at(work, n, rank);
-    lay_out(work, n, rank, len, query.start, path);
+    let path = &mut room[..nodes];
+    let entries = Entries { nodes, work, count };
+    let shared = entries.shared(rank);
+    let len = shared + entries.tail_length(rank);
+    let routes = Routes {
+        entries,
+        start: query.start,
+    };
+    routes.lay_out(rank, len, path);
     mark(path, len, used);
-    let cost = cost_at(work, n, rank);
+    let cost = entries.cost(rank);
     let stem = Stem {
         rank,
         shared,

@@ -11,9 +11,9 @@ use Rattle.candidates.proofs.insertion.insert.Goals as goal
 
 pub put-requires : goal.put-requires
 put-requires c =
-    let requires : (last : ℕ) → c.args.place ≤ last → last < c.args.slots → ((c.args.place ≤ last) × (last * (c.args.n + 16) + (c.args.n + 16) ≤ length c.args.work.now) × (order c.args.n c.args.work.now last * (c.args.n + 16) + (c.args.n + 16) ≤ length c.args.work.now)) × ((length c.args.tail.now ≤ c.args.n) × (c.args.n ≤ 200)) = λ last h b. let s = c.args.n + 16 in ((h, slot_in s last b c.requires.kept.room, slot_in s (order c.args.n c.args.work.now last) (c.requires.kept.within last b) c.requires.kept.room), (c.requires.place_le_count.2, c.requires.kept.few)) in
+    let requires : (last : ℕ) → c.args.place ≤ last → last < c.args.slots → ((c.args.place ≤ last) × (last * (c.args.n + 16) + (c.args.n + 16) ≤ length c.args.work.now) × (order c.args.n c.args.work.now last * (c.args.n + 16) + (c.args.n + 16) ≤ length c.args.work.now)) × ((length c.args.tail.now ≤ c.args.n) × (c.args.n ≤ 200)) = λ last h b. let s = c.args.n + 16 in ((h, slot_in s last b c.requires.kept.room, slot_in s (order c.args.n c.args.work.now last) (c.requires.kept.within last b) c.requires.kept.room), (c.requires.inside.2, c.requires.kept.few)) in
     let both = requires (c.args.count - 1) (omega arith) (omega arith) in
-    record { place_le_last = both.0; tail_len_bound = both.1 }
+    record { inside = both.0; tail_short = both.1 }
 
 pub returns-then-count-slots : goal.returns-then-count-slots
 returns-then-count-slots c =
@@ -23,9 +23,9 @@ returns-then-count-slots c =
 
 pub put-requires-2 : goal.put-requires-2
 put-requires-2 c =
-    let requires : (last : ℕ) → c.args.place ≤ last → last < c.args.slots → ((c.args.place ≤ last) × (last * (c.args.n + 16) + (c.args.n + 16) ≤ length c.args.work.now) × (order c.args.n c.args.work.now last * (c.args.n + 16) + (c.args.n + 16) ≤ length c.args.work.now)) × ((length c.args.tail.now ≤ c.args.n) × (c.args.n ≤ 200)) = λ last h b. let s = c.args.n + 16 in ((h, slot_in s last b c.requires.kept.room, slot_in s (order c.args.n c.args.work.now last) (c.requires.kept.within last b) c.requires.kept.room), (c.requires.place_le_count.2, c.requires.kept.few)) in
+    let requires : (last : ℕ) → c.args.place ≤ last → last < c.args.slots → ((c.args.place ≤ last) × (last * (c.args.n + 16) + (c.args.n + 16) ≤ length c.args.work.now) × (order c.args.n c.args.work.now last * (c.args.n + 16) + (c.args.n + 16) ≤ length c.args.work.now)) × ((length c.args.tail.now ≤ c.args.n) × (c.args.n ≤ 200)) = λ last h b. let s = c.args.n + 16 in ((h, slot_in s last b c.requires.kept.room, slot_in s (order c.args.n c.args.work.now last) (c.requires.kept.within last b) c.requires.kept.room), (c.requires.inside.2, c.requires.kept.few)) in
     let both = requires c.args.count (omega arith) (omega (arith, c.requires.kept.upto)) in
-    record { place_le_last = both.0; tail_len_bound = both.1 }
+    record { inside = both.0; tail_short = both.1 }
 
 pub returns : goal.returns
-returns c = put_inserted c.requires.kept c.put-2.ensures c.requires.place_le_count.0 (omega (arith, c.requires.kept.upto)) (omega arith) (omega (arith, c.requires.kept.upto)) c.put-2.auto.work
+returns c = put_inserted c.requires.kept c.put-2.ensures c.requires.inside.0 (omega (arith, c.requires.kept.upto)) (omega arith) (omega (arith, c.requires.kept.upto)) c.put-2.auto.work

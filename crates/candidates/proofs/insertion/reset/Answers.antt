@@ -15,4 +15,4 @@ loop-p-preserved c =
     )
 
 pub returns : goal.returns
-returns c = record { kept = none_kept c.requires.0 (omega arith) (λ p h. c.loop-p.invariant.0 p (omega arith)); work_unchanged = c.loop-p.invariant.1 }
+returns c = record { kept = none_kept c.requires.0 (omega arith) (λ p h. c.loop-p.invariant.0 p (omega arith)); beyond_same = c.loop-p.invariant.1 }

@@ -7,9 +7,15 @@ use Rattle.ranking.proofs.ResultLaws.{ranked_count}
 use Rattle.column_calls.proofs.RankLaws.{entry_costs, entry_room, entry_rows, entry_costs_out}
 use Rattle.column_calls.proofs.first_paths.list_loaded.Goals as goal
 
+pub invariant_of-entries : goal.invariant_of-entries
+invariant_of-entries c = record { readable = kept_readable c.rank_paths-count.ensures.kept }
+
+pub invariant_of-ranked : goal.invariant_of-ranked
+invariant_of-ranked c = record { family = c.rank_paths-count.ensures.entered.family }
+
 pub write_rows-requires : goal.write_rows-requires
 write_rows-requires c =
-    record { readable = (kept_readable c.rank_paths-count.ensures.kept, c.rank_paths-count.ensures.entered.family); n_in_bounds = entry_room c.rank_paths-count.ensures c.requires.list_slices; by_index = entry_costs c.rank_paths-count.ensures c.requires.costs_fit }
+    record { room = entry_room c.rank_paths-count.ensures c.requires.list_slices; costs_fit = entry_costs c.rank_paths-count.ensures c.requires.costs_fit }
 
 pub returns : goal.returns
 returns c =

@@ -10,4 +10,4 @@ consider-requires c =
 
 pub returns : goal.returns
 returns c =
-    begun c.args.query.now.graph.holds c.args.query.now.posed c.requires.space c.reset.ensures.kept c.reset.ensures.work_unchanged c.consider.ensures.changed c.consider.ensures.settled
+    begun c.args.query.now.graph.holds c.args.query.now.posed c.requires.space c.reset.ensures.kept c.reset.ensures.beyond_same c.consider.ensures.changed c.consider.ensures.settled

@@ -1,13 +1,8 @@
 -- `splitting::deviations`. The loop: the parts that leave the path after d nodes or more have been looked into. Assumes nothing.
-use Prim.Native.Nat.{◌+◌, ◌-◌, ◌≤◌, ◌<◌}
+use Prim.Native.Nat.{◌+◌, ◌-◌}
 use native.Mathlib.Omega.{arith}
 use mathlib.Core.Path.{◌≡◌, refl, sym, ◌∙◌}
-use lib.ListN.{get_or}
-use Rattle.terms.specs.Network.{weight}
-use Rattle.star.specs.Graphs.{arcs_of}
-use Rattle.candidates.specs.Slots.{none, entries}
-use Rattle.ranking.specs.Ranking.{Along}
-use Rattle.ranking.proofs.BackLaws.{back_some, back_linked, back_rest, back_le, along_back, going_start, going_filled, going_shared, going_next, going_end}
+use Rattle.ranking.proofs.BackLaws.{back_some, back_linked, back_rest, back_le, along_back, going_start, going_filled, going_shared, going_more, going_next, going_end}
 use Rattle.ranking.proofs.splitting.deviations.Goals as goal
 
 pub loop-d-init : goal.loop-d-init
@@ -17,7 +12,7 @@ pub step_back-behind-requires : goal.step_back-behind-requires
 step_back-behind-requires c =
     let now_filled = going_filled c.requires.filled c.loop-d.invariant in
     let place = c.loop-d.invariant.place in
-    let more : (get_or (entries c.args.query.now.graph.nodes c.loop-d.work c.loop-d.now) c.args.stem.rank none).shared < c.loop-d.d = omega (arith, going_shared c.requires.filled c.loop-d.invariant, c.requires.shared_is, c.loop-d-test.true) in
+    let more = going_more c.requires.filled c.loop-d.invariant c.requires.shared_is c.loop-d-test.true in
     let z : c.loop-d.d - 1 + 1 ≡ c.loop-d.d = omega (arith, c.loop-d-test.true) in
     rw place.laid.flags_long (record { places = refl; laid = (rw z place.laid, back_some now_filled.entered place more) })
 
@@ -25,18 +20,18 @@ pub deviate-now-requires : goal.deviate-now-requires
 deviate-now-requires c =
     let now_filled = going_filled c.requires.filled c.loop-d.invariant in
     let place = c.loop-d.invariant.place in
-    let more : (get_or (entries c.args.query.now.graph.nodes c.loop-d.work c.loop-d.now) c.args.stem.rank none).shared < c.loop-d.d = omega (arith, going_shared c.requires.filled c.loop-d.invariant, c.requires.shared_is, c.loop-d-test.true) in
-    let arc : c.step_back-behind.result ≡ weight (arcs_of c.args.query.now.graph) (get_or c.loop-d.path (c.loop-d.d - 1 - 1) 0) (get_or c.loop-d.path (c.loop-d.d - 1) 0) = c.step_back-behind.ensures.value (back_linked now_filled.entered place more) in
-    let back_place : Along c.args.query.now.graph.nodes (arcs_of c.args.query.now.graph) c.args.query.now.start c.args.query.now.goal (entries c.args.query.now.graph.nodes c.loop-d.work c.loop-d.now) c.args.stem.rank c.step_back-behind.new.used c.loop-d.barred c.loop-d.path (c.loop-d.d - 1) (c.args.stem.cost - (c.loop-d.behind + c.step_back-behind.result)) = along_back now_filled.entered place more c.loop-d.invariant.rest refl arc (rw place.laid.flags_long at c.step_back-behind.ensures.one_less) in
+    let more = going_more c.requires.filled c.loop-d.invariant c.requires.shared_is c.loop-d-test.true in
+    let arc = c.step_back-behind.ensures.value (back_linked now_filled.entered place more) in
+    let back_place = along_back now_filled.entered place more c.loop-d.invariant.rest refl arc (rw place.laid.flags_long at c.step_back-behind.ensures.one_less) in
     record { filled = now_filled; along = back_place; inside = omega (arith, more, place.upper) }
 
 pub loop-d-preserved : goal.loop-d-preserved
 loop-d-preserved c =
     let now_filled = going_filled c.requires.filled c.loop-d.invariant in
     let place = c.loop-d.invariant.place in
-    let more : (get_or (entries c.args.query.now.graph.nodes c.loop-d.work c.loop-d.now) c.args.stem.rank none).shared < c.loop-d.d = omega (arith, going_shared c.requires.filled c.loop-d.invariant, c.requires.shared_is, c.loop-d-test.true) in
-    let arc : c.step_back-behind.result ≡ weight (arcs_of c.args.query.now.graph) (get_or c.loop-d.path (c.loop-d.d - 1 - 1) 0) (get_or c.loop-d.path (c.loop-d.d - 1) 0) = c.step_back-behind.ensures.value (back_linked now_filled.entered place more) in
-    let back_place : Along c.args.query.now.graph.nodes (arcs_of c.args.query.now.graph) c.args.query.now.start c.args.query.now.goal (entries c.args.query.now.graph.nodes c.loop-d.work c.loop-d.now) c.args.stem.rank c.step_back-behind.new.used c.loop-d.barred c.loop-d.path (c.loop-d.d - 1) (c.args.stem.cost - (c.loop-d.behind + c.step_back-behind.result)) = along_back now_filled.entered place more c.loop-d.invariant.rest refl arc (rw place.laid.flags_long at c.step_back-behind.ensures.one_less) in
+    let more = going_more c.requires.filled c.loop-d.invariant c.requires.shared_is c.loop-d-test.true in
+    let arc = c.step_back-behind.ensures.value (back_linked now_filled.entered place more) in
+    let back_place = along_back now_filled.entered place more c.loop-d.invariant.rest refl arc (rw place.laid.flags_long at c.step_back-behind.ensures.one_less) in
     going_next c.requires.filled c.loop-d.invariant more back_place (back_rest now_filled.entered place more c.loop-d.invariant.rest refl arc) c.deviate-now.ensures.restored c.deviate-now.ensures.barred_same c.deviate-now.ensures.changed c.deviate-now.ensures.settled c.deviate-now.auto.path
 
 pub returns : goal.returns
@@ -48,16 +43,16 @@ pub overflow_add-behind : goal.overflow_add-behind
 overflow_add-behind c =
     let now_filled = going_filled c.requires.filled c.loop-d.invariant in
     let place = c.loop-d.invariant.place in
-    let more : (get_or (entries c.args.query.now.graph.nodes c.loop-d.work c.loop-d.now) c.args.stem.rank none).shared < c.loop-d.d = omega (arith, going_shared c.requires.filled c.loop-d.invariant, c.requires.shared_is, c.loop-d-test.true) in
-    let arc : c.step_back-behind.result ≡ weight (arcs_of c.args.query.now.graph) (get_or c.loop-d.path (c.loop-d.d - 1 - 1) 0) (get_or c.loop-d.path (c.loop-d.d - 1) 0) = c.step_back-behind.ensures.value (back_linked now_filled.entered place more) in
-    let rest_within : c.loop-d.behind + c.step_back-behind.result ≤ c.args.stem.cost = back_le now_filled.entered place more c.loop-d.invariant.rest refl arc in
+    let more = going_more c.requires.filled c.loop-d.invariant c.requires.shared_is c.loop-d-test.true in
+    let arc = c.step_back-behind.ensures.value (back_linked now_filled.entered place more) in
+    let rest_within = back_le now_filled.entered place more c.loop-d.invariant.rest refl arc in
     omega (arith, rest_within, c.requires.along.small)
 
 pub overflow_sub-before : goal.overflow_sub-before
 overflow_sub-before c =
     let now_filled = going_filled c.requires.filled c.loop-d.invariant in
     let place = c.loop-d.invariant.place in
-    let more : (get_or (entries c.args.query.now.graph.nodes c.loop-d.work c.loop-d.now) c.args.stem.rank none).shared < c.loop-d.d = omega (arith, going_shared c.requires.filled c.loop-d.invariant, c.requires.shared_is, c.loop-d-test.true) in
-    let arc : c.step_back-behind.result ≡ weight (arcs_of c.args.query.now.graph) (get_or c.loop-d.path (c.loop-d.d - 1 - 1) 0) (get_or c.loop-d.path (c.loop-d.d - 1) 0) = c.step_back-behind.ensures.value (back_linked now_filled.entered place more) in
-    let rest_within : c.loop-d.behind + c.step_back-behind.result ≤ c.args.stem.cost = back_le now_filled.entered place more c.loop-d.invariant.rest refl arc in
+    let more = going_more c.requires.filled c.loop-d.invariant c.requires.shared_is c.loop-d-test.true in
+    let arc = c.step_back-behind.ensures.value (back_linked now_filled.entered place more) in
+    let rest_within = back_le now_filled.entered place more c.loop-d.invariant.rest refl arc in
     rest_within

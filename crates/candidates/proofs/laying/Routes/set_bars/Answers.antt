@@ -1,0 +1,42 @@
+-- `laying::Routes::set_bars` goes from parent to parent, and the place falls. The loop: the flags that are still to be set make up those of the contract. Assumes nothing.
+use Prim.Native.Nat.{ℕ, ◌+◌, ◌-◌}
+use native.Mathlib.Omega.{arith}
+use mathlib.Core.Path.{◌≡◌, refl, sym, ◌∙◌}
+use Rattle.candidates.specs.Slots.{Entry}
+use Rattle.candidates.specs.Views.{entry_in}
+use Rattle.candidates.proofs.RootedLaws.{rooted_in, rooted_fits, parent_lower, leaves_late, leaves_early}
+use Rattle.candidates.proofs.BarLaws.{own_marked, root_marked, parent_marked}
+use Rattle.candidates.proofs.laying.Routes.set_bars.Goals as goal
+
+-- an entry with a parent
+child : (e : Entry) {parent : ℕ} → parent ≡ e.parent → (parent ≡ 0 → ⊥) → e.parent ≡ parent - 1 + 1
+child e z d = omega arith
+
+pub loop-place-init : goal.loop-place-init
+loop-place-init c = (omega arith, c.requires.in_tail.0, c.requires.in_tail.1, refl)
+
+pub returns-then-at-shared : goal.returns-then-at-shared
+returns-then-at-shared c =
+    own_marked _ _ _ _ c.args.at c.args.self.now.family (omega arith) c.args.value c.loop-place.flags c.shared-shared.ensures c.node.ensures c.if-at-shared.true ∙ c.loop-place.invariant.3
+
+pub returns-then-parent-eq0 : goal.returns-then-parent-eq0
+returns-then-parent-eq0 c =
+    root_marked _ _ _ _ c.args.at c.args.self.now.family (omega arith) c.args.value c.loop-place.flags c.shared-shared.ensures c.node.ensures (sym c.parent-parent.ensures ∙ c.if-parent-eq0.true) ∙ c.loop-place.invariant.3
+
+pub loop-place-smaller : goal.loop-place-smaller
+loop-place-smaller c =
+    parent_lower _ _ _ (rooted_in c.args.self.now c.loop-place.p (omega arith)) (c.parent-parent.result - 1) (child (entry_in c.args.self.now.entries c.loop-place.p) c.parent-parent.ensures c.if-parent-eq0.false)
+
+pub loop-place-preserved : goal.loop-place-preserved
+loop-place-preserved c =
+    let rooted = rooted_in c.args.self.now c.loop-place.p (omega arith) in
+    let r = c.parent-parent.result - 1 in
+    let z = child (entry_in c.args.self.now.entries c.loop-place.p) c.parent-parent.ensures c.if-parent-eq0.false in (
+      omega (arith, parent_lower _ _ _ rooted r z),
+      omega (arith, leaves_late _ _ _ rooted r z),
+      omega (arith, leaves_early _ _ _ rooted r z),
+      parent_marked _ _ _ _ c.args.at c.args.self.now.family (omega arith) c.args.value c.loop-place.flags c.shared-shared.ensures c.node.ensures r (omega arith) z ∙ c.loop-place.invariant.3,
+    )
+
+pub bounds-flags-node : goal.bounds-flags-node
+bounds-flags-node c = omega (arith, c.node.ensures, (rooted_fits _ _ _ (rooted_in c.args.self.now c.loop-place.p (omega arith))).nodes (c.args.at - c.shared-shared.result) (omega arith), c.requires.inside.1)

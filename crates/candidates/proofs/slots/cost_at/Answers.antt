@@ -1,9 +1,0 @@
--- `slots::cost_at` puts the cost together from two words. Assumes nothing.
-use native.Mathlib.Omega.{arith}
-use Rattle.candidates.specs.Slots.{entry_at, decode}
-use Rattle.candidates.proofs.slots.cost_at.Goals as goal
-use Rattle.candidates.proofs.slots.cost_at.Goals as goal
-
-pub returns : goal.returns
-unfolding entry_at decode
-returns c = omega arith
