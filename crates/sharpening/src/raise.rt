@@ -39,9 +39,8 @@ pub fn lift_all(front: &Front<'_>, goal: usize, level: u64, labels: &mut [u64])
     ensures still_small { Small front.now.places labels.new }
     ensures lifted { Lifted goal front.now.taken (length front.now.taken) labels.old labels.new }
 {
-    let taken = front.taken();
-    for i in 0..taken.len() {
-        let x = taken[i] as usize;
+    for &node in front.taken() {
+        let x = node as usize;
         if x != goal {
             lift(x, level, front, labels);
         }
@@ -87,6 +86,7 @@ pub fn mend_all(
     ensures consistent { (os bar : List ℕ) → result ≡ true → Lifted goal front.now.taken (length front.now.taken) os labels.old → ((z : ℕ) → elem z bar ≡ false → get_or used.now z false ≡ false) → Consistent (arcs_of graph.now) goal os bar → Consistent (arcs_of graph.now) goal labels.new bar }
 {
     let taken = front.taken();
+    // by index: the invariant counts the nodes still to be mended, and a reversed iterator has no place
     for i in (0..taken.len()).rev() {
         let x = taken[i] as usize;
         if x != goal && !mend(graph, x, used, labels) {

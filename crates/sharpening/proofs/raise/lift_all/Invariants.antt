@@ -3,5 +3,5 @@ use Rattle.exits.specs.Small.{Small}
 use Rattle.sharpening.specs.Sharp.{Lifted}
 use Rattle.sharpening.proofs.raise.lift_all.Given as goal
 
-abbrev pub invariant-loop-i : goal.invariant-loop-i
-invariant-loop-i l = Small l.front.places l.labels × Lifted l.goal l.front.taken l.i l.initial.labels l.labels
+abbrev pub invariant-loop-node : goal.invariant-loop-node
+invariant-loop-node l = Small l.front.places l.labels × Lifted l.goal l.front.taken l.node-index l.initial.labels l.labels
