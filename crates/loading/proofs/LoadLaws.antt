@@ -11,7 +11,7 @@ use Rattle.terms.specs.Network.{Net, mark, cost_column, column, restrict, open_i
 use Rattle.terms.proofs.ListLaws.{pick_mem, get_or_mem}
 use Rattle.terms.proofs.NetworkLaws.{costs_restrict, costs_mem, costs_long, restrict_admitted, restrict_columns, restrict_nodes, column_open, column_unmarked}
 use Rattle.star.specs.Arcs.{graph, Arcs}
-use Rattle.star.specs.Layout.{graph_of, Network}
+use Rattle.star.specs.Layout.{graph_of, Holds}
 use Rattle.labels.specs.Labels.{Least}
 use Rattle.closures.specs.Map.{left, without}
 use Rattle.closures.proofs.WithoutLaws.{without_columns, without_nodes, without_admitted, without_none, common_without, open_without}
@@ -19,7 +19,7 @@ use Rattle.loading.specs.Selected.{passing, selected, in_a_row}
 use Rattle.loading.specs.Loaded.{Shape, Loaded, Shared}
 use Rattle.loading.proofs.SelectLaws.{selected_restrict, selected_length, selected_nodes}
 use Rattle.loading.proofs.DecodeLaws.{arcs_decoded, graph_weigh}
-use Rattle.loading.proofs.ShapeLaws.{shape_network, shape_graph}
+use Rattle.loading.proofs.ShapeLaws.{shape_holds, shape_graph}
 
 -- a column in arrays: the arcs that are open in it, with their costs, all of them small
 pub record ColumnArrays (net : Net) (u : ℕ) : Type 0 where
@@ -52,12 +52,15 @@ module _ {e : ℕ} {net : Net} (ok : Admitted e net) {u : ℕ} (from : 1 ≤ u) 
       cheap (marked d h) = absurd (unclosed w m h)
 
   module _ {s ws : List ℕ} (shape : Shape some s) (weights_are : ws ≡ cost_column some u) where
-    pub network_of : (k : ℕ) → k ≡ net.nodes + 1 → Network k s ws
-    network_of k e = rw (e ∙ ap (λ n. n + 1) (sym (restrict_nodes f net)), weights_are) (shape_network (restrict_admitted ok f) from columns_to light shape)
+    some_holds : Holds some.nodes s ws
+    some_holds = subst (Holds some.nodes s) (sym weights_are) (shape_holds (restrict_admitted ok f) from columns_to light shape)
+
+    pub graph_holds : Holds net.nodes s ws
+    graph_holds = subst (λ n. Holds n s ws) (restrict_nodes f net) some_holds
 
     pub loaded : {ls : List ℕ} {t : ℕ} → Least (graph_of s ws) [] t ls → length ls ≡ net.nodes + 1 → Loaded some u t s ws ls
     loaded least labels_long = record {
-      network = λ k h. network_of k (h ∙ ap (λ n. n + 1) (restrict_nodes f net));
+      holds = some_holds;
       graph_is = ap (graph_of s) weights_are ∙ shape_graph (restrict_admitted ok f) from columns_to light shape;
       least = least;
       labels_long = labels_long ∙ ap (λ n. n + 1) (sym (restrict_nodes f net));
@@ -94,8 +97,8 @@ module _ {e : ℕ} {net : Net} (ok : Admitted e net) {u : ℕ} (from : 1 ≤ u) 
 
 -- what is loaded of one network is loaded of another that has the same column and nodes
 pub loaded_as : {net net' : Net} {u t : ℕ} {s ws ls : List ℕ} → column net u ≡ column net' u → net.nodes ≡ net'.nodes → Loaded net u t s ws ls → Loaded net' u t s ws ls
-loaded_as e n l = record {
-  network = λ k h. l.network k (h ∙ ap (λ x. x + 1) (sym n));
+loaded_as {s = s} {ws} e n l = record {
+  holds = subst (λ i. Holds i s ws) n l.holds;
   graph_is = l.graph_is ∙ e;
   least = l.least;
   labels_long = l.labels_long ∙ ap (λ x. x + 1) n;

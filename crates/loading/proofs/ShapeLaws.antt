@@ -3,7 +3,7 @@
 use Prim.Native.Nat.{ℕ, ◌+◌, ◌≤◌, ◌<◌}
 use native.Mathlib.Omega.{arith}
 use native.Mathlib.Nat.{eq-or-lt_of_le}
-use mathlib.Core.Path.{◌≡◌, refl, sym, ◌∙◌, ap, subst}
+use mathlib.Core.Path.{◌≡◌, sym, ◌∙◌, ap, subst}
 use mathlib.Core.Logic.{⊎_elim}
 use mathlib.Core.List.{List, ◌++◌, map}
 use lib.ListN.{length, get_or, replicate, length-map, length-replicate}
@@ -16,7 +16,7 @@ use Rattle.terms.proofs.NetworkLaws.{costs_long, column_unmarked}
 use Rattle.star.specs.Arcs.{Arcs}
 use Rattle.star.specs.Chains.{Chains}
 use Rattle.star.specs.Star.{Star, Cut, RisingTails}
-use Rattle.star.specs.Layout.{tails_of, heads_of, outs_of, graph_of, Network}
+use Rattle.star.specs.Layout.{tails_of, heads_of, outs_of, graph_of, Holds}
 use Rattle.star.proofs.StarLaws.{star_of}
 use Rattle.star.proofs.LayoutLaws as layout
 use Rattle.loading.specs.Loaded.{Shape}
@@ -70,10 +70,8 @@ module _ {e : ℕ} {net : Net} {u : ℕ} {s : List ℕ} (ok : Admitted e net) (f
   held : Arcs net.nodes (map (λ a. a.0) net.arcs) (map (λ a. a.1) net.arcs) (cost_column net u)
   held = (arcs_decoded ok).arcs (cost_column net u) long (λ i h. light _ (get_or_mem (cost_column net u) 0 i h))
 
-  pub shape_network : Network (net.nodes + 1) s (cost_column net u)
-  shape_network = record {
-    nodes = net.nodes;
-    places = refl;
+  pub shape_holds : Holds net.nodes s (cost_column net u)
+  shape_holds = record {
     long = rw long shape.long;
     arcs = rw (long, shape.tails_are, shape.heads_are) held;
     star = rw long shape.star;

@@ -3,7 +3,7 @@ use Rattle.std.specs.Prelude.{ℕ, ◌+◌, ◌*◌, ◌≡◌, List, [], map, l
 use Rattle.terms.specs.Network.{Net, column, common}
 use Rattle.star.specs.Chains.{Chains}
 use Rattle.star.specs.Star.{Star}
-use Rattle.star.specs.Layout.{tails_of, heads_of, nexts_of, outs_of, ins_of, graph_of, Network}
+use Rattle.star.specs.Layout.{tails_of, heads_of, nexts_of, outs_of, ins_of, graph_of, Holds}
 use Rattle.labels.specs.Labels.{Least}
 use Rattle.loading.specs.Selected.{in_a_row}
 
@@ -38,7 +38,7 @@ pub record Shape (net : Net) (s : List ℕ) : Type 0 where
 
 -- the slices hold the arcs that are open in column u, their costs there, and the labels to t
 pub record Loaded (net : Net) (u t : ℕ) (s ws ls : List ℕ) : Type 0 where
-  pub network : (k : ℕ) → k ≡ net.nodes + 1 → Network k s ws
+  pub holds : Holds net.nodes s ws
   pub graph_is : graph_of s ws ≡ column net u
   pub least : Least (graph_of s ws) [] t ls
   pub labels_long : length ls ≡ net.nodes + 1

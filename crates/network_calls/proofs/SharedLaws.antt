@@ -28,8 +28,7 @@ use Rattle.image.specs.Layout.{edition, net_of}
 use Rattle.closures.specs.Map.{without, closed_roads}
 use Rattle.closures.proofs.WithoutLaws.{without_none, without_columns, without_nodes, without_admitted, left_count}
 use Rattle.image.specs.declared.check.Sizes.{Sizes}
-use Rattle.star.specs.Layout.{tails_of, heads_of, graph_of, Holds, Network}
-use Rattle.star.proofs.NetworkLaws.{network_holds}
+use Rattle.star.specs.Layout.{tails_of, heads_of, graph_of, Holds}
 use Rattle.labels.specs.Labels.{far, Least}
 use Rattle.loading.specs.Accepted.{Accepted, InColumn, Ends}
 use Rattle.loading.specs.Loaded.{Loaded, Shared}
@@ -37,7 +36,7 @@ use Rattle.loading.proofs.RowLaws.{row_length, row_cut, row_mem}
 use Rattle.loading.proofs.SelectLaws.{common_all}
 use Rattle.loading.proofs.DecodeLaws.{admitted}
 use Rattle.loading.proofs.LoadLaws.{loaded_least}
-use Rattle.loading.proofs.ShapeLaws.{shape_network}
+use Rattle.loading.proofs.ShapeLaws.{shape_holds}
 use Rattle.ranking.specs.Ranking.{Problem}
 use Rattle.ranking.proofs.ResultLaws.{problem_of}
 use Rattle.star.proofs.ArcLaws.{graph_within}
@@ -120,7 +119,7 @@ module _ {e : ℕ} {net : Net} (ok₀ : Admitted e net) {n cols : ℕ} (n_is : n
   shared_graph {u} from upto =
       let light : (w : ℕ) → w ∈ cost_column (common net) u → w ≤ 1000000 = λ w h. common_cost_to ok₀ u from (omega (arith, cols_are)) w h in
       let common_is : (common net).nodes ≡ n = common_nodes net ∙ sym n_is in
-      network_holds (subst (λ k. Network (k + 1) star (column_costs m costs u)) common_is (subst (Network ((common net).nodes + 1) star) (sym (own_costs from upto)) (shape_network ok from (omega (arith, count)) light S.shape))) refl
+      subst (λ k. Holds k star (column_costs m costs u)) common_is (subst (Holds (common net).nodes star) (sym (own_costs from upto)) (shape_holds ok from (omega (arith, count)) light S.shape))
 
   light_at : (j : ℕ) → j < cols → {w : ℕ} → w ∈ get_or (common net).columns j [] → w ≤ 1000000
   unfolding cost_column

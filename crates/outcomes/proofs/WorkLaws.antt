@@ -10,7 +10,6 @@ use Rattle.image.proofs.OutcomeLaws.{after_fault}
 use Rattle.loading.specs.Accepted.{Ends}
 use Rattle.loading.specs.Loaded.{Loaded}
 use Rattle.star.specs.Layout.{graph_of, Holds}
-use Rattle.star.proofs.NetworkLaws.{network_holds}
 use Rattle.ranking.specs.Ranking.{Problem}
 use Rattle.ranking.proofs.ResultLaws.{problem_of}
 use Rattle.outcomes.specs.Calls.{workspace, cleared}
@@ -30,7 +29,7 @@ cleared_not work e = after_fault _ _ e
 
 -- a loaded column is a graph of n nodes
 pub column_holds : {net : Net} {u t n : ℕ} {star ws overall : List ℕ} → Loaded net u t star ws overall → n ≡ net.nodes → Holds n star ws
-column_holds {net} l n_is = network_holds (l.network (net.nodes + 1) refl) (ap (λ n. n + 1) (sym n_is))
+column_holds {star = star} {ws} l n_is = subst (λ n. Holds n star ws) (sym n_is) l.holds
 
 -- the paths from s to t in a loaded column can be ranked
 pub rank_problem : {net : Net} {u s t n : ℕ} {star ws overall : List ℕ} → Ends net.nodes s t → Loaded net u t star ws overall → n ≡ net.nodes → Problem n s t (graph_of star ws) overall

@@ -38,13 +38,3 @@ pub record Holds (n : ℕ) (s ws : List ℕ) : Type 0 where
   pub star : Star n (tails_of (length ws) s) (heads_of (length ws) s) (outs_of (n + 1) (length ws) s)
   pub chains : Chains (heads_of (length ws) s) (ins_of (n + 1) (length ws) s) (nexts_of (length ws) s)
   pub ins_long : length (ins_of (n + 1) (length ws) s) ≡ n + 1
-
--- the slices hold a graph whose nodes have the places below k
-pub record Network (k : ℕ) (s ws : List ℕ) : Type 0 where
-  pub nodes : ℕ
-  pub places : k ≡ nodes + 1
-  pub long : length s ≡ 3 * length ws + k + 1 + k
-  pub arcs : Arcs nodes (tails_of (length ws) s) (heads_of (length ws) s) ws
-  pub star : Star nodes (tails_of (length ws) s) (heads_of (length ws) s) (outs_of k (length ws) s)
-  pub chains : Chains (heads_of (length ws) s) (ins_of k (length ws) s) (nexts_of (length ws) s)
-  pub ins_long : length (ins_of k (length ws) s) ≡ k

@@ -1,12 +1,13 @@
 -- `first_path::find_in` loads the column and finds its first path. Assumes nothing.
-use Prim.Native.Nat.{◌+◌, ◌*◌}
+use Prim.Native.Nat.{◌+◌, ◌*◌, ◌-◌}
+use mathlib.Core.Path.{◌≡◌, subst}
 use native.Mathlib.Omega.{arith}
 use lib.ListN.{length, take}
 use Rattle.image.specs.Layout.{net_of}
 use Rattle.loading.specs.Loaded.{Loaded}
 use Rattle.column_calls.proofs.RoomLaws.{column_part}
 use Rattle.column_calls.proofs.RankLaws.{found_in_column}
-use Rattle.star.proofs.NetworkLaws.{network_holds}
+use Rattle.star.specs.Layout.{Holds}
 use Rattle.column_calls.proofs.first_path.find_in.Goals as goal
 
 pub shortest-requires : goal.shortest-requires
@@ -14,7 +15,7 @@ shortest-requires c =
     let column_loaded : Loaded (net_of c.args.network.now.image.now) c.args.u c.args.goal (take (3 * c.load-m.result + length c.load-m.new.overall + 1 + length c.load-m.new.overall) c.load-m.new.star) (take c.load-m.result c.load-m.new.weights) c.load-m.new.overall = column_part c.args.network.now.accepted c.load-m.new.star c.load-m.new.weights c.load-m.result c.load-m.ensures.1 in
     let L = column_loaded in
     let long = L.labels_long in
-    record { nodes = omega (arith, (L.network _ long).places); ends = (record { start_from = c.requires.ends.start_in.from; start_place = omega (arith, c.requires.ends.start_in, long); goal_place = omega (arith, c.requires.ends.goal_in, long); apart = c.requires.ends.apart }, omega (arith, long, c.requires.route_len)); least = L.least }
+    record { nodes = omega (arith, long); ends = (record { start_from = c.requires.ends.start_in.from; start_place = omega (arith, c.requires.ends.start_in, long); goal_place = omega (arith, c.requires.ends.goal_in, long); apart = c.requires.ends.apart }, omega (arith, long, c.requires.route_len)); least = L.least }
 
 pub returns : goal.returns
 returns c =
@@ -24,5 +25,5 @@ returns c =
 pub invariant_of-graph : goal.invariant_of-graph
 invariant_of-graph c =
     let L : Loaded (net_of c.args.network.now.image.now) c.args.u c.args.goal (take (3 * c.load-m.result + length c.load-m.new.overall + 1 + length c.load-m.new.overall) c.load-m.new.star) (take c.load-m.result c.load-m.new.weights) c.load-m.new.overall = column_part c.args.network.now.accepted c.load-m.new.star c.load-m.new.weights c.load-m.result c.load-m.ensures.1 in
-    let network = L.network _ L.labels_long in
-    record { holds = network_holds network (omega (arith, network.places)) }
+    let places : (net_of c.args.network.now.image.now).nodes ≡ length c.load-m.new.overall - 1 = omega (arith, L.labels_long) in
+    record { holds = subst (λ n. Holds n (take (3 * c.load-m.result + length c.load-m.new.overall + 1 + length c.load-m.new.overall) c.load-m.new.star) (take c.load-m.result c.load-m.new.weights)) places L.holds }

@@ -4,11 +4,11 @@ use native.Mathlib.Omega.{arith}
 use mathlib.Core.Path.{◌≡◌, refl, sym, ◌∙◌, ap, subst}
 use Rattle.terms.specs.Network.{cost_column, restrict}
 use Rattle.image.specs.Layout.{net_of}
-use Rattle.star.proofs.NetworkLaws.{network_holds}
+use Rattle.star.specs.Layout.{Holds}
 use Rattle.loading.specs.Selected.{selected}
 use Rattle.loading.specs.Loaded.{Shape, Loaded}
 use Rattle.loading.proofs.SelectLaws.{selected_restrict, selected_costs}
-use Rattle.loading.proofs.LoadLaws.{network_of, loaded}
+use Rattle.loading.proofs.LoadLaws.{graph_holds, loaded}
 use Rattle.loading.proofs.DecodeLaws.{admitted}
 use Rattle.loading.proofs.loading.label_column.Goals as goal
 
@@ -17,7 +17,7 @@ invariant_of-graph c =
     let some : selected c.args.kept.now (net_of c.args.network.now.image.now) ≡ restrict c.requires.open_indices.test (net_of c.args.network.now.image.now) = selected_restrict (admitted c.args.network.now.accepted) c.requires.open_indices.test c.args.network.now.accepted.arcs_are c.requires.open_indices.are in
     let shape : Shape (restrict c.requires.open_indices.test (net_of c.args.network.now.image.now)) c.fill_star.new.star = subst (λ net. Shape net c.fill_star.new.star) some c.fill_star.ensures in
     let weights : c.read_column.new.weights ≡ cost_column (restrict c.requires.open_indices.test (net_of c.args.network.now.image.now)) c.args.u = c.read_column.ensures ∙ sym (selected_costs c.args.kept.now (net_of c.args.network.now.image.now) c.args.u c.requires.column.from c.requires.column.upto) ∙ ap (λ net. cost_column net c.args.u) some in
-    record { holds = network_holds (network_of (admitted c.args.network.now.accepted) c.requires.column.from c.requires.column.upto c.requires.open_indices.test c.requires.open_indices.opened shape weights (c.args.network.now.sizes.n + 1) (ap (λ (x : ℕ). x + 1) c.args.network.now.accepted.nodes_are)) refl }
+    record { holds = subst (λ n. Holds n c.fill_star.new.star c.read_column.new.weights) (sym c.args.network.now.accepted.nodes_are) (graph_holds (admitted c.args.network.now.accepted) c.requires.column.from c.requires.column.upto c.requires.open_indices.test c.requires.open_indices.opened shape weights) }
 
 pub label_nodes-requires : goal.label_nodes-requires
 label_nodes-requires c = record { goal = omega (arith, c.requires.goal.upto, c.args.network.now.accepted.nodes_are); overall_long = c.requires.room.labels_long }
