@@ -2,8 +2,8 @@
 use Prim.Native.Nat.{ℕ, ◌+◌}
 use native.Mathlib.Omega.{arith}
 use mathlib.Core.Path.{◌≡◌, refl, ◌∙◌}
-use mathlib.Core.Bool.{false, Bool, true}
-use mathlib.Core.Logic.{⊎_elim}
+use mathlib.Core.Bool.{false, Bool}
+use mathlib.Core.Logic.{◌≢◌, ⊎_elim}
 use mathlib.Core.List.{List}
 use lib.ListN.{length, take, get_or, replicate, get_or-eq_default}
 use Rattle.terms.specs.Lists.{elem}
@@ -21,6 +21,7 @@ use Rattle.exits.specs.Small.{Small}
 use Rattle.exits.specs.Walks.{Consistent, Choice}
 use Rattle.branching.specs.Found.{Ahead, Begun}
 use Rattle.branching.proofs.FlagLaws.{flags_none, least_exact, unflagged}
+use Rattle.branching.proofs.FirstLaws.{Stepping}
 use Rattle.branching.proofs.WalkLaws.{Exact, consistent_more}
 
 -- a weight can be added to a label that is not the mark
@@ -45,6 +46,10 @@ module _ {n k : ℕ} {s ws : List ℕ} (holds : Holds n s ws) (nodes : k ≡ n +
   -- labels with the nodes of a beginning barred are exact, as these nodes are the flagged ones
   pub begun_exact : {used barred : List Bool} {path ls : List ℕ} {d t : ℕ} → Begun k used barred path d → Ahead k t used → length ls ≡ k → Least (graph_of s ws) used t ls → Exact (graph_of s ws) t ls (take d path)
   begun_exact b a long l = graph_exact long l b.laid.flagged (unflagged b.laid.flagged _ a.unmet)
+
+  -- and so step by step, before the goal is met
+  pub stepping_exact : {used : List Bool} {path₀ path ls : List ℕ} {at len x t : ℕ} → Stepping k path₀ at t used path len x → x ≢ t → length ls ≡ k → Least (graph_of s ws) used t ls → Exact (graph_of s ws) t ls (take len path)
+  stepping_exact st n long l = graph_exact long l st.longer.laid.flagged (unflagged st.longer.laid.flagged _ (st.goal_ahead n))
 
   -- local arrays have room for its nodes
   pub room_long : length {A = ℕ} (take k (replicate 201 0)) ≡ k

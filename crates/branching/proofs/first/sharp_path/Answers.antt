@@ -3,46 +3,10 @@
 use Prim.Native.Nat.{◌-◌}
 use native.Mathlib.Omega.{arith}
 use mathlib.Core.Path.{refl}
-use lib.ListN.{length, take, get_or}
-use Rattle.exits.specs.Exits.{Unmarked}
-use Rattle.star.specs.Graphs.{arcs_of}
-use Rattle.exits.specs.Small.{Small}
-use Rattle.exits.specs.Walks.{Consistent, Choice}
 use Rattle.branching.specs.Found.{Extent, FirstFound, FirstWithin}
 use Rattle.branching.proofs.FirstLaws.{branch_empty, branch_floor}
 use Rattle.branching.proofs.LaidLaws.{laid_place}
 use Rattle.branching.proofs.first.sharp_path.Goals as goal
-
-pub exact_path-requires : goal.exact_path-requires
-exact_path-requires c =
-    record { nodes = c.requires.nodes; begun = c.requires.begun; ahead = c.requires.ahead }
-
-pub returns-then-not-sharp : goal.returns-then-not-sharp
-returns-then-not-sharp c =
-    record { kept = c.exact_path.ensures.kept; first_within = λ s F B h. FirstWithin.is (c.exact_path.ensures.first_found s F B h) }
-
-pub returns-in_default : goal.returns-in_default
-returns-in_default c =
-    let consistent : Consistent (arcs_of c.args.graph.now) c.args.goal c.sharpen-sharp.new.labels (take c.args.d c.args.path.now) = c.sharpen-sharp.ensures.consistent _ c.if-not-sharp.false c.requires.begun.laid.flagged.outside c.requires.consistent.0 in
-    record { kept = record { flags = refl; kept = refl; reach = Extent.nothing }; first_within = λ s F B h. FirstWithin.is (FirstFound.none (branch_empty c.requires.begun h B consistent (rw c.in_default.is at c.least_exit.ensures.chosen))) }
-
-pub returns-then-is_dear : goal.returns-then-is_dear
-returns-then-is_dear c =
-    let consistent : Consistent (arcs_of c.args.graph.now) c.args.goal c.sharpen-sharp.new.labels (take c.args.d c.args.path.now) = c.sharpen-sharp.ensures.consistent _ c.if-not-sharp.false c.requires.begun.laid.flagged.outside c.requires.consistent.0 in
-    let choice : Choice (arcs_of c.args.graph.now) c.sharpen-sharp.new.labels (Unmarked c.args.used.now c.args.barred.now) (get_or c.args.path.now (c.args.d - 1) 0) c.in-Some.step.rest c.in-Some.step.node = c.in-Some.ensures.chosen in
-    let d = c.is_dear.ensures c.if-is_dear.true in
-    record { kept = record { flags = refl; kept = refl; reach = Extent.nothing }; first_within = λ s F B h. FirstWithin.dear _ d.0 d.1 (branch_floor c.requires.begun h B choice consistent) }
-
-pub along-requires : goal.along-requires
-along-requires c =
-    let small : Small (length c.args.used.now) c.sharpen-sharp.new.labels = rw c.requires.consistent.1.long at c.sharpen-sharp.ensures.still_small in
-    let consistent : Consistent (arcs_of c.args.graph.now) c.args.goal c.sharpen-sharp.new.labels (take c.args.d c.args.path.now) = c.sharpen-sharp.ensures.consistent _ c.if-not-sharp.false c.requires.begun.laid.flagged.outside c.requires.consistent.0 in
-    let choice : Choice (arcs_of c.args.graph.now) c.sharpen-sharp.new.labels (Unmarked c.args.used.now c.args.barred.now) (get_or c.args.path.now (c.args.d - 1) 0) c.in-Some.step.rest c.in-Some.step.node = c.in-Some.ensures.chosen in
-    record { nodes = c.requires.nodes; begun = c.requires.begun; ahead = c.requires.ahead; consistent = (consistent, small); choice = choice }
-
-pub returns : goal.returns
-returns c =
-    record { kept = c.along.ensures.kept; first_within = λ s F B h. FirstWithin.is (c.along.ensures.first_found s F B h) }
 
 pub sharpen-sharp-requires-clause-small : goal.sharpen-sharp-requires-clause-small
 sharpen-sharp-requires-clause-small c = rw c.requires.consistent.1.long c.requires.consistent.1
@@ -50,12 +14,40 @@ sharpen-sharp-requires-clause-small c = rw c.requires.consistent.1.long c.requir
 pub sharpen-sharp-requires-clause-from : goal.sharpen-sharp-requires-clause-from
 sharpen-sharp-requires-clause-from c = rw c.requires.consistent.1.long (laid_place (c.args.d - 1) (omega (arith, c.requires.begun.some)) c.requires.begun.laid)
 
+pub returns-then-not-sharp : goal.returns-then-not-sharp
+returns-then-not-sharp c = record { kept = c.exact_path.ensures.kept; first_within = λ s F B h. FirstWithin.is (c.exact_path.ensures.first_found s F B h) }
+
 pub least_exit-requires-clause-node : goal.least_exit-requires-clause-node
 least_exit-requires-clause-node c =
-    let small : Small (length c.args.used.now) c.sharpen-sharp.new.labels = rw c.requires.consistent.1.long at c.sharpen-sharp.ensures.still_small in
+    let small = rw c.requires.consistent.1.long at c.sharpen-sharp.ensures.still_small in
     rw small.long (laid_place (c.args.d - 1) (omega (arith, c.requires.begun.some)) c.requires.begun.laid)
 
 pub least_exit-requires-clause-small : goal.least_exit-requires-clause-small
 least_exit-requires-clause-small c =
-    let small : Small (length c.args.used.now) c.sharpen-sharp.new.labels = rw c.requires.consistent.1.long at c.sharpen-sharp.ensures.still_small in
+    let small = rw c.requires.consistent.1.long at c.sharpen-sharp.ensures.still_small in
     rw small.long small
+
+pub returns-in_default : goal.returns-in_default
+returns-in_default c =
+    let consistent = c.sharpen-sharp.ensures.consistent _ c.if-not-sharp.false c.requires.begun.laid.flagged.outside c.requires.consistent.0 in
+    record {
+      kept = record { flags = refl; kept = refl; reach = Extent.nothing };
+      first_within = λ s F B h. FirstWithin.is (FirstFound.none (branch_empty c.requires.begun h B consistent (rw c.in_default.is at c.least_exit.ensures.chosen)));
+    }
+
+pub returns-then-is_dear : goal.returns-then-is_dear
+returns-then-is_dear c =
+    let consistent = c.sharpen-sharp.ensures.consistent _ c.if-not-sharp.false c.requires.begun.laid.flagged.outside c.requires.consistent.0 in
+    let d = c.is_dear.ensures c.if-is_dear.true in
+    record {
+      kept = record { flags = refl; kept = refl; reach = Extent.nothing };
+      first_within = λ s F B h. FirstWithin.dear _ d.0 d.1 (branch_floor c.requires.begun h B c.in-Some.ensures.chosen consistent);
+    }
+
+pub along-requires : goal.along-requires
+along-requires c =
+    let consistent = c.sharpen-sharp.ensures.consistent _ c.if-not-sharp.false c.requires.begun.laid.flagged.outside c.requires.consistent.0 in
+    record { nodes = c.requires.nodes; begun = c.requires.begun; ahead = c.requires.ahead; consistent = (consistent, rw c.requires.consistent.1.long at c.sharpen-sharp.ensures.still_small); choice = c.in-Some.ensures.chosen }
+
+pub returns : goal.returns
+returns c = record { kept = c.along.ensures.kept; first_within = λ s F B h. FirstWithin.is (c.along.ensures.first_found s F B h) }

@@ -1,11 +1,10 @@
 -- `walk::walk` lengthens the path by tight steps. The loop: the path is laid out and flagged, and the walk so far goes on as a tight walk; the room behind
 -- the path falls. Assumes nothing.
 use mathlib.Core.Path.{refl, ◌∙◌}
-use Prim.Native.Nat.{◌-◌, ◌<◌}
+use Prim.Native.Nat.{◌-◌}
 use native.Mathlib.Omega.{arith}
-use lib.ListN.{length, length-set}
+use lib.ListN.{length-set}
 use lib.Seq.{take-set-le}
-use Rattle.exits.specs.Flags.{Fresh}
 use Rattle.branching.proofs.LaidLaws.{take_more, walking_start, walking_step, walking_end, laid_room, laid_more, laid_place}
 use Rattle.branching.proofs.walk.walk.Goals as goal
 
@@ -18,16 +17,12 @@ returns-in_default c =
 
 pub loop-x-smaller : goal.loop-x-smaller
 loop-x-smaller c =
-    let usable : Fresh (length c.args.labels.now) c.loop-x.used c.in-Some.y = c.in-Some.ensures.usable in
-    let room : c.loop-x.len < length c.loop-x.path = laid_room c.loop-x.invariant.3 usable in
-    simp length-set (omega (arith, room))
+    simp length-set (omega (arith, laid_room c.loop-x.invariant.3 c.in-Some.ensures.usable))
 
 pub loop-x-preserved : goal.loop-x-preserved
 loop-x-preserved c =
-    let usable : Fresh (length c.args.labels.now) c.loop-x.used c.in-Some.y = c.in-Some.ensures.usable in
-    let room : c.loop-x.len < length c.loop-x.path = laid_room c.loop-x.invariant.3 usable in
-    let u = usable in
-    let e = take_more c.loop-x.path c.loop-x.len c.in-Some.y room in (
+    let u = c.in-Some.ensures.usable in
+    let e = take_more c.loop-x.path c.loop-x.len c.in-Some.y (laid_room c.loop-x.invariant.3 u) in (
       omega (arith, c.loop-x.invariant.0),
       simp length-set c.loop-x.invariant.1,
       take-set-le _ _ _ c.in-Some.y c.loop-x.invariant.0 ∙ c.loop-x.invariant.2,
@@ -44,7 +39,4 @@ returns c =
     record { longer = record { no_shorter = c.loop-x.invariant.0; laid = c.loop-x.invariant.3; kept = c.loop-x.invariant.2 }; arrives = λ r. walking_end c.loop-x-test.false (c.loop-x.invariant.5 r).0 }
 
 pub bounds-path-len : goal.bounds-path-len
-bounds-path-len c =
-    let usable : Fresh (length c.args.labels.now) c.loop-x.used c.in-Some.y = c.in-Some.ensures.usable in
-    let room : c.loop-x.len < length c.loop-x.path = laid_room c.loop-x.invariant.3 usable in
-    room
+bounds-path-len c = laid_room c.loop-x.invariant.3 c.in-Some.ensures.usable
