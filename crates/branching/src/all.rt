@@ -17,7 +17,7 @@ pub fn shortest(
     overall: &[u64],
     path: &mut [u16],
 ) -> Option<Tail>
-    requires nodes { length overall.now ≡ graph.now.nodes + 1 }
+    requires overall_long { length overall.now ≡ graph.now.nodes + 1 }
     requires ends { Ends (length overall.now) start goal × (length overall.now ≤ length path.old + 1) }
     requires least { Least (arcs_of graph.now) [] goal overall.now }
     ensures extent { Extent 1 path.new result }

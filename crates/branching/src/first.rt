@@ -34,7 +34,7 @@ fn steps(
     at: usize,
     labels: &mut [u64],
 ) -> usize
-    requires nodes { length used.old ≡ graph.now.nodes + 1 }
+    requires used_long { length used.old ≡ graph.now.nodes + 1 }
     requires laid { Laid (length used.old) used.old path.old at × (1 ≤ at) }
     requires goal_unmet { (goal < length used.old) × ((get_or path.old (at - 1) 0 ≡ goal → ⊥) → get_or used.old goal false ≡ false) }
     requires labels_long { length labels.old ≡ length used.old }
@@ -66,7 +66,7 @@ fn by_steps(
     y: u16,
     labels: &mut [u64],
 ) -> usize
-    requires nodes { length used.old ≡ graph.now.nodes + 1 }
+    requires used_long { length used.old ≡ graph.now.nodes + 1 }
     requires laid { Laid (length used.old) used.old path.old d × Fresh (length used.old) used.old y }
     requires ahead { Ahead (length used.old) goal used.old }
     requires labels_long { length labels.old ≡ length used.old }
@@ -90,7 +90,7 @@ fn exact_path(
     path: &mut [u16],
     d: usize,
 ) -> Option<Tail>
-    requires nodes { length used.old ≡ graph.now.nodes + 1 }
+    requires used_long { length used.old ≡ graph.now.nodes + 1 }
     requires begun { Begun (length used.old) used.old barred.now path.old d }
     requires ahead { Ahead (length used.old) goal used.old }
     ensures kept { Kept used.old path.old d used.new path.new result }
@@ -129,7 +129,7 @@ pub fn along(
     d: usize,
     step: Step,
 ) -> Option<Tail>
-    requires nodes { length used.old ≡ graph.now.nodes + 1 }
+    requires used_long { length used.old ≡ graph.now.nodes + 1 }
     requires begun { Begun (length used.old) used.old barred.now path.old d }
     requires ahead { Ahead (length used.old) goal used.old }
     requires consistent { Consistent (arcs_of graph.now) goal overall.now (take d path.old) × Small (length used.old) overall.now }
@@ -165,7 +165,7 @@ fn sharp_path(
     d: usize,
     most: u64,
 ) -> Option<Tail>
-    requires nodes { length used.old ≡ graph.now.nodes + 1 }
+    requires used_long { length used.old ≡ graph.now.nodes + 1 }
     requires begun { Begun (length used.old) used.old barred.now path.old d }
     requires ahead { Ahead (length used.old) goal used.old }
     requires consistent { Consistent (arcs_of graph.now) goal overall.now (take d path.old) × Small (length used.old) overall.now × (most ≤ longest) }
@@ -208,7 +208,7 @@ pub fn first_path(
     step: Step,
     most: u64,
 ) -> Option<Tail>
-    requires nodes { length used.old ≡ graph.now.nodes + 1 }
+    requires used_long { length used.old ≡ graph.now.nodes + 1 }
     requires begun { Begun (length used.old) used.old barred.now path.old d }
     requires ahead { Ahead (length used.old) goal used.old }
     requires consistent { Consistent (arcs_of graph.now) goal overall.now (take d path.old) × Small (length used.old) overall.now × (most ≤ longest) }

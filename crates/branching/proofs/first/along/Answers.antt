@@ -8,7 +8,7 @@ use Rattle.branching.proofs.first.along.Goals as goal
 
 pub attempt-requires : goal.attempt-requires
 attempt-requires c =
-    rw c.requires.consistent.1.long (record { nodes = c.requires.nodes; laid = (c.requires.begun.laid, choice_fresh c.args.graph.now.holds c.requires.nodes c.requires.choice) })
+    rw c.requires.consistent.1.long (record { labels_long = c.requires.used_long; laid = (c.requires.begun.laid, choice_fresh c.args.graph.now.holds c.requires.used_long c.requires.choice) })
 
 pub returns-in-Some : goal.returns-in-Some
 returns-in-Some c =
@@ -22,7 +22,7 @@ returns-in-Some c =
 pub exact_path-requires : goal.exact_path-requires
 exact_path-requires c =
     let back = c.attempt.ensures.back in
-    rw back.flags (record { nodes = c.requires.nodes; begun = record { laid = laid_kept back.kept c.attempt.auto.path c.requires.begun.laid; some = c.requires.begun.some; barred_long = c.requires.begun.barred_long }; ahead = c.requires.ahead })
+    rw back.flags (record { used_long = c.requires.used_long; begun = record { laid = laid_kept back.kept c.attempt.auto.path c.requires.begun.laid; some = c.requires.begun.some; barred_long = c.requires.begun.barred_long }; ahead = c.requires.ahead })
 
 pub returns : goal.returns
 returns c =

@@ -8,7 +8,7 @@ use Rattle.branching.proofs.first.by_steps.Goals as goal
 
 pub steps-len-requires : goal.steps-len-requires
 steps-len-requires c =
-    rw (length-set c.args.used.now c.args.y true) (record { nodes = c.requires.nodes; laid = (laid_more c.requires.laid.0 c.requires.laid.1, omega arith); goal_unmet = (c.requires.ahead.place, still_ahead c.requires.laid.0 c.requires.laid.1 c.requires.ahead); labels_long = c.requires.labels_long })
+    rw (length-set c.args.used.now c.args.y true) (record { used_long = c.requires.used_long; laid = (laid_more c.requires.laid.0 c.requires.laid.1, omega arith); goal_unmet = (c.requires.ahead.place, still_ahead c.requires.laid.0 c.requires.laid.1 c.requires.ahead); labels_long = c.requires.labels_long })
 
 pub unmark-requires : goal.unmark-requires
 unmark-requires c =

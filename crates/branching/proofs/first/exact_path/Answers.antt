@@ -10,17 +10,17 @@ use Rattle.branching.proofs.first.exact_path.Goals as goal
 
 pub returns-in_default : goal.returns-in_default
 returns-in_default c =
-    let exact = begun_exact c.args.graph.now.holds c.requires.nodes c.requires.begun c.requires.ahead (c.least.auto.labels ∙ room_long c.args.graph.now.holds c.requires.nodes) c.least.ensures in
+    let exact = begun_exact c.args.graph.now.holds c.requires.used_long c.requires.begun c.requires.ahead (c.least.auto.labels ∙ room_long c.args.graph.now.holds c.requires.used_long) c.least.ensures in
     record { kept = record { flags = refl; kept = refl; reach = Extent.nothing }; first_found = λ s F B h. FirstFound.none (branch_empty c.requires.begun h B exact.consistent (rw c.in_default.is at c.least_exit.ensures.chosen)) }
 
 pub attempt-requires : goal.attempt-requires
 attempt-requires c =
-    let long = c.least.auto.labels ∙ room_long c.args.graph.now.holds c.requires.nodes in
-    rw long (record { nodes = c.requires.nodes; laid = (c.requires.begun.laid, rw long at c.in-Some.ensures.usable) })
+    let long = c.least.auto.labels ∙ room_long c.args.graph.now.holds c.requires.used_long in
+    rw long (record { labels_long = c.requires.used_long; laid = (c.requires.begun.laid, rw long at c.in-Some.ensures.usable) })
 
 pub returns-in-Some-attempt : goal.returns-in-Some-attempt
 returns-in-Some-attempt c =
-    let exact = begun_exact c.args.graph.now.holds c.requires.nodes c.requires.begun c.requires.ahead (c.least.auto.labels ∙ room_long c.args.graph.now.holds c.requires.nodes) c.least.ensures in
+    let exact = begun_exact c.args.graph.now.holds c.requires.used_long c.requires.begun c.requires.ahead (c.least.auto.labels ∙ room_long c.args.graph.now.holds c.requires.used_long) c.least.ensures in
     let choice = c.in-Some.ensures.chosen in
     record {
       kept = tried_kept (rw c.in-Some-attempt.is at c.attempt.ensures.tried);
@@ -31,13 +31,13 @@ returns-in-Some-attempt c =
 
 pub by_steps-len-requires : goal.by_steps-len-requires
 by_steps-len-requires c =
-    let long = c.least.auto.labels ∙ room_long c.args.graph.now.holds c.requires.nodes in
+    let long = c.least.auto.labels ∙ room_long c.args.graph.now.holds c.requires.used_long in
     let back = c.attempt.ensures.back in
-    rw back.flags (record { nodes = c.requires.nodes; laid = (laid_kept back.kept c.attempt.auto.path c.requires.begun.laid, rw long at c.in-Some.ensures.usable); ahead = c.requires.ahead; labels_long = long })
+    rw back.flags (record { used_long = c.requires.used_long; laid = (laid_kept back.kept c.attempt.auto.path c.requires.begun.laid, rw long at c.in-Some.ensures.usable); ahead = c.requires.ahead; labels_long = long })
 
 pub returns : goal.returns
 returns c =
-    let exact = begun_exact c.args.graph.now.holds c.requires.nodes c.requires.begun c.requires.ahead (c.least.auto.labels ∙ room_long c.args.graph.now.holds c.requires.nodes) c.least.ensures in
+    let exact = begun_exact c.args.graph.now.holds c.requires.used_long c.requires.begun c.requires.ahead (c.least.auto.labels ∙ room_long c.args.graph.now.holds c.requires.used_long) c.least.ensures in
     let back = c.attempt.ensures.back in
     record {
       kept = tried_kept (tried_again back c.by_steps-len.ensures.tried);
@@ -47,12 +47,12 @@ returns c =
     }
 
 pub least-requires-clause-goal : goal.least-requires-clause-goal
-least-requires-clause-goal c = rw (room_long c.args.graph.now.holds c.requires.nodes) (record { place = c.requires.ahead.place; free = c.requires.ahead.unmet })
+least-requires-clause-goal c = rw (room_long c.args.graph.now.holds c.requires.used_long) (record { place = c.requires.ahead.place; free = c.requires.ahead.unmet })
 
 pub least_exit-requires-clause-node : goal.least_exit-requires-clause-node
-least_exit-requires-clause-node c = rw (c.least.auto.labels ∙ room_long c.args.graph.now.holds c.requires.nodes) (laid_place (c.args.d - 1) (omega (arith, c.requires.begun.some)) c.requires.begun.laid)
+least_exit-requires-clause-node c = rw (c.least.auto.labels ∙ room_long c.args.graph.now.holds c.requires.used_long) (laid_place (c.args.d - 1) (omega (arith, c.requires.begun.some)) c.requires.begun.laid)
 
 pub least_exit-requires-clause-small : goal.least_exit-requires-clause-small
 least_exit-requires-clause-small c =
-    let long = c.least.auto.labels ∙ room_long c.args.graph.now.holds c.requires.nodes in
-    rw long (graph_small c.args.graph.now.holds c.requires.nodes long c.least.ensures)
+    let long = c.least.auto.labels ∙ room_long c.args.graph.now.holds c.requires.used_long in
+    rw long (graph_small c.args.graph.now.holds c.requires.used_long long c.least.ensures)

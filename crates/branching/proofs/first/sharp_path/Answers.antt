@@ -47,7 +47,7 @@ returns-then-is_dear c =
 pub along-requires : goal.along-requires
 along-requires c =
     let consistent = c.sharpen-sharp.ensures.consistent _ c.if-not-sharp.false c.requires.begun.laid.flagged.outside c.requires.consistent.0 in
-    record { nodes = c.requires.nodes; begun = c.requires.begun; ahead = c.requires.ahead; consistent = (consistent, rw c.requires.consistent.1.long at c.sharpen-sharp.ensures.still_small); choice = c.in-Some.ensures.chosen }
+    record { used_long = c.requires.used_long; begun = c.requires.begun; ahead = c.requires.ahead; consistent = (consistent, rw c.requires.consistent.1.long at c.sharpen-sharp.ensures.still_small); choice = c.in-Some.ensures.chosen }
 
 pub returns : goal.returns
 returns c = record { kept = c.along.ensures.kept; first_within = λ s F B h. FirstWithin.is (c.along.ensures.first_found s F B h) }

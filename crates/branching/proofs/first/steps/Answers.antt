@@ -20,11 +20,11 @@ least_exit-requires-clause-node c = rw (c.least.auto.labels ∙ c.loop-x.invaria
 pub least_exit-requires-clause-small : goal.least_exit-requires-clause-small
 least_exit-requires-clause-small c =
     let long = c.least.auto.labels ∙ c.loop-x.invariant.1 in
-    rw long (graph_small c.args.graph.now.holds c.requires.nodes long c.least.ensures)
+    rw long (graph_small c.args.graph.now.holds c.requires.used_long long c.least.ensures)
 
 pub returns-in_default : goal.returns-in_default
 returns-in_default c =
-    let exact = stepping_exact c.args.graph.now.holds c.requires.nodes c.loop-x.invariant.0 c.loop-x-test.true (c.least.auto.labels ∙ c.loop-x.invariant.1) c.least.ensures in
+    let exact = stepping_exact c.args.graph.now.holds c.requires.used_long c.loop-x.invariant.0 c.loop-x-test.true (c.least.auto.labels ∙ c.loop-x.invariant.1) c.least.ensures in
     record { longer = c.loop-x.invariant.0.longer; is_first = λ s p k. absurd (stepping_stuck c.loop-x.invariant.0 (c.loop-x.invariant.2 s p k) c.loop-x-test.true exact (rw c.in_default.is at c.least_exit.ensures.chosen)) }
 
 pub bounds-path-len : goal.bounds-path-len
@@ -36,7 +36,7 @@ loop-x-smaller c = simp length-set (omega (arith, laid_room c.loop-x.invariant.0
 pub loop-x-preserved : goal.loop-x-preserved
 loop-x-preserved c =
     let long = c.least.auto.labels ∙ c.loop-x.invariant.1 in
-    let exact = stepping_exact c.args.graph.now.holds c.requires.nodes c.loop-x.invariant.0 c.loop-x-test.true long c.least.ensures in
+    let exact = stepping_exact c.args.graph.now.holds c.requires.used_long c.loop-x.invariant.0 c.loop-x-test.true long c.least.ensures in
     let usable = rw long at c.in-Some.ensures.usable in (
       stepping_more c.loop-x-test.true usable c.loop-x.invariant.0,
       long,

@@ -4,7 +4,7 @@ use Rattle.branching.proofs.LaidLaws.{take_more, last_more, laid_room, laid_more
 use Rattle.branching.proofs.walk.attempt.Goals as goal
 
 pub walk-requires : goal.walk-requires
-walk-requires c = record { nodes = c.requires.nodes; laid = (laid_more c.requires.laid.0 c.requires.laid.1, omega arith) }
+walk-requires c = record { labels_long = c.requires.labels_long; laid = (laid_more c.requires.laid.0 c.requires.laid.1, omega arith) }
 
 pub unmark-requires : goal.unmark-requires
 unmark-requires c =

@@ -15,7 +15,7 @@ shortest-requires c =
     let column_loaded : Loaded (net_of c.args.network.now.image.now) c.args.u c.args.goal (take (3 * c.load-m.result + length c.load-m.new.overall + 1 + length c.load-m.new.overall) c.load-m.new.star) (take c.load-m.result c.load-m.new.weights) c.load-m.new.overall = column_part c.args.network.now.accepted c.load-m.new.star c.load-m.new.weights c.load-m.result c.load-m.ensures.1 in
     let L = column_loaded in
     let long = L.labels_long in
-    record { nodes = omega (arith, long); ends = (record { start_from = c.requires.ends.start_in.from; start_place = omega (arith, c.requires.ends.start_in, long); goal_place = omega (arith, c.requires.ends.goal_in, long); apart = c.requires.ends.apart }, omega (arith, long, c.requires.route_len)); least = L.least }
+    record { overall_long = omega (arith, long); ends = (record { start_from = c.requires.ends.start_in.from; start_place = omega (arith, c.requires.ends.start_in, long); goal_place = omega (arith, c.requires.ends.goal_in, long); apart = c.requires.ends.apart }, omega (arith, long, c.requires.route_len)); least = L.least }
 
 pub returns : goal.returns
 returns c =
