@@ -4,7 +4,7 @@ use native.Mathlib.Omega.{arith}
 use mathlib.Core.Path.{◌≡◌, refl, sym, ◌∙◌, ap, ap₂, subst}
 use mathlib.Core.List.{List, [], ◌∷◌, ◌++◌}
 use Rattle.std.specs.Prelude.{Option, Some, None}
-use lib.ListN.{length, take, drop, replicate}
+use lib.ListN.{length, take, drop}
 use lib.Seq.{length-take-le}
 use Rattle.terms.specs.Network.{column, common, Admitted}
 use Rattle.terms.specs.Paths.{Route, OpenPath}
@@ -27,18 +27,8 @@ use Rattle.outcomes.specs.Demands.{Kept3}
 use Rattle.outcomes.proofs.RowLaws.{SearchSound, RankingSound, ranking_sound, roomy}
 use Rattle.outcomes.proofs.WorkLaws.{slots_fit}
 use Rattle.outcomes.proofs.ShortestLaws.{row_none, row_some}
-use Rattle.loading.specs.Accepted.{Accepted}
-use Rattle.loading.specs.Loaded.{star_size}
-use Rattle.loading.proofs.DecodeLaws.{few_columns}
-use Rattle.loading.proofs.RoomLaws.{star_fits, all_fit}
-use Rattle.image.specs.declared.check.Sizes.{Sizes}
-use Rattle.terms.proofs.RoomLaws.{part_long}
 use Rattle.network_calls.specs.Answers.{state_of, floor_of, decision_list}
-use Rattle.network_calls.specs.Held.{no_open_path, ChoiceRoom, ChoiceSlices}
-
--- ---- room in local arrays
-pub choice_room : {b : List ℕ} {z : Sizes} → Accepted b z → ChoiceRoom z.n z.m z.k (take (star_size z.n z.m) (replicate 3403 0)) (take (z.m * z.k) (replicate 8000 0)) (take z.k (replicate 8 0))
-choice_room a = record { star_long = part_long 3403 _ (star_fits a); costs_long = part_long 8000 _ (all_fit a); bests_long = part_long 8 _ (few_columns a) }
+use Rattle.network_calls.specs.Held.{no_open_path, ChoiceSlices}
 
 -- ---- the rows before 15
 module _ (b : List ℕ) (r s t K : ℕ) (path work : List ℕ) (e : robust_rows b r s t K (length path) (length work) ≡ sound) where

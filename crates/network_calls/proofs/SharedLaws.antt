@@ -47,7 +47,7 @@ use Rattle.measuring.specs.Steps.{Measured}
 use Rattle.measuring.specs.Columns.{arc_pairs, network, column_costs, HoldColumns}
 use Rattle.measuring.specs.Networks.{network_of, costs_in, IsColumn}
 use Rattle.measuring.specs.declared.columns.Columns.{Columns}
-use Rattle.measuring.proofs.ColumnLaws.{length_columns, length_arcs, held_column, column_arcs, column_graph, column_holds, first_column}
+use Rattle.measuring.proofs.ColumnLaws.{length_columns, length_arcs, held_column, column_arcs, column_graph, first_column}
 use Rattle.measuring.proofs.BestLaws.{filled_all}
 use Rattle.choosing.proofs.PricedLaws.{measurable, figure_to}
 use Rattle.outcomes.specs.Calls.{no_path_row}
@@ -269,20 +269,11 @@ module _ {b : List ℕ} {sizes : Sizes} (a : Accepted b sizes) (words : List ℕ
   pub rest_column : {r : ℕ} → InColumn b r → IsColumn c r
   rest_column C = record { from = C.from; upto = omega (arith, C.upto, count_image, a.columns_are) }
 
-  -- ---- the graph of one
-  module _ {r s t : ℕ} (C : InColumn b r) (E : Ends (net_of b).nodes s t) (g : Graph) (nodes : g.nodes ≡ c.nodes) (star : g.star.now ≡ c.star.now) (weights : g.weights.now ≡ costs_in c r) where
-    pub graph_nodes : g.nodes ≡ sizes.n
-    graph_nodes = nodes ∙ nodes_image
-
-    module _ {overall : List ℕ} (long : length overall ≡ g.nodes + 1) (L : Least (arcs_of g) [] t overall) where
-      pub column_labelled : Labelled c t r overall
-      column_labelled = labelled_in c g nodes star weights long L
-
-      -- its paths can be ranked
-      pub column_problem : Problem g.nodes s t (arcs_of g) overall
-      column_problem =
-          let own : Ends g.nodes s t = subst (λ n. Ends n s t) (sym (graph_nodes ∙ a.nodes_are)) E in
-          problem_of g.holds (record { start_from = own.start_in.from; start_place = omega (arith, own.start_in.upto); goal_place = omega (arith, own.goal_in.upto); apart = own.apart }) (λ x. refl) long L
+  -- the paths in the graph of one can be ranked
+  pub column_problem : {s t : ℕ} → Ends (net_of b).nodes s t → (g : Graph) → g.nodes ≡ c.nodes → {overall : List ℕ} → length overall ≡ g.nodes + 1 → Least (arcs_of g) [] t overall → Problem g.nodes s t (arcs_of g) overall
+  column_problem {s} {t} E g nodes long L =
+      let own : Ends g.nodes s t = subst (λ n. Ends n s t) (sym (nodes ∙ nodes_image ∙ a.nodes_are)) E in
+      problem_of g.holds (record { start_from = own.start_in.from; start_place = omega (arith, own.start_in.upto); goal_place = omega (arith, own.goal_in.upto); apart = own.apart }) (λ x. refl) long L
 
 -- ---- the best of a column by itself: the start's label, or the mark where no path is open in the column
 pub own_label : {e : ℕ} {net : Net} → Admitted e net → {u s t : ℕ} {star ws labels : List ℕ} → Loaded net u t star ws labels → 1 ≤ u → u ≤ length net.columns → 1 ≤ s → s ≤ net.nodes → narrowed (get_or labels s 0) ≡ regret.label net.nodes (column net u) t s

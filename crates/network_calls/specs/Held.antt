@@ -5,20 +5,12 @@ use Rattle.terms.specs.Network.{Net, column, common}
 use Rattle.terms.specs.Paths.{Route, OpenPath}
 use Rattle.terms.specs.Regret as terms
 use Rattle.image.specs.Outcome.{Fault}
-use Rattle.image.specs.Layout.{net_of}
-use Rattle.loading.specs.Accepted.{InColumn, Ends}
-use Rattle.loading.specs.Loaded.{star_size}
+use Rattle.loading.specs.Accepted.{Ends}
 use Rattle.measuring.specs.declared.columns.Columns.{Columns}
 use Rattle.choosing.specs.Given.{Priced}
 use Rattle.outcomes.specs.Calls.{no_path_row}
-use Rattle.network_calls.specs.declared.chosen.Task.{Task}
 
 -- ---- what is asked
--- the task is one in the network of image b
-pub record Asked (b : List ℕ) (task : Task) : Type 0 where
-  pub in_column : InColumn b task.column
-  pub ends : Ends (net_of b).nodes task.start task.goal
-
 -- row 15 for a network: no path from s to t is open in every column
 abbrev pub no_open_path : Net → ℕ → ℕ → ℕ → Fault
 no_open_path net r s t = no_path_row net.nodes (column (common net) r) s t
@@ -36,12 +28,6 @@ pub record Held (net : Net) (c : Columns) (s t : ℕ) (bests : List ℕ) : Type 
   pub priced : Priced c s t bests
 
 -- ---- what is lent
--- room for a star of m arcs between n nodes, and for k columns of m costs with their bests
-pub record ChoiceRoom (n m k : ℕ) (star costs bests : List ℕ) : Type 0 where
-  pub star_long : length star ≡ star_size n m
-  pub costs_long : length costs ≡ m * k
-  pub bests_long : length bests ≡ k
-
 -- slices long enough for one path, and for a workspace of K + 1 slots
 pub record ChoiceSlices (n K : ℕ) (path work : List ℕ) : Type 0 where
   pub wanted_from : 1 ≤ K

@@ -10,7 +10,7 @@ ghost use Rattle.network_calls.specs.Answers.{decision_list};
 ghost use Rattle.outcomes.specs.Calls.{robust_of, chosen, robust_values, cleared};
 ghost use Rattle.loading.specs.Accepted.{InColumn, Ends};
 ghost use Rattle.loading.specs.Networks.{net};
-ghost use Rattle.network_calls.specs.Held.{Asked, no_open_path, ChoiceRoom, ChoiceSlices};
+ghost use Rattle.network_calls.specs.Held.{no_open_path, ChoiceSlices};
 
 use super::common::load_columns;
 use super::pricing::{Trip, price};
@@ -20,16 +20,6 @@ use labels::FAR;
 use listing::clear;
 use loading::{Network, label_nodes};
 use ranking::Query;
-
-// What is asked: a path from start to goal, whose greatest regret is least among the first `wanted` paths
-// that are ranked in a column.
-#[derive(Clone, Copy)]
-pub struct Task {
-    pub start: u16,
-    pub goal: usize,
-    pub column: usize,
-    pub wanted: usize,
-}
 
 // Chooses the path of a contest, and writes it. The workspace is cleared.
 fn choose_priced(contest: &Contest<'_>, work: &mut [u32], path: &mut [u16]) -> Decision
@@ -44,57 +34,8 @@ fn choose_priced(contest: &Contest<'_>, work: &mut [u32], path: &mut [u16]) -> D
     decision
 }
 
-// Chooses the path of an accepted image without the arcs that the map closes, with room for all that the
-// search needs. Nothing is touched if there is no path.
-fn choose_in<'a>(
-    network: &Network<'_>,
-    closed: &[u64],
-    task: Task,
-    star: &'a mut [u16],
-    costs: &'a mut [u32],
-    overall: &'a mut [u64],
-    bests: &'a mut [u64],
-    work: &mut [u32],
-    path: &mut [u16],
-) -> Result<Decision, Refusal>
-    requires asked { Asked network.now.image.now task }
-    requires choice_room { ChoiceRoom network.now.sizes.n network.now.sizes.m network.now.sizes.k star.old costs.old bests.old }
-    requires overall_long { length overall.old ≡ network.now.sizes.n + 1 }
-    requires choice_slices { ChoiceSlices (net network.now).nodes task.wanted path.old work.old }
-    ensures result_value { answer decision_list result ≡ outcome (no_open_path (without closed.now (net network.now)) task.column task.start task.goal) (robust_values (robust (without closed.now (net network.now)) task.column task.start task.goal task.wanted)) }
-    ensures path_after { path.new ≡ after (no_open_path (without closed.now (net network.now)) task.column task.start task.goal) (chosen (robust (without closed.now (net network.now)) task.column task.start task.goal task.wanted)) path.old }
-    ensures work_after { work.new ≡ cleared (no_open_path (without closed.now (net network.now)) task.column task.start task.goal) work.old }
-{
-    let columns = load_columns(network, closed, star, costs);
-    let graph = columns.column(task.column);
-    label_nodes(&graph, task.goal, overall);
-    if overall[task.start as usize] == FAR {
-        return Err(Refusal::NoPath);
-    }
-    let trip = Trip {
-        start: task.start as usize,
-        goal: task.goal,
-        labelled: task.column,
-    };
-    price(network, closed, &columns, trip, overall, bests);
-    let query = Query {
-        graph,
-        labels: overall,
-        start: task.start,
-        goal: task.goal,
-        slots: task.wanted + 1,
-    };
-    let contest = Contest {
-        columns,
-        bests,
-        column: task.column,
-        query,
-        wanted: task.wanted,
-    };
-    Ok(choose_priced(&contest, work, path))
-}
-
-// The same, with room made for it.
+// Chooses the path of an accepted image without the arcs that the map closes, and writes it. Nothing is
+// touched if there is no path.
 pub fn choose_left(
     network: &Network<'_>,
     closed: &[u64],
@@ -114,30 +55,37 @@ pub fn choose_left(
 {
     let mut star = [0u16; 3403];
     let mut costs = [0u32; 8000];
-    let mut overall = [0u64; 201];
+    let mut labels = [0u64; 201];
     let mut bests = [0u64; 8];
-    let m = network.sizes.m as usize;
-    let k = network.sizes.k as usize;
-    let places = network.sizes.n as usize + 1;
-    let size = 3 * m + places + 1 + places;
-    let all = m * k;
-    let task = Task {
+    let columns = load_columns(network, closed, &mut star, &mut costs);
+    let labels = &mut labels[..columns.nodes + 1];
+    let bests = &mut bests[..columns.count];
+    let graph = columns.column(r as usize);
+    label_nodes(&graph, goal as usize, labels);
+    if labels[start as usize] == FAR {
+        return Err(Refusal::NoPath);
+    }
+    let trip = Trip {
+        start: start as usize,
+        goal: goal as usize,
+        labelled: r as usize,
+    };
+    price(network, closed, &columns, trip, labels, bests);
+    let query = Query {
+        graph,
+        labels,
         start: start as u16,
         goal: goal as usize,
+        slots: wanted as usize + 1,
+    };
+    let contest = Contest {
+        columns,
+        bests,
         column: r as usize,
+        query,
         wanted: wanted as usize,
     };
-    choose_in(
-        network,
-        closed,
-        task,
-        &mut star[..size],
-        &mut costs[..all],
-        &mut overall[..places],
-        &mut bests[..k],
-        work,
-        path,
-    )
+    Ok(choose_priced(&contest, work, path))
 }
 
 // The same of the whole image: no arc is closed beside it.

@@ -10,7 +10,6 @@ ghost use Rattle.loading.specs.Networks.{net};
 ghost use Rattle.measuring.specs.Networks.{network_of};
 ghost use Rattle.outcomes.specs.Calls.{list_row};
 ghost use Rattle.network_calls.specs.Answers.{measure_list};
-ghost use Rattle.network_calls.specs.Held.{ChoiceRoom};
 
 use super::common::load_columns;
 use super::node_list::check_list;
@@ -83,25 +82,6 @@ fn measure_shared(
     ))
 }
 
-// The same from the image on, with room for the arcs and all columns.
-fn measure_in(
-    network: &Network<'_>,
-    start: u32,
-    goal: u32,
-    nodes: &[u16],
-    star: &mut [u16],
-    costs: &mut [u32],
-    bests: &mut [u64],
-) -> Result<Measure, Refusal>
-    requires choice_room { ChoiceRoom network.now.sizes.n network.now.sizes.m network.now.sizes.k star.old costs.old bests.old }
-    requires ends { Ends (net network.now).nodes start goal }
-    ensures { answer measure_list result ≡ outcome (list_row (terms.open_fault (net network.now) start goal nodes.now)) (terms.figure (net network.now) start goal nodes.now ∷ terms.worst (net network.now) start goal nodes.now ∷ []) }
-{
-    let none = [0u64; 0];
-    let columns = load_columns(network, &none, star, costs);
-    measure_shared(network, &columns, start, goal, nodes, bests)
-}
-
 // The figure and the worst column of a node list, or the row that refuses it.
 pub fn measure_list(
     network: &Network<'_>,
@@ -115,18 +95,7 @@ pub fn measure_list(
     let mut star = [0u16; 3403];
     let mut costs = [0u32; 8000];
     let mut bests = [0u64; 8];
-    let m = network.sizes.m as usize;
-    let k = network.sizes.k as usize;
-    let places = network.sizes.n as usize + 1;
-    let size = 3 * m + places + 1 + places;
-    let all = m * k;
-    measure_in(
-        network,
-        start,
-        goal,
-        nodes,
-        &mut star[..size],
-        &mut costs[..all],
-        &mut bests[..k],
-    )
+    let columns = load_columns(network, &[], &mut star, &mut costs);
+    let bests = &mut bests[..columns.count];
+    measure_shared(network, &columns, start, goal, nodes, bests)
 }

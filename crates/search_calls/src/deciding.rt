@@ -1,12 +1,12 @@
 // Rows 15 and 19, and the answer where neither applies.
-ghost use Rattle.std.specs.Prelude.{◌≡◌, ◌+◌, ◌≤◌, length};
+ghost use Rattle.std.specs.Prelude.{◌≡◌, ◌≤◌, length};
 ghost use Rattle.terms.specs.Network.{common};
 ghost use Rattle.image.specs.Outcome.{outcome, after};
 ghost use Rattle.image.specs.Answers.{answer};
 ghost use Rattle.loading.specs.Accepted.{Ends};
 ghost use Rattle.loading.specs.Networks.{net};
 ghost use Rattle.measuring.specs.Networks.{network_of};
-ghost use Rattle.network_calls.specs.Held.{Reached, ChoiceRoom};
+ghost use Rattle.network_calls.specs.Held.{Reached};
 ghost use Rattle.search_calls.specs.Answers.{found_list};
 ghost use Rattle.search_calls.specs.Calls.{limit_of, decided_rows, search_path, search_values};
 
@@ -62,36 +62,8 @@ fn answer(
     })
 }
 
-// Row 15 before it, from the image on, with room for the arcs that are open in every column, and all columns:
-// the start's label over these arcs. It is the same in each column whether there is one.
-fn decide_in(
-    network: &Network<'_>,
-    task: Task,
-    star: &mut [u16],
-    costs: &mut [u32],
-    overall: &mut [u64],
-    bests: &mut [u64],
-    best: &mut [u16],
-    path: &mut [u16],
-) -> Result<Found, Refusal>
-    requires ends { Ends (net network.now).nodes task.start task.goal }
-    requires choice_room { ChoiceRoom network.now.sizes.n network.now.sizes.m network.now.sizes.k star.old costs.old bests.old }
-    requires overall_long { length overall.old ≡ network.now.sizes.n + 1 }
-    requires best_long { network.now.sizes.n ≤ length best.old }
-    requires path_long { network.now.sizes.n ≤ length path.old }
-    ensures result_value { answer found_list result ≡ outcome (decided_rows network.now.image.now task.start task.goal task.limit) (search_values network.now.image.now task.start task.goal) }
-    ensures path_after { path.new ≡ after (decided_rows network.now.image.now task.start task.goal task.limit) (search_path network.now.image.now task.start task.goal) path.old }
-{
-    let none = [0u64; 0];
-    let columns = load_columns(network, &none, star, costs);
-    label_nodes(&columns.column(1), task.goal, overall);
-    if overall[usize::from(task.start)] == FAR {
-        return Err(Refusal::NoPath);
-    }
-    answer(network, task, &columns, bests, best, path)
-}
-
-// The same, with room made for it.
+// Row 15 before it: the start's label over the arcs that are open in every column. It is the same in each
+// column whether there is one.
 pub fn decide(
     network: &Network<'_>,
     start: u32,
@@ -100,33 +72,26 @@ pub fn decide(
     path: &mut [u16],
 ) -> Result<Found, Refusal>
     requires ends { Ends (net network.now).nodes start goal }
-    requires path_len { (net network.now).nodes ≤ length path.old }
+    requires path_long { (net network.now).nodes ≤ length path.old }
     ensures result_value { answer found_list result ≡ outcome (decided_rows network.now.image.now start goal limit) (search_values network.now.image.now start goal) }
     ensures path_after { path.new ≡ after (decided_rows network.now.image.now start goal limit) (search_path network.now.image.now start goal) path.old }
 {
     let mut star = [0u16; 3403];
     let mut costs = [0u32; 8000];
-    let mut overall = [0u64; 201];
+    let mut labels = [0u64; 201];
     let mut bests = [0u64; 8];
     let mut best = [0u16; 200];
-    let m = network.sizes.m as usize;
-    let k = network.sizes.k as usize;
-    let places = network.sizes.n as usize + 1;
-    let size = 3 * m + places + 1 + places;
-    let all = m * k;
+    let columns = load_columns(network, &[], &mut star, &mut costs);
+    let labels = &mut labels[..columns.nodes + 1];
+    label_nodes(&columns.column(1), goal as usize, labels);
+    if labels[start as usize] == FAR {
+        return Err(Refusal::NoPath);
+    }
     let task = Task {
         start: start as u16,
         goal: goal as usize,
         limit,
     };
-    decide_in(
-        network,
-        task,
-        &mut star[..size],
-        &mut costs[..all],
-        &mut overall[..places],
-        &mut bests[..k],
-        &mut best,
-        path,
-    )
+    let bests = &mut bests[..columns.count];
+    answer(network, task, &columns, bests, &mut best, path)
 }

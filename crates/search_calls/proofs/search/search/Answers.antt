@@ -28,7 +28,7 @@ returns-in_err-sizes c =
 pub decide-requires : goal.decide-requires
 decide-requires c =
     let E = entry_sound _ _ _ _ (passes _ _ _ c.in_ok-sizes.ensures).0 in
-    record { ends = E.ends; path_len = E.room_for }
+    record { ends = E.ends; path_long = E.room_for }
 
 pub returns : goal.returns
 unfolding search_outcome search_fault
