@@ -50,6 +50,7 @@ pub fn least_regret(contest: &Contest<'_>, work: &mut [u32], route: &mut [u16]) 
 {
     let found = search(contest, work);
     let place = found.leader.place;
+    // those up to the leader's: its route takes over nodes of routes before it
     let entries = Entries {
         nodes: contest.query.graph.nodes,
         work,

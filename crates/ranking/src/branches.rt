@@ -2,7 +2,6 @@
 // need to.
 ghost use Rattle.std.specs.Prelude.{ℕ, ◌+◌, ◌-◌, ◌≤◌, get_or};
 ghost use Rattle.star.specs.Graphs.{arcs_of};
-ghost use Rattle.candidates.specs.Slots.{entries};
 ghost use Rattle.candidates.specs.Views.{listed};
 ghost use Rattle.exits.specs.Exits.{Unmarked};
 ghost use Rattle.ranking.specs.Ranking.{Restored, TooDear, Wanted};
@@ -65,10 +64,12 @@ fn enter(
 {
     let n = query.graph.nodes;
     let slots = query.slots;
-    let count = detour.count;
-    let parent = detour.parent;
-    let d = detour.d;
-    let before = detour.before;
+    let Detour {
+        count,
+        parent,
+        d,
+        before,
+    } = detour;
     let entries = Entries {
         nodes: n,
         work,

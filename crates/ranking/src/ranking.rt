@@ -2,7 +2,6 @@
 // further candidates.
 ghost use Rattle.std.specs.Prelude.{◌≡◌, [], ◌+◌, ◌<◌};
 ghost use Rattle.labels.specs.Labels.{far};
-ghost use Rattle.candidates.specs.Slots.{entries};
 ghost use Rattle.ranking.specs.Queries.{entries_for, FilledFor, ChangedFor, SearchingFor, BeginsFor, RankedFor, StageFor, SpaceFor};
 
 use crate::branches::consider;

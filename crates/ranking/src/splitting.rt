@@ -2,7 +2,7 @@
 // of its nodes from those on that it takes over, and these are looked into.
 ghost use Rattle.std.specs.Prelude.{◌≡◌, true, List, [], ℕ, ◌+◌, ◌-◌, ◌≤◌, ◌<◌, length, get_or};
 ghost use Rattle.terms.specs.Network.{linked, weight};
-ghost use Rattle.candidates.specs.Slots.{entries, none};
+ghost use Rattle.candidates.specs.Slots.{none};
 ghost use Rattle.candidates.specs.Routes.{size};
 ghost use Rattle.candidates.specs.Bars.{barred, marked};
 ghost use Rattle.branching.specs.Laid.{Laid};
@@ -131,18 +131,20 @@ fn deviations(
     ensures changed { ChangedFor query.now (stem.rank + 1) work.old count work.new result }
     ensures emptied { EmptiedFor query.now limit (entries_for query.now work.old count) (stem.rank + 1) (waiting_to query.now.start (entries_for query.now work.old count) stem.rank stem.len) (entries_for query.now work.new result) }
 {
-    let shared = stem.shared;
-    let len = stem.len;
+    let Stem {
+        rank,
+        shared,
+        len,
+        cost,
+    } = stem;
     let mut now = count;
     // what the path costs from its node d on
     let mut behind: u64 = 0;
     // by number of nodes: d is no index of one slice, but where the path is left
     for d in (shared..len).rev() {
         behind += step_back(&query.graph, used, path, d);
-        let before = stem.cost - behind;
-        now = deviate(
-            query, limit, used, barred, path, work, now, stem.rank, d, before,
-        );
+        let before = cost - behind;
+        now = deviate(query, limit, used, barred, path, work, now, rank, d, before);
     }
     now
 }
