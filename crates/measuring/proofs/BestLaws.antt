@@ -22,7 +22,7 @@ use Rattle.star.proofs.ArcLaws.{linked_at, at_linked, graph_within}
 use Rattle.labels.proofs.LabelLaws.{reached_best}
 use Rattle.star.proofs.Stores.{set_each}
 use Rattle.measuring.specs.Columns.{network}
-use Rattle.measuring.specs.Networks.{network_of, IsColumn}
+use Rattle.measuring.specs.Networks.{network_of, costs_in, IsColumn}
 use Rattle.measuring.specs.declared.columns.Columns.{Columns}
 use Rattle.measuring.specs.Bests.{Joined, Labelled}
 use Rattle.measuring.proofs.ColumnLaws.{length_columns, held_column, column_arcs, column_holds, column_graph}
@@ -61,6 +61,12 @@ module _ {c : Columns} {a t : ℕ} (J : Joined c a t) {u : ℕ} (C : IsColumn c 
   best_labelled {ls} L =
       let e = column_graph c C in
       start_best (column_holds c C) J.start_from J.start_to L.long L.least (subst (λ g. Path g a t J.route) e joined_path) ∙ ap (λ g. best c.nodes g a t) (sym e)
+
+  -- it is the least cost of a path with the costs of the column's part
+  pub best_part : {x : ℕ} → ((p : Route) → Path (graph_of c.star.now (costs_in c u)) a t p → x ≡ best c.nodes (graph_of c.star.now (costs_in c u)) a t) → x ≡ best c.nodes (column (network_of c) u) a t
+  best_part found =
+      let e = column_graph c C in
+      found J.route (subst (λ g. Path g a t J.route) e joined_path) ∙ ap (λ g. best c.nodes g a t) (sym e)
 
 -- the bests of the network: a path goes from the start in each column
 pub held_bests : {c : Columns} {a t : ℕ} → Joined c a t → bests (network_of c) a t ≡ map (λ u. best c.nodes (column (network_of c) u) a t) (numbers 1 c.count)
