@@ -10,7 +10,9 @@ use Rattle.terms.specs.Robust.{answer}
 use Rattle.candidates.specs.Slots.{entry_at}
 use Rattle.candidates.specs.Routes.{route_at, size, Rooted}
 use Rattle.candidates.proofs.LayingLaws.{all_laid}
-use Rattle.candidates.proofs.RootedLaws.{rooted_fits, route_size}
+use Rattle.candidates.proofs.RootedLaws.{rooted_fits, rooted_in, route_size}
+use Rattle.candidates.specs.Views.{route_in}
+use Rattle.candidates.specs.declared.laying.Routes.{Routes}
 use Rattle.choosing.specs.declared.contest.Contest.{Contest}
 use Rattle.choosing.specs.declared.counting.Leader.{Leader}
 use Rattle.choosing.specs.Contests.{nodes_in, ranked_in, deviation_in, figure_in, worst_in, answer_in}
@@ -25,7 +27,7 @@ pub behind_laid : (k : ℕ) (r path path' : List ℕ) → k ≡ length r → pat
 behind_laid k r path path' z e = e ∙ ap (λ (l : List ℕ). l ++ drop k path) (take_all k r (omega arith) ∙ sym (all_laid k r path path' z e))
 
 -- or over all of it
-pub whole_laid : (k : ℕ) (r path path' : List ℕ) → k ≡ length r → length path' ≡ k → path' ≡ take k r ++ drop k path → path' ≡ r
+whole_laid : (k : ℕ) (r path path' : List ℕ) → k ≡ length r → length path' ≡ k → path' ≡ take k r ++ drop k path → path' ≡ r
 whole_laid k r path path' z long e = sym (take_all k path' (omega arith)) ∙ all_laid k r path path' z e
 
 -- it has nodes, and n at the most
@@ -38,6 +40,14 @@ module _ {n p len : ℕ} {w : List ℕ} (R : Rooted n w p) (is : len ≡ size (e
 
   pub len_route : (s : ℕ) → len ≡ length (route_at s n w p)
   len_route s = is ∙ sym (route_size n w p R s)
+
+-- the path at a place is laid out in a part of an array of 200
+module _ (q : Routes) (p : ℕ) (inside : p < q.entries.count) {len : ℕ} (is : len ≡ size (entry_at q.entries.nodes q.entries.work.now p)) where
+  pub path_room : len ≤ 200
+  path_room = omega (arith, len_upto (rooted_in q p inside) is, q.entries.readable.few)
+
+  pub path_laid : (path path' : List ℕ) → length path' ≡ len → path' ≡ take len (route_in q.start q.entries p) ++ drop len path → path' ≡ route_in q.start q.entries p
+  path_laid path path' long e = whole_laid len (route_in q.start q.entries p) path path' (len_route (rooted_in q p inside) is q.start) long e
 
 -- ---- the answer
 floor_is : {x : Contest} {w : List ℕ} {count j figure top : ℕ} {z : Option ℕ} → Outlook x w count j figure z → (j < count → (entry_at (nodes_in x) w j).cost ≤ top) → IfSome z (λ floor. floor ≤ top)
