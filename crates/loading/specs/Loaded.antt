@@ -12,14 +12,6 @@ use Rattle.loading.specs.Selected.{in_a_row}
 abbrev pub star_size : ℕ → ℕ → ℕ
 star_size n m = 3 * m + (n + 1) + 1 + (n + 1)
 
--- for the parts of a star: a place for each arc, or for each node and one that is not used; one more for where the last node's arcs end
-pub record PartRoom (n m : ℕ) (ts hs nexts outs ins : List ℕ) : Type 0 where
-  pub tails_long : length ts ≡ m
-  pub heads_long : length hs ≡ m
-  pub nexts_long : length nexts ≡ m
-  pub outs_long : length outs ≡ n + 2
-  pub ins_long : length ins ≡ n + 1
-
 -- for a star, the weights of one column, and a label for each node
 pub record Room (n m : ℕ) (s ws ls : List ℕ) : Type 0 where
   pub star_long : length s ≡ star_size n m

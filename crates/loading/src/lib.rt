@@ -8,7 +8,9 @@ mod network;
 mod reading;
 mod selecting;
 
-pub use loading::{label_nodes, load, load_all, load_common, load_common_left, load_left};
+pub use loading::{
+    label_nodes, load_all, load_common_left, load_common_whole, load_left, load_whole,
+};
 pub use network::Network;
 pub use reading::read_arcs;
 pub use selecting::number_arcs;

@@ -55,38 +55,6 @@ fn label_column(
     label_nodes(&graph, goal, overall);
 }
 
-// Loads column u, with room for the indices of its arcs.
-fn load_in(
-    network: &Network<'_>,
-    closed: &[u64],
-    u: u32,
-    goal: usize,
-    kept: &mut [u16],
-    star: &mut [u16],
-    weights: &mut [u32],
-    overall: &mut [u64],
-) -> usize
-    requires column { InColumn network.now.image.now u }
-    requires goal { Node (net network.now).nodes goal }
-    requires kept_len { length kept.old ≡ network.now.sizes.m }
-    requires room { Room network.now.sizes.n network.now.sizes.m star.old weights.old overall.old }
-    ensures { (result ≤ network.now.sizes.m) × Loaded (without closed.now (net network.now)) u goal (take (star_size network.now.sizes.n result) star.new) (take result weights.new) overall.new }
-{
-    let m = select_open(network, closed, u, kept);
-    let places = network.sizes.n as usize + 1;
-    let size = 3 * m + places + 1 + places;
-    label_column(
-        network,
-        u,
-        goal,
-        &kept[..m],
-        &mut star[..size],
-        &mut weights[..m],
-        overall,
-    );
-    m
-}
-
 // Reads the arcs that the map leaves and that are open in column u, and labels each node with its least cost
 // to the goal. Returns how many arcs there are; the star and the weights stand at the beginning of what is lent.
 pub fn load_left(
@@ -103,22 +71,25 @@ pub fn load_left(
     requires room { Room network.now.sizes.n network.now.sizes.m star.old weights.old overall.old }
     ensures { (result ≤ network.now.sizes.m) × Loaded (without closed.now (net network.now)) u goal (take (star_size network.now.sizes.n result) star.new) (take result weights.new) overall.new }
 {
-    let mut kept = [0u16; 1000];
-    let arcs = network.sizes.m as usize;
-    load_in(
+    let mut indices = [0u16; 1000];
+    let kept = &mut indices[..network.sizes.m as usize];
+    let m = select_open(network, closed, u, kept);
+    let places = network.sizes.n as usize + 1;
+    let size = 3 * m + places + 1 + places;
+    label_column(
         network,
-        closed,
         u,
         goal,
-        &mut kept[..arcs],
-        star,
-        weights,
+        &kept[..m],
+        &mut star[..size],
+        &mut weights[..m],
         overall,
-    )
+    );
+    m
 }
 
-// The same of the whole image: no arc is closed beside it.
-pub fn load(
+// The same of the whole image: the map that is handed down closes no arc.
+pub fn load_whole(
     network: &Network<'_>,
     u: u32,
     goal: usize,
@@ -131,8 +102,7 @@ pub fn load(
     requires room { Room network.now.sizes.n network.now.sizes.m star.old weights.old overall.old }
     ensures { (result ≤ network.now.sizes.m) × Loaded (net network.now) u goal (take (star_size network.now.sizes.n result) star.new) (take result weights.new) overall.new }
 {
-    let none = [0u64; 0];
-    load_left(network, &none, u, goal, star, weights, overall)
+    load_left(network, &[], u, goal, star, weights, overall)
 }
 
 // Reads the arcs at these indices, and all columns for them.
@@ -144,27 +114,6 @@ fn fill_common(network: &Network<'_>, kept: &[u16], star: &mut [u16], costs: &mu
 {
     fill_star(network, kept, star);
     read_columns(network, kept, costs);
-}
-
-// Loads the arcs that are open in every column, with room for their indices.
-fn load_common_in(
-    network: &Network<'_>,
-    closed: &[u64],
-    kept: &mut [u16],
-    star: &mut [u16],
-    costs: &mut [u32],
-) -> usize
-    requires kept_len { length kept.old ≡ network.now.sizes.m }
-    requires star_len { length star.old ≡ star_size network.now.sizes.n network.now.sizes.m }
-    requires costs_len { length costs.old ≡ network.now.sizes.m * network.now.sizes.k }
-    ensures { (result ≤ network.now.sizes.m) × Shared (without closed.now (net network.now)) result (take (star_size network.now.sizes.n result) star.new) (take (result * network.now.sizes.k) costs.new) }
-{
-    let m = select_common(network, closed, kept);
-    let places = network.sizes.n as usize + 1;
-    let size = 3 * m + places + 1 + places;
-    let all = m * (network.sizes.k as usize);
-    fill_common(network, &kept[..m], &mut star[..size], &mut costs[..all]);
-    m
 }
 
 // Reads the arcs that the map leaves and that are open in every column, and all columns for them. Returns how
@@ -179,31 +128,23 @@ pub fn load_common_left(
     requires costs_len { length costs.old ≡ network.now.sizes.m * network.now.sizes.k }
     ensures { (result ≤ network.now.sizes.m) × Shared (without closed.now (net network.now)) result (take (star_size network.now.sizes.n result) star.new) (take (result * network.now.sizes.k) costs.new) }
 {
-    let mut kept = [0u16; 1000];
-    let arcs = network.sizes.m as usize;
-    load_common_in(network, closed, &mut kept[..arcs], star, costs)
+    let mut indices = [0u16; 1000];
+    let kept = &mut indices[..network.sizes.m as usize];
+    let m = select_common(network, closed, kept);
+    let places = network.sizes.n as usize + 1;
+    let size = 3 * m + places + 1 + places;
+    let all = m * (network.sizes.k as usize);
+    fill_common(network, &kept[..m], &mut star[..size], &mut costs[..all]);
+    m
 }
 
 // The same of the whole image.
-pub fn load_common(network: &Network<'_>, star: &mut [u16], costs: &mut [u32]) -> usize
+pub fn load_common_whole(network: &Network<'_>, star: &mut [u16], costs: &mut [u32]) -> usize
     requires star_len { length star.old ≡ star_size network.now.sizes.n network.now.sizes.m }
     requires costs_len { length costs.old ≡ network.now.sizes.m * network.now.sizes.k }
     ensures { (result ≤ network.now.sizes.m) × Shared (net network.now) result (take (star_size network.now.sizes.n result) star.new) (take (result * network.now.sizes.k) costs.new) }
 {
-    let none = [0u64; 0];
-    load_common_left(network, &none, star, costs)
-}
-
-// Loads all arcs, with room for their indices.
-fn load_all_in(network: &Network<'_>, kept: &mut [u16], star: &mut [u16], costs: &mut [u32])
-    requires kept_len { length kept.old ≡ network.now.sizes.m }
-    requires star_len { length star.old ≡ star_size network.now.sizes.n network.now.sizes.m }
-    requires costs_len { length costs.old ≡ network.now.sizes.m * network.now.sizes.k }
-    ensures { Shape (net network.now) star.new × (costs.new ≡ in_a_row (net network.now).columns) }
-{
-    number_arcs(kept);
-    fill_star(network, kept, star);
-    read_columns(network, kept, costs);
+    load_common_left(network, &[], star, costs)
 }
 
 // Reads all arcs, open or not, and all columns as they stand in the image.
@@ -212,7 +153,9 @@ pub fn load_all(network: &Network<'_>, star: &mut [u16], costs: &mut [u32])
     requires costs_len { length costs.old ≡ network.now.sizes.m * network.now.sizes.k }
     ensures { Shape (net network.now) star.new × (costs.new ≡ in_a_row (net network.now).columns) }
 {
-    let mut kept = [0u16; 1000];
-    let arcs = network.sizes.m as usize;
-    load_all_in(network, &mut kept[..arcs], star, costs);
+    let mut indices = [0u16; 1000];
+    let kept = &mut indices[..network.sizes.m as usize];
+    number_arcs(kept);
+    fill_star(network, kept, star);
+    read_columns(network, kept, costs);
 }
