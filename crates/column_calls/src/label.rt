@@ -6,11 +6,10 @@ ghost use Rattle.image.specs.Answers.{answer, no_values, size_list};
 ghost use Rattle.outcomes.specs.Calls.{label_fault, label_outcome, labels_of};
 ghost use Rattle.loading.specs.Networks.{net};
 ghost use Rattle.loading.specs.Accepted.{Node, InColumn};
-ghost use Rattle.loading.specs.Loaded.{Room};
 
 use image::check::check;
 use image::{Refusal, Sizes, is_node};
-use loading::{Network, load};
+use loading::{Network, load_whole};
 use outcomes::{is_column, write_narrow};
 
 // Label's rows for a slice of `room` places.
@@ -30,25 +29,6 @@ fn check_label(image: &[u8], column: u32, goal: u32, room: usize) -> Result<Size
     Ok(sizes)
 }
 
-// Writes the labels of the column, with room for its graph and the exact labels.
-fn write_labels_in(
-    network: &Network<'_>,
-    column: u32,
-    goal: u32,
-    star: &mut [u16],
-    weights: &mut [u32],
-    exact: &mut [u64],
-    labels: &mut [u32],
-)
-    requires column { InColumn network.now.image.now column }
-    requires goal { Node (net network.now).nodes goal }
-    requires room { Room network.now.sizes.n network.now.sizes.m star.old weights.old exact.old × ((net network.now).nodes ≤ length labels.old) }
-    ensures { labels.new ≡ labels_of network.now.image.now column goal ++ drop (net network.now).nodes labels.old }
-{
-    load(network, column, goal as usize, star, weights, exact);
-    write_narrow(exact, labels);
-}
-
 // Writes the labels of the column.
 fn write_labels(network: &Network<'_>, column: u32, goal: u32, labels: &mut [u32])
     requires column { InColumn network.now.image.now column }
@@ -56,21 +36,16 @@ fn write_labels(network: &Network<'_>, column: u32, goal: u32, labels: &mut [u32
     requires room { (net network.now).nodes ≤ length labels.old }
     ensures { labels.new ≡ labels_of network.now.image.now column goal ++ drop (net network.now).nodes labels.old }
 {
-    let mut star = [0u16; 3403];
-    let mut weights = [0u32; 1000];
-    let mut exact = [0u64; 201];
+    let mut star_room = [0u16; 3403];
+    let mut weight_room = [0u32; 1000];
+    let mut label_room = [0u64; 201];
     let arcs = network.sizes.m as usize;
     let places = network.sizes.n as usize + 1;
-    let size = 3 * arcs + places + 1 + places;
-    write_labels_in(
-        network,
-        column,
-        goal,
-        &mut star[..size],
-        &mut weights[..arcs],
-        &mut exact[..places],
-        labels,
-    );
+    let star = &mut star_room[..3 * arcs + places + 1 + places];
+    let weights = &mut weight_room[..arcs];
+    let exact = &mut label_room[..places];
+    load_whole(network, column, goal as usize, star, weights, exact);
+    write_narrow(exact, labels);
 }
 
 // REFERENCE, section 4.2.

@@ -6,5 +6,6 @@ mod first_paths;
 pub mod label;
 pub mod rank;
 pub mod shortest;
+mod trip;
 
 pub use shortest::Path;

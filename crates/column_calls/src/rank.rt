@@ -5,11 +5,11 @@ ghost use Rattle.image.specs.Calls.{sizes};
 ghost use Rattle.image.specs.Answers.{answer, one_number, size_list};
 ghost use Rattle.outcomes.specs.Calls.{path_row, rank_rows, rank_fault, rank_of, rank_rows_of, rank_costs_of, rank_outcome, cleared};
 ghost use Rattle.loading.specs.Networks.{net};
-ghost use Rattle.loading.specs.Accepted.{InColumn, Ends};
 ghost use Rattle.outcomes.specs.Demands.{Kept2};
 ghost use Rattle.column_calls.specs.Slices.{ListSlices};
 
 use super::first_paths::list;
+use super::trip::Trip;
 use image::{Refusal, Sizes};
 use loading::Network;
 use outcomes::check_ranking;
@@ -38,24 +38,19 @@ fn check_rank(
 
 // Row 15, and the paths. Whether there is one is decided before anything is written.
 fn write_ranked(
-    network: &Network<'_>,
-    column: u32,
-    start: u32,
-    goal: u32,
+    trip: &Trip<'_>,
     wanted: u32,
     rows: &mut [u16],
     costs: &mut [u32],
     work: &mut [u32],
 ) -> Result<u32, Refusal>
-    requires column { InColumn network.now.image.now column }
-    requires ends { Ends (net network.now).nodes start goal }
-    requires list_slices { ListSlices (net network.now).nodes wanted rows.old costs.old work.old }
-    ensures result_value { answer one_number result ≡ outcome (path_row network.now.image.now column start goal) (length (rank_of network.now.image.now column start goal wanted) ∷ []) }
-    ensures rows_after { rows.new ≡ after (path_row network.now.image.now column start goal) (rank_rows_of network.now.image.now column start goal wanted) rows.old }
-    ensures costs_after { costs.new ≡ after (path_row network.now.image.now column start goal) (rank_costs_of network.now.image.now column start goal wanted) costs.old }
-    ensures work_after { work.new ≡ cleared (path_row network.now.image.now column start goal) work.old }
+    requires { ListSlices (net trip.now.network).nodes wanted rows.old costs.old work.old }
+    ensures result_value { answer one_number result ≡ outcome (path_row trip.now.network.image.now trip.now.column trip.now.start trip.now.goal) (length (rank_of trip.now.network.image.now trip.now.column trip.now.start trip.now.goal wanted) ∷ []) }
+    ensures rows_after { rows.new ≡ after (path_row trip.now.network.image.now trip.now.column trip.now.start trip.now.goal) (rank_rows_of trip.now.network.image.now trip.now.column trip.now.start trip.now.goal wanted) rows.old }
+    ensures costs_after { costs.new ≡ after (path_row trip.now.network.image.now trip.now.column trip.now.start trip.now.goal) (rank_costs_of trip.now.network.image.now trip.now.column trip.now.start trip.now.goal wanted) costs.old }
+    ensures work_after { work.new ≡ cleared (path_row trip.now.network.image.now trip.now.column trip.now.start trip.now.goal) work.old }
 {
-    let count = list(network, column, start, goal, wanted, rows, costs, work);
+    let count = list(trip, wanted, rows, costs, work);
     if count == 0 {
         return Err(Refusal::NoPath);
     }
@@ -90,6 +85,11 @@ pub fn rank(
         costs.len(),
         work.len(),
     )?;
-    let network = Network { image, sizes };
-    write_ranked(&network, column, start, goal, wanted, rows, costs, work)
+    let trip = Trip {
+        network: Network { image, sizes },
+        column,
+        start,
+        goal,
+    };
+    write_ranked(&trip, wanted, rows, costs, work)
 }

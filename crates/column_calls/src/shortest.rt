@@ -1,15 +1,14 @@
 // Shortest: the first path of the ranking order.
 ghost use Rattle.std.specs.Prelude.{◌≡◌, ◌≤◌, length};
-ghost use Rattle.terms.specs.Network.{column};
 ghost use Rattle.image.specs.Outcome.{outcome, after};
 ghost use Rattle.image.specs.Calls.{sizes};
 ghost use Rattle.image.specs.Answers.{answer, size_list};
 ghost use Rattle.column_calls.specs.Answers.{path_list};
 ghost use Rattle.outcomes.specs.Calls.{shortest_rows, path_row, shortest_fault, shortest_of, shortest_values, shortest_outcome};
 ghost use Rattle.loading.specs.Networks.{net};
-ghost use Rattle.loading.specs.Accepted.{InColumn, Ends};
 
 use super::first_path::find;
+use super::trip::Trip;
 use branching::Tail;
 use image::{Refusal, Sizes};
 use loading::Network;
@@ -39,23 +38,15 @@ fn check_shortest(
     Ok(sizes)
 }
 
-// Row 15, and the path, with room to lay it out before it is written.
-fn write_first(
-    network: &Network<'_>,
-    column: u32,
-    start: u32,
-    goal: u32,
-    route: &mut [u16],
-    path: &mut [u16],
-) -> Result<Path, Refusal>
-    requires column { InColumn network.now.image.now column }
-    requires ends { Ends (net network.now).nodes start goal }
-    requires route_len { length route.old ≡ (net network.now).nodes }
-    requires room { (net network.now).nodes ≤ length path.old }
-    ensures result_value { answer path_list result ≡ outcome (path_row network.now.image.now column start goal) (shortest_values network.now.image.now column start goal) }
-    ensures path_after { path.new ≡ after (path_row network.now.image.now column start goal) (shortest_of network.now.image.now column start goal) path.old }
+// Row 15, and the path, which is laid out before it is written.
+fn write_shortest(trip: &Trip<'_>, path: &mut [u16]) -> Result<Path, Refusal>
+    requires { (net trip.now.network).nodes ≤ length path.old }
+    ensures result_value { answer path_list result ≡ outcome (path_row trip.now.network.image.now trip.now.column trip.now.start trip.now.goal) (shortest_values trip.now.network.image.now trip.now.column trip.now.start trip.now.goal) }
+    ensures path_after { path.new ≡ after (path_row trip.now.network.image.now trip.now.column trip.now.start trip.now.goal) (shortest_of trip.now.network.image.now trip.now.column trip.now.start trip.now.goal) path.old }
 {
-    let found = find(network, column, start, goal, route);
+    let mut route_room = [0u16; 200];
+    let route = &mut route_room[..trip.network.sizes.n as usize];
+    let found = find(trip, route);
     let Some(Tail { len, cost }) = found else {
         return Err(Refusal::NoPath);
     };
@@ -64,25 +55,6 @@ fn write_first(
         length: len as u32,
         cost: cost as u32,
     })
-}
-
-// The same, with room made for the path.
-fn write_shortest(
-    network: &Network<'_>,
-    column: u32,
-    start: u32,
-    goal: u32,
-    path: &mut [u16],
-) -> Result<Path, Refusal>
-    requires column { InColumn network.now.image.now column }
-    requires ends { Ends (net network.now).nodes start goal }
-    requires room { (net network.now).nodes ≤ length path.old }
-    ensures result_value { answer path_list result ≡ outcome (path_row network.now.image.now column start goal) (shortest_values network.now.image.now column start goal) }
-    ensures path_after { path.new ≡ after (path_row network.now.image.now column start goal) (shortest_of network.now.image.now column start goal) path.old }
-{
-    let mut route = [0u16; 200];
-    let places = network.sizes.n as usize;
-    write_first(network, column, start, goal, &mut route[..places], path)
 }
 
 // REFERENCE, section 4.3.
@@ -97,6 +69,11 @@ pub fn shortest(
     ensures path_after { path.new ≡ after (shortest_fault image.now column start goal (length path.old)) (shortest_of image.now column start goal) path.old }
 {
     let sizes = check_shortest(image, column, start, goal, path.len())?;
-    let network = Network { image, sizes };
-    write_shortest(&network, column, start, goal, path)
+    let trip = Trip {
+        network: Network { image, sizes },
+        column,
+        start,
+        goal,
+    };
+    write_shortest(&trip, path)
 }

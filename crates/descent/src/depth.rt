@@ -78,7 +78,7 @@ fn try_arc(
     path: &mut [u16],
 ) -> Result<Held, Cut>
     requires begun { Begun columns.now.places route.old used.old path.old partial.now.sums partial.now.depth }
-    requires i_lt_arcs { i < columns.now.arcs }
+    requires arc_inside { i < columns.now.arcs }
     ensures kept { Kept partial.now.depth route.old used.old route.new used.new }
     ensures ends { (net : Net) (s t v : ℕ) (seen : List ℕ) (z : State) → v < columns.now.places → get_or (outs_in columns.now) v 0 ≤ i → i < get_or (outs_in columns.now) (v + 1) 0 → GivenIn net s t seen z columns.now task partial.now v route.old path.old held → Ends path.new (at_arc task.limit (columns.now.places - (partial.now.depth + 1)) net s t seen v (get_or (heads_in columns.now) i 0) z) result }
 {
@@ -122,7 +122,7 @@ fn descend(
     path: &mut [u16],
 ) -> Result<Held, Cut>
     requires begun { Begun columns.now.places route.old used.old path.old partial.now.sums partial.now.depth }
-    requires v_lt_places { v < columns.now.places }
+    requires node_inside { v < columns.now.places }
     ensures kept { Kept partial.now.depth route.old used.old route.new used.new }
     ensures ends { (net : Net) (s t : ℕ) (seen : List ℕ) (z : State) → GivenIn net s t seen z columns.now task partial.now v route.old path.old held → Ends path.new (descend_within task.limit (columns.now.places - partial.now.depth) net s t seen v z) result }
 {

@@ -15,8 +15,8 @@ pub fn narrow(label: u64) -> u32
 
 // Writes the labels of the nodes 1, 2 and so on, in 32 bits.
 pub fn write_narrow(exact: &[u64], labels: &mut [u32])
-    requires exact_in_bounds { length exact.now ≤ length labels.old + 1 }
-    requires by_index { (v : ℕ) → v < length exact.now → Narrow (get_or exact.now v 0) }
+    requires labels_long { length exact.now ≤ length labels.old + 1 }
+    requires exact_narrow { (v : ℕ) → v < length exact.now → Narrow (get_or exact.now v 0) }
     ensures { labels.new ≡ map narrowed (drop 1 exact.now) ++ drop (length exact.now - 1) labels.old }
 {
     for i in 1..exact.len() {

@@ -1,17 +1,9 @@
--- What the search is lent, and the labels of all columns. Assumes nothing.
-use Rattle.std.specs.Prelude.{ℕ, suc, ◌+◌, ◌*◌, ◌≤◌, ◌<◌, ◌≡◌, List, length, get_or}
+-- The labels of all columns. Assumes nothing.
+use Rattle.std.specs.Prelude.{ℕ, suc, ◌*◌, ◌≤◌, ◌<◌, ◌≡◌, List, length, get_or}
 use Rattle.terms.specs.Network.{Net, column}
 use Rattle.labels.specs.Labels.{far}
-use Rattle.loading.specs.Loaded.{star_size}
 use Rattle.descent.specs.Rows.{at_row}
 use Rattle.descent.specs.Tables.{LabelIn}
-
--- room for a star of m arcs between n nodes, and for k columns of m costs and n + 1 labels with their bests
-pub record TableRoom (n m k : ℕ) (star costs labels bests : List ℕ) : Type 0 where
-  pub star_long : length star ≡ star_size n m
-  pub costs_long : length costs ≡ m * k
-  pub labels_long : length labels ≡ k * (n + 1)
-  pub bests_long : length bests ≡ k
 
 -- the labels to t of the first k columns, one column after the other
 pub record LabelRows (net : Net) (t k places : ℕ) (labels : List ℕ) : Type 0 where

@@ -30,8 +30,13 @@ returns-in_err-sizes c =
 pub write_ranked-requires : goal.write_ranked-requires
 write_ranked-requires c =
     let e = (passes _ _ _ _ c.args.rows.now c.args.costs.now c.args.work.now c.in_ok-sizes.ensures).0 in
+    rank_slices c.args.image.now c.args.column c.args.start c.args.goal c.args.wanted c.args.rows.now c.args.costs.now c.args.work.now e
+
+pub invariant_of-trip-2 : goal.invariant_of-trip-2
+invariant_of-trip-2 c =
+    let e = (passes _ _ _ _ c.args.rows.now c.args.costs.now c.args.work.now c.in_ok-sizes.ensures).0 in
     let g = rank_sound c.args.image.now c.args.column c.args.start c.args.goal c.args.wanted c.args.rows.now c.args.costs.now c.args.work.now e in
-    record { column = record { from = g.from; upto = g.upto }; ends = g.ends; list_slices = rank_slices c.args.image.now c.args.column c.args.start c.args.goal c.args.wanted c.args.rows.now c.args.costs.now c.args.work.now e }
+    record { in_column = record { from = g.from; upto = g.upto }; ends = g.ends }
 
 pub returns : goal.returns
 unfolding rank_outcome rank_fault
@@ -39,6 +44,6 @@ returns c =
     let e = sym (then_next (path_row c.args.image.now c.args.column c.args.start c.args.goal) (passes _ _ _ _ c.args.rows.now c.args.costs.now c.args.work.now c.in_ok-sizes.ensures).0) in
     record { result_value = c.write_ranked.ensures.result_value ∙ ap (λ f. outcome f (length (rank_of c.args.image.now c.args.column c.args.start c.args.goal c.args.wanted) ∷ [])) e; rows_after = c.write_ranked.ensures.rows_after ∙ ap (λ f. after f (rank_rows_of c.args.image.now c.args.column c.args.start c.args.goal c.args.wanted) c.args.rows.now) e; costs_after = c.write_ranked.ensures.costs_after ∙ ap (λ f. after f (rank_costs_of c.args.image.now c.args.column c.args.start c.args.goal c.args.wanted) c.args.costs.now) e; work_after = c.write_ranked.ensures.work_after ∙ ap (λ f. cleared f c.args.work.now) e; kept2 = kept_2 c.args.image.now c.args.column c.args.start c.args.goal c.args.wanted (length c.args.rows.now) (length c.args.costs.now) (length c.args.work.now) }
 
-pub invariant_of-network : goal.invariant_of-network
-invariant_of-network c =
+pub invariant_of-trip : goal.invariant_of-trip
+invariant_of-trip c =
     record { accepted = (passes _ _ _ _ c.args.rows.now c.args.costs.now c.args.work.now c.in_ok-sizes.ensures).1 }

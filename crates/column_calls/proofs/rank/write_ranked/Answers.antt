@@ -12,14 +12,14 @@ use Rattle.column_calls.proofs.rank.write_ranked.Goals as goal
 
 pub returns-then-count-eq0 : goal.returns-then-count-eq0
 returns-then-count-eq0 c =
-    let z = none_listed c.args.network.now.image.now c.args.column c.args.start c.args.goal c.args.wanted c.args.network.now.accepted.passes c.requires.column c.requires.ends c.requires.list_slices.wanted_from (sym c.list-count.ensures.value ∙ c.if-count-eq0.true) in
-    record { result_value = sym (outcome_fault _ z.0); rows_after = c.list-count.ensures.rows_after ∙ no_rows c.args.network.now.image.now c.args.column c.args.start c.args.goal c.args.wanted z.1 _ ∙ sym (after_fault _ _ z.0); costs_after = c.list-count.ensures.costs_after ∙ no_costs c.args.network.now.image.now c.args.column c.args.start c.args.goal c.args.wanted z.1 _ ∙ sym (after_fault _ _ z.0); work_after = work_unused c.if-count-eq0.true c.list-count.ensures.listed_work ∙ sym (cleared_not _ z.0) }
+    let z = none_listed c.args.trip.now.network.image.now c.args.trip.now.column c.args.trip.now.start c.args.trip.now.goal c.args.wanted c.args.trip.now.network.accepted.passes c.args.trip.now.in_column c.args.trip.now.ends c.requires.wanted_from (sym c.list-count.ensures.value ∙ c.if-count-eq0.true) in
+    record { result_value = sym (outcome_fault _ z.0); rows_after = c.list-count.ensures.rows_after ∙ no_rows c.args.trip.now.network.image.now c.args.trip.now.column c.args.trip.now.start c.args.trip.now.goal c.args.wanted z.1 _ ∙ sym (after_fault _ _ z.0); costs_after = c.list-count.ensures.costs_after ∙ no_costs c.args.trip.now.network.image.now c.args.trip.now.column c.args.trip.now.start c.args.trip.now.goal c.args.wanted z.1 _ ∙ sym (after_fault _ _ z.0); work_after = work_unused c.if-count-eq0.true c.list-count.ensures.listed_work ∙ sym (cleared_not _ z.0) }
 
 pub returns : goal.returns
 returns c =
     let one : 1 ≤ c.list-count.result = omega (arith, c.if-count-eq0.false) in
-    let e = some_listed c.args.network.now.image.now c.args.column c.args.start c.args.goal c.args.wanted c.args.network.now.accepted.passes c.requires.column c.requires.ends (omega (arith, c.list-count.ensures.value)) in
-    record { result_value = ap (λ (x : ℕ). gives (x ∷ [])) c.list-count.ensures.value ∙ sym (outcome_sound _ e); rows_after = c.list-count.ensures.rows_after ∙ ap (λ f. after f (rank_rows_of c.args.network.now.image.now c.args.column c.args.start c.args.goal c.args.wanted) c.args.rows.now) (sym e); costs_after = c.list-count.ensures.costs_after ∙ ap (λ f. after f (rank_costs_of c.args.network.now.image.now c.args.column c.args.start c.args.goal c.args.wanted) c.args.costs.now) (sym e); work_after = work_emptied one c.list-count.ensures.listed_work ∙ cleared_is c.args.work.now ∙ ap (λ f. cleared f c.args.work.now) (sym e) }
+    let e = some_listed c.args.trip.now.network.image.now c.args.trip.now.column c.args.trip.now.start c.args.trip.now.goal c.args.wanted c.args.trip.now.network.accepted.passes c.args.trip.now.in_column c.args.trip.now.ends (omega (arith, c.list-count.ensures.value)) in
+    record { result_value = ap (λ (x : ℕ). gives (x ∷ [])) c.list-count.ensures.value ∙ sym (outcome_sound _ e); rows_after = c.list-count.ensures.rows_after ∙ ap (λ f. after f (rank_rows_of c.args.trip.now.network.image.now c.args.trip.now.column c.args.trip.now.start c.args.trip.now.goal c.args.wanted) c.args.rows.now) (sym e); costs_after = c.list-count.ensures.costs_after ∙ ap (λ f. after f (rank_costs_of c.args.trip.now.network.image.now c.args.trip.now.column c.args.trip.now.start c.args.trip.now.goal c.args.wanted) c.args.costs.now) (sym e); work_after = work_emptied one c.list-count.ensures.listed_work ∙ cleared_is c.args.work.now ∙ ap (λ f. cleared f c.args.work.now) (sym e) }
 
 pub overflow_cast-result : goal.overflow_cast-result
-overflow_cast-result c = omega (arith, c.list-count.ensures.value, few_listed c.args.network.now.image.now c.args.column c.args.start c.args.goal c.args.wanted, c.requires.list_slices.wanted_to)
+overflow_cast-result c = omega (arith, c.list-count.ensures.value, few_listed c.args.trip.now.network.image.now c.args.trip.now.column c.args.trip.now.start c.args.trip.now.goal c.args.wanted, c.requires.wanted_to)

@@ -25,9 +25,12 @@ returns-in_err-sizes c =
     record { result_value = handed_on _ _ _ c.from_residual.ensures.1 ∙ sym (outcome_fault _ e); path_after = sym (after_fault _ _ e) }
 
 pub write_shortest-requires : goal.write_shortest-requires
-write_shortest-requires c =
+write_shortest-requires c = (shortest_sound _ _ _ _ _ (passes _ _ _ _ c.in_ok-sizes.ensures).0).room_for
+
+pub invariant_of-trip-2 : goal.invariant_of-trip-2
+invariant_of-trip-2 c =
     let g = shortest_sound _ _ _ _ _ (passes _ _ _ _ c.in_ok-sizes.ensures).0 in
-    record { column = record { from = g.search.from; upto = g.search.upto }; ends = g.search.ends; room = g.room_for }
+    record { in_column = record { from = g.search.from; upto = g.search.upto }; ends = g.search.ends }
 
 pub returns : goal.returns
 unfolding shortest_outcome shortest_fault
@@ -35,5 +38,5 @@ returns c =
     let e = sym (then_next (path_row c.args.image.now c.args.column c.args.start c.args.goal) (passes _ _ _ _ c.in_ok-sizes.ensures).0) in
     record { result_value = c.write_shortest.ensures.result_value ∙ ap (λ f. outcome f (shortest_values c.args.image.now c.args.column c.args.start c.args.goal)) e; path_after = c.write_shortest.ensures.path_after ∙ ap (λ f. after f (shortest_of c.args.image.now c.args.column c.args.start c.args.goal) c.args.path.now) e }
 
-pub invariant_of-network : goal.invariant_of-network
-invariant_of-network c = record { accepted = (passes _ _ _ _ c.in_ok-sizes.ensures).1 }
+pub invariant_of-trip : goal.invariant_of-trip
+invariant_of-trip c = record { accepted = (passes _ _ _ _ c.in_ok-sizes.ensures).1 }

@@ -56,108 +56,108 @@ descend-returns-then-v-task-clause-ends t c = λ net s' t' seen z g.
 pub descend-try_arc-requires : goal.descend-try_arc-requires
 descend-try_arc-requires t c = (
   omega (arith, c.decreases),
-  (begun_kept c.requires.begun c.loop-i.invariant.kept c.loop-i.auto.route c.loop-i.auto.path, omega (arith, ends_in c.args.columns.now.fits c.requires.v_lt_places c.from-to.ensures, heads_long c.args.columns.now.fits, c.loop-i-test.true)),
+  (begun_kept c.requires.begun c.loop-i.invariant.kept c.loop-i.auto.route c.loop-i.auto.path, omega (arith, ends_in c.args.columns.now.fits c.requires.node_inside c.from-to.ensures, heads_long c.args.columns.now.fits, c.loop-i-test.true)),
 )
 
 pub descend-returns-in_err-now-clause-ends : goal.descend-returns-in_err-now-clause-ends
 descend-returns-in_err-now-clause-ends t c =
     let fits = c.args.columns.now.fits in
-    let begins = begins_at fits c.requires.v_lt_places c.from-from.ensures in
-    let ends = ends_at fits c.requires.v_lt_places c.from-to.ensures in
+    let begins = begins_at fits c.requires.node_inside c.from-from.ensures in
+    let ends = ends_at fits c.requires.node_inside c.from-to.ensures in
     let p = err_from_is_err_and c.from_residual.result c.from_residual.ensures.1 in
     rw p.1
     (λ net s' t' seen z g. let d = c.loop-i.invariant.leads net s' t' seen z g in
     ends_as
-    (descend_onward c.args.task.limit g (omega (arith, c.requires.begun.room)) _ _ c.if-v-task.false c.requires.v_lt_places begins ends
-    ∙ leads_cut d c.loop-i-test.true (ends_in fits c.requires.v_lt_places c.from-to.ensures)
-    (c.in_err-now.ensures.ends net s' t' c.args.v seen d.now c.requires.v_lt_places (omega (arith, begins, c.loop-i.auto.i)) (omega (arith, ends, c.loop-i-test.true)) (given_kept g c.loop-i.invariant.kept d.matches)))
+    (descend_onward c.args.task.limit g (omega (arith, c.requires.begun.room)) _ _ c.if-v-task.false c.requires.node_inside begins ends
+    ∙ leads_cut d c.loop-i-test.true (ends_in fits c.requires.node_inside c.from-to.ensures)
+    (c.in_err-now.ensures.ends net s' t' c.args.v seen d.now c.requires.node_inside (omega (arith, begins, c.loop-i.auto.i)) (omega (arith, ends, c.loop-i-test.true)) (given_kept g c.loop-i.invariant.kept d.matches)))
     stopped)
 
 pub descend-loop-i-preserved : goal.descend-loop-i-preserved
 descend-loop-i-preserved t c =
     let fits = c.args.columns.now.fits in
-    let begins = begins_at fits c.requires.v_lt_places c.from-from.ensures in
-    let ends = ends_at fits c.requires.v_lt_places c.from-to.ensures in
+    let begins = begins_at fits c.requires.node_inside c.from-from.ensures in
+    let ends = ends_at fits c.requires.node_inside c.from-to.ensures in
     record {
       kept = kept_both c.loop-i.invariant.kept c.in_ok-now.ensures.kept;
       leads = λ net s' t' seen z g. let d = c.loop-i.invariant.leads net s' t' seen z g in
-          leads_on d c.loop-i-test.true (ends_in fits c.requires.v_lt_places c.from-to.ensures)
-          (c.in_ok-now.ensures.ends net s' t' c.args.v seen d.now c.requires.v_lt_places (omega (arith, begins, c.loop-i.auto.i)) (omega (arith, ends, c.loop-i-test.true)) (given_kept g c.loop-i.invariant.kept d.matches));
+          leads_on d c.loop-i-test.true (ends_in fits c.requires.node_inside c.from-to.ensures)
+          (c.in_ok-now.ensures.ends net s' t' c.args.v seen d.now c.requires.node_inside (omega (arith, begins, c.loop-i.auto.i)) (omega (arith, ends, c.loop-i-test.true)) (given_kept g c.loop-i.invariant.kept d.matches));
     }
 
 pub descend-returns-clause-ends : goal.descend-returns-clause-ends
 descend-returns-clause-ends t c =
-    let begins = begins_at c.args.columns.now.fits c.requires.v_lt_places c.from-from.ensures in
-    let ends = ends_at c.args.columns.now.fits c.requires.v_lt_places c.from-to.ensures in
+    let begins = begins_at c.args.columns.now.fits c.requires.node_inside c.from-from.ensures in
+    let ends = ends_at c.args.columns.now.fits c.requires.node_inside c.from-to.ensures in
     λ net s' t' seen z g. let d = c.loop-i.invariant.leads net s' t' seen z g in
-    ends_as (descend_onward c.args.task.limit g (omega (arith, c.requires.begun.room)) _ _ c.if-v-task.false c.requires.v_lt_places begins ends ∙ leads_end d c.loop-i-test.false) (goes d.matches)
+    ends_as (descend_onward c.args.task.limit g (omega (arith, c.requires.begun.room)) _ _ c.if-v-task.false c.requires.node_inside begins ends ∙ leads_end d c.loop-i-test.false) (goes d.matches)
 
 pub try_arc-bounds-used-h : goal.try_arc-bounds-used-h
-try_arc-bounds-used-h t c = omega (arith, head_in c.args.columns.now.fits c.requires.i_lt_arcs c.from-h.ensures, c.requires.begun.used_long)
+try_arc-bounds-used-h t c = omega (arith, head_in c.args.columns.now.fits c.requires.arc_inside c.from-h.ensures, c.requires.begun.used_long)
 
 pub try_arc-returns-then-used-h-clause-ends : goal.try_arc-returns-then-used-h-clause-ends
 try_arc-returns-then-used-h-clause-ends t c = λ net s' t' v seen z l from to g.
     let on = rw g.nodes_are at (flag_on c.from-h.result c.requires.begun.flagged c.if-used-h.true) in
-    at_node c.args.task.limit _ net s' t' v seen z (head_is c.args.columns.now.fits c.requires.i_lt_arcs c.from-h.ensures)
+    at_node c.args.task.limit _ net s' t' v seen z (head_is c.args.columns.now.fits c.requires.arc_inside c.from-h.ensures)
     (ends_as (at_used c.args.task.limit _ net s' t' seen v c.from-h.result z on) (goes g.matches))
 
 pub try_arc-returns-then-from-held-clause-ends : goal.try_arc-returns-then-from-held-clause-ends
 try_arc-returns-then-from-held-clause-ends t c = λ net s' t' v seen z l from to g.
     let off = rw g.nodes_are at (flag_off c.from-h.result c.requires.begun.flagged c.if-used-h.false) in
-    at_node c.args.task.limit _ net s' t' v seen z (head_is c.args.columns.now.fits c.requires.i_lt_arcs c.from-h.ensures)
+    at_node c.args.task.limit _ net s' t' v seen z (head_is c.args.columns.now.fits c.requires.arc_inside c.from-h.ensures)
     (ends_as (at_full c.args.task.limit _ net s' t' seen v c.from-h.result z off (omega (arith, g.matches.tried_is, c.from.ensures, c.if-from-held.true))) stopped)
 
 pub try_arc-drops-requires : goal.try_arc-drops-requires
 try_arc-drops-requires t c = (
-  c.requires.i_lt_arcs,
-  head_in c.args.columns.now.fits c.requires.i_lt_arcs c.from-h.ensures,
+  c.requires.arc_inside,
+  head_in c.args.columns.now.fits c.requires.arc_inside c.from-h.ensures,
   low_more (omega (arith, c.requires.begun.room, c.args.columns.now.fits.ground.few)) c.requires.begun.sums_low,
 )
 
 pub try_arc-returns-then-drops-clause-ends : goal.try_arc-returns-then-drops-clause-ends
 try_arc-returns-then-drops-clause-ends t c = λ net s' t' v seen z l from to g.
     let off = rw g.nodes_are at (flag_off c.from-h.result c.requires.begun.flagged c.if-used-h.false) in
-    at_node c.args.task.limit _ net s' t' v seen z (head_is c.args.columns.now.fits c.requires.i_lt_arcs c.from-h.ensures)
+    at_node c.args.task.limit _ net s' t' v seen z (head_is c.args.columns.now.fits c.requires.arc_inside c.from-h.ensures)
     (ends_as
     (at_dropped c.args.task.limit _ net s' t' seen v c.from-h.result z off (omega (arith, g.matches.tried_is, c.from.ensures, c.if-from-held.false))
-    (rule_drops c.args.columns.now c.args.task c.args.partial.now c.args.i c.from-h.result c.requires.i_lt_arcs c.from-h.ensures g c.requires.begun l from to c.drops.ensures ∙ c.if-drops.true))
+    (rule_drops c.args.columns.now c.args.task c.args.partial.now c.args.i c.from-h.result c.requires.arc_inside c.from-h.ensures g c.requires.begun l from to c.drops.ensures ∙ c.if-drops.true))
     (goes (matches_counted g.matches)))
 
 pub try_arc-bounds-used-h-2 : goal.try_arc-bounds-used-h-2
-try_arc-bounds-used-h-2 t c = omega (arith, head_in c.args.columns.now.fits c.requires.i_lt_arcs c.from-h.ensures, c.requires.begun.used_long)
+try_arc-bounds-used-h-2 t c = omega (arith, head_in c.args.columns.now.fits c.requires.arc_inside c.from-h.ensures, c.requires.begun.used_long)
 
 pub try_arc-bounds-route-partial : goal.try_arc-bounds-route-partial
 try_arc-bounds-route-partial t c =
     let fits = c.args.columns.now.fits in
-    omega (arith, more_room c.from-h.result c.requires.begun (head_from fits c.requires.i_lt_arcs c.from-h.ensures) (head_in fits c.requires.i_lt_arcs c.from-h.ensures) c.if-used-h.false, c.requires.begun.route_long)
+    omega (arith, more_room c.from-h.result c.requires.begun (head_from fits c.requires.arc_inside c.from-h.ensures) (head_in fits c.requires.arc_inside c.from-h.ensures) c.if-used-h.false, c.requires.begun.route_long)
 
 pub try_arc-descend-run-requires : goal.try_arc-descend-run-requires
 try_arc-descend-run-requires t c =
     let fits = c.args.columns.now.fits in
-    let from = head_from fits c.requires.i_lt_arcs c.from-h.ensures in
-    let inside = head_in fits c.requires.i_lt_arcs c.from-h.ensures in (
+    let from = head_from fits c.requires.arc_inside c.from-h.ensures in
+    let inside = head_in fits c.requires.arc_inside c.from-h.ensures in (
       omega (arith, c.decreases, more_room c.from-h.result c.requires.begun from inside c.if-used-h.false),
       (rw (← c.from-h.ensures) (begun_more c.from-h.result c.requires.begun from inside c.if-used-h.false (c.lengthen.ensures.low c.args.partial.now.depth c.requires.begun.sums_low)), inside),
     )
 
 pub try_arc-bounds-used-h-3 : goal.try_arc-bounds-used-h-3
-try_arc-bounds-used-h-3 t c = omega (arith, head_in c.args.columns.now.fits c.requires.i_lt_arcs c.from-h.ensures, c.requires.begun.used_long, ap length c.descend-run.ensures.kept.flags, length-set c.args.used.now c.from-h.result true)
+try_arc-bounds-used-h-3 t c = omega (arith, head_in c.args.columns.now.fits c.requires.arc_inside c.from-h.ensures, c.requires.begun.used_long, ap length c.descend-run.ensures.kept.flags, length-set c.args.used.now c.from-h.result true)
 
 pub try_arc-returns-clause-kept : goal.try_arc-returns-clause-kept
 try_arc-returns-clause-kept t c =
     let fits = c.args.columns.now.fits in
-    kept_back c.from-h.result c.requires.begun (head_from fits c.requires.i_lt_arcs c.from-h.ensures) (head_in fits c.requires.i_lt_arcs c.from-h.ensures) c.if-used-h.false (rw (← c.from-h.ensures) at c.descend-run.ensures.kept)
+    kept_back c.from-h.result c.requires.begun (head_from fits c.requires.arc_inside c.from-h.ensures) (head_in fits c.requires.arc_inside c.from-h.ensures) c.if-used-h.false (rw (← c.from-h.ensures) at c.descend-run.ensures.kept)
 
 pub try_arc-returns-clause-ends : goal.try_arc-returns-clause-ends
 try_arc-returns-clause-ends t c = λ net s' t' v seen z l from to g.
     let fits = c.args.columns.now.fits in
     let off = rw g.nodes_are at (flag_off c.from-h.result c.requires.begun.flagged c.if-used-h.false) in
     let deeper = rw (← c.from-h.ensures) at (c.descend-run.ensures.ends net s' t' (v ∷ seen) (one_more z)) in
-    let room = more_room c.from-h.result c.requires.begun (head_from fits c.requires.i_lt_arcs c.from-h.ensures) (head_in fits c.requires.i_lt_arcs c.from-h.ensures) c.if-used-h.false in
-    at_node c.args.task.limit _ net s' t' v seen z (head_is fits c.requires.i_lt_arcs c.from-h.ensures)
+    let room = more_room c.from-h.result c.requires.begun (head_from fits c.requires.arc_inside c.from-h.ensures) (head_in fits c.requires.arc_inside c.from-h.ensures) c.if-used-h.false in
+    at_node c.args.task.limit _ net s' t' v seen z (head_is fits c.requires.arc_inside c.from-h.ensures)
     (ends_as
     (at_taken c.args.task.limit _ net s' t' seen v c.from-h.result z off (omega (arith, g.matches.tried_is, c.from.ensures, c.if-from-held.false))
-    (rule_drops c.args.columns.now c.args.task c.args.partial.now c.args.i c.from-h.result c.requires.i_lt_arcs c.from-h.ensures g c.requires.begun l from to c.drops.ensures ∙ c.if-drops.false))
+    (rule_drops c.args.columns.now c.args.task c.args.partial.now c.args.i c.from-h.result c.requires.arc_inside c.from-h.ensures g c.requires.begun l from to c.drops.ensures ∙ c.if-drops.false))
     (deeper
     (given_more c.from-h.result g c.args.i (omega (arith, room, c.requires.begun.route_long)) (star_longer fits c.lengthen.ensures)
-    (weighs c.args.columns.now c.args.task c.args.partial.now c.args.i c.from-h.result c.requires.i_lt_arcs c.from-h.ensures g c.requires.begun l from to c.drops.ensures c.if-drops.false))))
+    (weighs c.args.columns.now c.args.task c.args.partial.now c.args.i c.from-h.result c.requires.arc_inside c.from-h.ensures g c.requires.begun l from to c.drops.ensures c.if-drops.false))))
