@@ -115,9 +115,6 @@ loaded_left {net = net} ok {u} lo hi words {ks = ks} count are l =
 pub loaded_all : {net : Net} {u t : ℕ} {s ws ls : List ℕ} → Loaded (without [] net) u t s ws ls → Loaded net u t s ws ls
 loaded_all {net} {u} {t} {s} {ws} {ls} l = subst (λ x. Loaded x u t s ws ls) (without_none net) l
 
-pub shared_all : {net : Net} {m : ℕ} {s costs : List ℕ} → Shared (without [] net) m s costs → Shared net m s costs
-shared_all {net} {m} {s} {costs} h = subst (λ x. Shared x m s costs) (without_none net) h
-
 -- the labels of a loaded column are the column's
 pub loaded_least : {net : Net} {u t : ℕ} {s ws ls : List ℕ} → Loaded net u t s ws ls → Least (column net u) [] t ls
 loaded_least {t = t} {ls = ls} l = subst (λ g. Least g [] t ls) l.graph_is l.least

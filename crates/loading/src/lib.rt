@@ -8,9 +8,7 @@ mod network;
 mod reading;
 mod selecting;
 
-pub use loading::{
-    label_nodes, load_all, load_common_left, load_common_whole, load_left, load_whole,
-};
+pub use loading::{label_nodes, load_all, load_common_left, load_left, load_whole};
 pub use network::Network;
 pub use reading::read_arcs;
 pub use selecting::number_arcs;

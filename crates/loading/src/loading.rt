@@ -138,15 +138,6 @@ pub fn load_common_left(
     m
 }
 
-// The same of the whole image.
-pub fn load_common_whole(network: &Network<'_>, star: &mut [u16], costs: &mut [u32]) -> usize
-    requires star_len { length star.old ≡ star_size network.now.sizes.n network.now.sizes.m }
-    requires costs_len { length costs.old ≡ network.now.sizes.m * network.now.sizes.k }
-    ensures { (result ≤ network.now.sizes.m) × Shared (net network.now) result (take (star_size network.now.sizes.n result) star.new) (take (result * network.now.sizes.k) costs.new) }
-{
-    load_common_left(network, &[], star, costs)
-}
-
 // Reads all arcs, open or not, and all columns as they stand in the image.
 pub fn load_all(network: &Network<'_>, star: &mut [u16], costs: &mut [u32])
     requires star_len { length star.old ≡ star_size network.now.sizes.n network.now.sizes.m }

@@ -88,8 +88,8 @@ pub fn choose_left(
     Ok(choose_priced(&contest, work, path))
 }
 
-// The same of the whole image: no arc is closed beside it.
-pub fn choose(
+// The same of the whole image: the map that is handed down closes no arc.
+pub fn choose_whole(
     network: &Network<'_>,
     r: u32,
     start: u32,
@@ -105,6 +105,5 @@ pub fn choose(
     ensures path_after { path.new ≡ after (no_open_path (net network.now) r start goal) (chosen (robust_of network.now.image.now r start goal wanted)) path.old }
     ensures work_after { work.new ≡ cleared (no_open_path (net network.now) r start goal) work.old }
 {
-    let none = [0u64; 0];
-    choose_left(network, &none, r, start, goal, wanted, path, work)
+    choose_left(network, &[], r, start, goal, wanted, path, work)
 }

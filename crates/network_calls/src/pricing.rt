@@ -5,7 +5,6 @@ ghost use Rattle.terms.specs.Regret as terms;
 ghost use Rattle.closures.specs.Map.{without};
 ghost use Rattle.loading.specs.Accepted.{Ends};
 ghost use Rattle.loading.specs.Networks.{net};
-ghost use Rattle.loading.specs.Loaded.{Room};
 ghost use Rattle.measuring.specs.Bests.{Labelled};
 ghost use Rattle.measuring.specs.Networks.{network_of};
 ghost use Rattle.network_calls.specs.Held.{Reached, Held};
@@ -23,28 +22,8 @@ pub struct Trip {
     pub labelled: usize,
 }
 
-// The best of each column by itself: its open arcs are loaded and labelled, with room for them.
-fn own_bests_in(
-    network: &Network<'_>,
-    closed: &[u64],
-    start: usize,
-    goal: usize,
-    star: &mut [u16],
-    weights: &mut [u32],
-    labels: &mut [u64],
-    bests: &mut [u64],
-)
-    requires ends { Ends (net network.now).nodes start goal }
-    requires room { Room network.now.sizes.n network.now.sizes.m star.old weights.old labels.old × (length bests.old ≡ network.now.sizes.k) }
-    ensures { bests.new ≡ terms.bests (without closed.now (net network.now)) start goal }
-{
-    for u in 0..network.sizes.k {
-        load_left(network, closed, u + 1, goal, star, weights, labels);
-        bests[u as usize] = narrow(labels[start]) as u64;
-    }
-}
-
-// The same, with room made for them. Where no path is open in a column, the mark stands in the place of its best.
+// The best of each column by itself: its open arcs are loaded and labelled. Where no path is open in a column, the mark
+// stands in the place of its best.
 pub fn own_bests(
     network: &Network<'_>,
     closed: &[u64],
@@ -56,22 +35,18 @@ pub fn own_bests(
     requires bests_len { length bests.old ≡ network.now.sizes.k }
     ensures { bests.new ≡ terms.bests (without closed.now (net network.now)) start goal }
 {
-    let mut star = [0u16; 3403];
-    let mut weights = [0u32; 1000];
-    let mut labels = [0u64; 201];
+    let mut star_room = [0u16; 3403];
+    let mut weight_room = [0u32; 1000];
+    let mut label_room = [0u64; 201];
     let arcs = network.sizes.m as usize;
     let places = network.sizes.n as usize + 1;
-    let size = 3 * arcs + places + 1 + places;
-    own_bests_in(
-        network,
-        closed,
-        start,
-        goal,
-        &mut star[..size],
-        &mut weights[..arcs],
-        &mut labels[..places],
-        bests,
-    );
+    let star = &mut star_room[..3 * arcs + places + 1 + places];
+    let weights = &mut weight_room[..arcs];
+    let labels = &mut label_room[..places];
+    for u in 0..network.sizes.k {
+        load_left(network, closed, u + 1, goal, star, weights, labels);
+        bests[u as usize] = narrow(labels[start]) as u64;
+    }
 }
 
 // Finds each column's best. A path that is open in every column goes from start to goal; the columns have the

@@ -7,7 +7,7 @@ ghost use Rattle.network_calls.specs.Answers.{decision_list};
 ghost use Rattle.outcomes.specs.Calls.{robust_rows, robust_fault, robust_of, chosen, robust_outcome, cleared};
 ghost use Rattle.outcomes.specs.Demands.{Kept3};
 
-use super::chosen::choose;
+use super::chosen::choose_whole;
 use choosing::Decision;
 use image::{Refusal, Sizes};
 use loading::Network;
@@ -49,5 +49,5 @@ pub fn robust(
 {
     let sizes = check_robust(image, column, start, goal, wanted, path.len(), work.len())?;
     let network = Network { image, sizes };
-    choose(&network, column, start, goal, wanted, path, work)
+    choose_whole(&network, column, start, goal, wanted, path, work)
 }

@@ -16,7 +16,7 @@ shortest-requires c =
     let column_loaded = c.load_whole-m.ensures.1 in
     let L = column_loaded in
     let long = L.labels_long in
-    record { nodes = omega (arith, (L.network _ long).places); ends = (record { start_from = c.args.trip.now.ends.start_in.from; start_place = omega (arith, c.args.trip.now.ends.start_in, long); goal_place = omega (arith, c.args.trip.now.ends.goal_in, long); apart = c.args.trip.now.ends.apart }, omega (arith, long, c.requires)); least = L.least }
+    record { overall_long = omega (arith, long, c.args.trip.now.network.accepted.nodes_are); ends = (record { start_from = c.args.trip.now.ends.start_in.from; start_place = omega (arith, c.args.trip.now.ends.start_in, long); goal_place = omega (arith, c.args.trip.now.ends.goal_in, long); apart = c.args.trip.now.ends.apart }, omega (arith, long, c.requires)); least = L.least }
 
 pub returns : goal.returns
 returns c =

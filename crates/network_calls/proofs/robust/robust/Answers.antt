@@ -17,8 +17,8 @@ returns-in_err-sizes c =
     let e = then_fault (choice_row c.args.image.now c.args.column c.args.start c.args.goal) (refuses_fault (robust_rows c.args.image.now c.args.column c.args.start c.args.goal c.args.wanted (length c.args.path.now) (length c.args.work.now)) (sizes c.args.image.now) c.in_err-sizes.ensures) in
     record { result_value = handed_on _ _ _ c.from_residual.ensures.1 ∙ sym (outcome_fault _ e); path_after = sym (after_fault _ _ e); work_after = sym (cleared_not _ e); kept3 = kept_3 _ _ _ _ _ _ _ }
 
-pub choose-requires : goal.choose-requires
-choose-requires c =
+pub choose_whole-requires : goal.choose_whole-requires
+choose_whole-requires c =
     let b = c.args.image.now in
     let p = given_sizes _ (λ e. (robust_sound b c.args.column c.args.start c.args.goal c.args.wanted c.args.path.now c.args.work.now e).accepted) c.in_ok-sizes.ensures in
     let g = robust_sound b c.args.column c.args.start c.args.goal c.args.wanted c.args.path.now c.args.work.now p.0 in
@@ -30,7 +30,7 @@ returns c =
     let b = c.args.image.now in
     let p = given_sizes _ (λ e. (robust_sound b c.args.column c.args.start c.args.goal c.args.wanted c.args.path.now c.args.work.now e).accepted) c.in_ok-sizes.ensures in
     let e = sym (then_next (choice_row b c.args.column c.args.start c.args.goal) p.0) in
-    record { result_value = c.choose.ensures.result_value ∙ ap (λ f. outcome f (robust_values (robust_of b c.args.column c.args.start c.args.goal c.args.wanted))) e; path_after = c.choose.ensures.path_after ∙ ap (λ f. after f (chosen (robust_of b c.args.column c.args.start c.args.goal c.args.wanted)) c.args.path.now) e; work_after = c.choose.ensures.work_after ∙ ap (λ f. cleared f c.args.work.now) e; kept3 = kept_3 _ _ _ _ _ _ _ }
+    record { result_value = c.choose_whole.ensures.result_value ∙ ap (λ f. outcome f (robust_values (robust_of b c.args.column c.args.start c.args.goal c.args.wanted))) e; path_after = c.choose_whole.ensures.path_after ∙ ap (λ f. after f (chosen (robust_of b c.args.column c.args.start c.args.goal c.args.wanted)) c.args.path.now) e; work_after = c.choose_whole.ensures.work_after ∙ ap (λ f. cleared f c.args.work.now) e; kept3 = kept_3 _ _ _ _ _ _ _ }
 
 pub invariant_of-network : goal.invariant_of-network
 invariant_of-network c =
