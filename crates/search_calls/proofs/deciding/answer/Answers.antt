@@ -11,7 +11,7 @@ use Rattle.search_calls.proofs.deciding.answer.Goals as goal
 
 pub search_image-run-requires : goal.search_image-run-requires
 search_image-run-requires c =
-    record { reached = c.requires.reached; n_in_bounds = c.requires.best_long }
+    record { reached = c.requires.reached; best_long = c.requires.best_long }
 
 pub returns-in_default : goal.returns-in_default
 returns-in_default c =
