@@ -1,5 +1,5 @@
 // The least cost of a path from start to goal, in each column.
-ghost use Rattle.std.specs.Prelude.{◌≡◌, ◌+◌, ◌≤◌, length};
+ghost use Rattle.std.specs.Prelude.{◌≡◌, ◌≤◌, length, IfSome};
 ghost use Rattle.terms.specs.Network.{column};
 ghost use Rattle.terms.specs.Paths.{Route, Path};
 ghost use Rattle.terms.specs.Regret as terms;
@@ -24,42 +24,48 @@ fn least_cost(graph: &Graph<'_>, start: usize, goal: usize) -> u64
     labels[start]
 }
 
-// The best of column u. Column r is labelled already: its best is the start's label in `overall`.
+// The labels of one column: each node's least cost to the goal there.
+#[derive(Clone, Copy)]
+pub struct ColumnLabels<'a> {
+    pub column: usize,
+    pub labels: &'a [u64],
+}
+
+// The best of column u. Where its labels are known it is the start's.
 fn column_best(
     columns: &Columns<'_>,
-    overall: &[u64],
+    known: Option<ColumnLabels<'_>>,
     start: usize,
     goal: usize,
-    r: usize,
     u: usize,
 ) -> u64
     requires joined { Joined columns.now start goal }
     requires column { IsColumn columns.now u }
-    requires labelled { 1 ≤ r → Labelled columns.now goal r overall.now }
+    requires labelled { IfSome known (λ own. Labelled columns.now goal own.column own.labels.now) }
     ensures { result ≡ terms.best columns.now.nodes (column (network_of columns.now) u) start goal }
 {
-    if u == r {
-        return overall[start];
+    if let Some(own) = known {
+        if own.column == u {
+            return own.labels[start];
+        }
     }
     least_cost(&columns.column(u), start, goal)
 }
 
-// Fills bests with the least cost of a path from start to goal in each column. overall are the labels of
-// column r; 0 for r says that no column is labelled.
+// Fills bests with the least cost of a path from start to goal in each column, of which one may be labelled.
 pub fn column_bests(
     columns: &Columns<'_>,
-    overall: &[u64],
+    known: Option<ColumnLabels<'_>>,
     start: usize,
     goal: usize,
-    r: usize,
     bests: &mut [u64],
 )
     requires joined { Joined columns.now start goal }
     requires bests_long { length bests.old ≡ columns.now.count }
-    requires labelled { 1 ≤ r → Labelled columns.now goal r overall.now }
+    requires labelled { IfSome known (λ own. Labelled columns.now goal own.column own.labels.now) }
     ensures { bests.new ≡ terms.bests (network_of columns.now) start goal }
 {
     for (i, best) in bests.iter_mut().enumerate() {
-        *best = column_best(columns, overall, start, goal, r, i + 1);
+        *best = column_best(columns, known, start, goal, i + 1);
     }
 }

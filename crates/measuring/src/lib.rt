@@ -8,7 +8,7 @@ mod excesses;
 mod measuring;
 mod sums;
 
-pub use bests::column_bests;
+pub use bests::{ColumnLabels, column_bests};
 pub use columns::Columns;
 pub use excesses::Measure;
 pub use measuring::measure;

@@ -7,10 +7,10 @@ use Rattle.measuring.specs.Bests.{Labelled}
 use Rattle.measuring.proofs.BestLaws.{best_labelled, joined_path}
 use Rattle.measuring.proofs.bests.column_best.Goals as goal
 
-pub returns-then-u-r : goal.returns-then-u-r
-returns-then-u-r c =
-    let labelled = c.requires.labelled (omega (arith, c.requires.column.from, c.if-u-r.true)) in
-    best_labelled c.requires.joined c.requires.column (subst (λ x. Labelled c.args.columns.now c.args.goal x c.args.overall.now) (sym c.if-u-r.true) labelled)
+pub returns-then-own-u : goal.returns-then-own-u
+returns-then-own-u c =
+    let labelled = rw c.in-Some.is at c.requires.labelled in
+    best_labelled c.requires.joined c.requires.column (subst (λ x. Labelled c.args.columns.now c.args.goal x c.in-Some.own.labels.now) c.if-own-u.true labelled)
 
 pub least_cost-requires : goal.least_cost-requires
 least_cost-requires c =
