@@ -13,12 +13,13 @@ ghost use Rattle.loading.specs.Networks.{net};
 ghost use Rattle.network_calls.specs.Held.{no_open_path, ChoiceSlices};
 
 use super::common::load_columns;
-use super::pricing::{Trip, price};
+use super::pricing::price;
 use choosing::{Contest, Decision, least_regret};
 use image::Refusal;
 use labels::FAR;
 use listing::clear;
 use loading::{Network, label_nodes};
+use measuring::ColumnLabels;
 use ranking::Query;
 
 // Chooses the path of a contest, and writes it. The workspace is cleared.
@@ -65,12 +66,19 @@ pub fn choose_left(
     if labels[start as usize] == FAR {
         return Err(Refusal::NoPath);
     }
-    let trip = Trip {
-        start: start as usize,
-        goal: goal as usize,
-        labelled: r as usize,
+    let known = ColumnLabels {
+        column: r as usize,
+        labels,
     };
-    price(network, closed, &columns, trip, labels, bests);
+    price(
+        network,
+        closed,
+        &columns,
+        Some(known),
+        start as usize,
+        goal as usize,
+        bests,
+    );
     let query = Query {
         graph,
         labels,

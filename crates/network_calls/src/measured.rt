@@ -13,7 +13,7 @@ ghost use Rattle.network_calls.specs.Answers.{measure_list};
 
 use super::common::load_columns;
 use super::node_list::check_list;
-use super::pricing::{Trip, price};
+use super::pricing::price;
 use image::Refusal;
 use labels::FAR;
 use loading::Network;
@@ -41,14 +41,7 @@ pub fn measure_path(
     requires path { OpenPath (net network.now) start goal nodes.now }
     ensures { (result.figure ≡ terms.figure (net network.now) start goal nodes.now) × (result.worst ≡ terms.worst (net network.now) start goal nodes.now) }
 {
-    let none = [0u64; 0];
-    // no column is labelled
-    let trip = Trip {
-        start,
-        goal,
-        labelled: 0,
-    };
-    price(network, &none, columns, trip, &none, bests);
+    price(network, &[], columns, None, start, goal, bests);
     // no figure comes near to it
     let found = measure(columns, bests, nodes, FAR);
     Measure {

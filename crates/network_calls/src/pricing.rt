@@ -1,5 +1,5 @@
 // Each column's best: the least cost of a path that is open in it.
-ghost use Rattle.std.specs.Prelude.{◌≡◌, ◌≤◌, length};
+ghost use Rattle.std.specs.Prelude.{◌≡◌, length, IfSome};
 ghost use Rattle.terms.specs.Network.{common};
 ghost use Rattle.terms.specs.Regret as terms;
 ghost use Rattle.closures.specs.Map.{without};
@@ -11,16 +11,8 @@ ghost use Rattle.network_calls.specs.Held.{Reached, Held};
 
 use closures::closed_roads;
 use loading::{Network, load_left};
-use measuring::{Columns, column_bests};
+use measuring::{ColumnLabels, Columns, column_bests};
 use outcomes::narrow;
-
-// From where to where, and the column whose labels are at hand; 0 if none is.
-#[derive(Clone, Copy)]
-pub struct Trip {
-    pub start: usize,
-    pub goal: usize,
-    pub labelled: usize,
-}
 
 // The best of each column by itself: its open arcs are loaded and labelled. Where no path is open in a column, the mark
 // stands in the place of its best.
@@ -50,34 +42,28 @@ pub fn own_bests(
 }
 
 // Finds each column's best. A path that is open in every column goes from start to goal; the columns have the
-// arcs that the map leaves and that are open in every column, and overall their labels in the labelled
-// column, if there is one. Where these are all arcs that the map leaves, one star serves all columns.
+// arcs that the map leaves and that are open in every column, and one of them may be labelled. Where these are
+// all arcs that the map leaves, one star serves all columns.
 pub fn price(
     network: &Network<'_>,
     closed: &[u64],
     columns: &Columns<'_>,
-    trip: Trip,
-    overall: &[u64],
+    known: Option<ColumnLabels<'_>>,
+    start: usize,
+    goal: usize,
     bests: &mut [u64],
 )
     requires common { network_of columns.now ≡ common (without closed.now (net network.now)) }
-    requires reached { Reached (without closed.now (net network.now)) trip.start trip.goal }
+    requires reached { Reached (without closed.now (net network.now)) start goal }
     requires bests_long { length bests.old ≡ network.now.sizes.k }
-    requires labelled { 1 ≤ trip.labelled → Labelled columns.now trip.goal trip.labelled overall.now }
-    ensures { Held (without closed.now (net network.now)) columns.now trip.start trip.goal bests.new }
+    requires labelled { IfSome known (λ own. Labelled columns.now goal own.column own.labels.now) }
+    ensures { Held (without closed.now (net network.now)) columns.now start goal bests.new }
 {
     let arcs = network.sizes.m as usize;
     let gone = closed_roads(closed, arcs) as usize;
     if columns.arcs == arcs - gone {
-        column_bests(
-            columns,
-            overall,
-            trip.start,
-            trip.goal,
-            trip.labelled,
-            bests,
-        );
+        column_bests(columns, known, start, goal, bests);
     } else {
-        own_bests(network, closed, trip.start, trip.goal, bests);
+        own_bests(network, closed, start, goal, bests);
     }
 }

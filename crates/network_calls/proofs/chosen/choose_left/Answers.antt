@@ -83,7 +83,7 @@ price-requires c =
     let C = rest_column a words columns same c.requires.column in
     let long = c.label_nodes.auto.overall ∙ part_long 201 (columns.nodes + 1) (omega (arith, columns_nodes columns)) ∙ ap (λ (x : ℕ). x + 1) (sym G.nodes) in
     let labelled = labelled_in columns c.column-graph.result G.nodes G.star G.weights long c.label_nodes.ensures in
-    record { common = same; reached = reached ok columns same ends C labelled c.if-labels-start.false; bests_long = part_long 8 columns.count columns.held.columns_to ∙ count_image a words columns same; labelled = λ _. labelled }
+    record { common = same; reached = reached ok columns same ends C labelled c.if-labels-start.false; bests_long = part_long 8 columns.count columns.held.columns_to ∙ count_image a words columns same; labelled = labelled }
 
 pub invariant_of-query : goal.invariant_of-query
 invariant_of-query c =

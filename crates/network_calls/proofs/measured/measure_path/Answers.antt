@@ -13,7 +13,7 @@ use Rattle.network_calls.proofs.measured.measure_path.Goals as goal
 pub price-requires : goal.price-requires
 price-requires c =
     let H = subst (λ net. (network_of c.args.columns.now ≡ common net) × Reached net c.args.start c.args.goal) (sym (without_none (net_of c.args.network.now.image.now))) (c.requires.common, record { ends = c.requires.ends; route = c.args.nodes.now; path = c.requires.path }) in
-    record { common = H.0; reached = H.1; bests_long = c.requires.bests_long; labelled = λ h. absurd (omega arith) }
+    record { common = H.0; reached = H.1; bests_long = c.requires.bests_long; labelled = tt }
 
 pub measure-found-requires : goal.measure-found-requires
 measure-found-requires c =

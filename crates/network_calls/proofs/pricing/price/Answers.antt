@@ -11,7 +11,7 @@ returns-then-columns-arcs c =
     let a = c.args.network.now.accepted in
     let ok = rest_admitted a c.args.closed.now in
     held ok c.args.columns.now c.requires.common c.requires.reached.ends (c.column_bests.auto.bests ∙ c.requires.bests_long ∙ rest_columns a c.args.closed.now)
-    (c.column_bests.ensures ∙ bests_all ok c.args.columns.now c.requires.common c.args.trip.start c.args.trip.goal (c.if-columns-arcs.true ∙ sym (rest_arcs a c.args.closed.now c.closed_roads-gone.ensures.0)))
+    (c.column_bests.ensures ∙ bests_all ok c.args.columns.now c.requires.common c.args.start c.args.goal (c.if-columns-arcs.true ∙ sym (rest_arcs a c.args.closed.now c.closed_roads-gone.ensures.0)))
 
 pub returns-else-columns-arcs : goal.returns-else-columns-arcs
 returns-else-columns-arcs c =
