@@ -1,5 +1,5 @@
 // Find: the arc between two nodes, among all records of an image.
-ghost use Rattle.std.specs.Prelude.{◌≡◌, length};
+ghost use Rattle.std.specs.Prelude.{◌≡◌};
 ghost use Rattle.image.specs.Outcome.{sound};
 ghost use Rattle.image.specs.Layout.{net_of};
 ghost use Rattle.image.specs.Calls.{image_fault};
@@ -20,41 +20,20 @@ pub struct Found {
     pub looks: u32,
 }
 
-// The arc from tail to head in an accepted image, with room for the indices, tails and heads of its arcs.
-fn seek_in(
-    network: &Network<'_>,
-    tail: u32,
-    head: u32,
-    arcs: &mut [u16],
-    tails: &mut [u16],
-    heads: &mut [u16],
-) -> Sought
-    requires arcs_len { length arcs.old ≡ network.now.sizes.m }
-    requires tails_len { length tails.old ≡ network.now.sizes.m }
-    requires heads_len { length heads.old ≡ network.now.sizes.m }
-    ensures { sought result ≡ find_of network.now.image.now tail head }
-{
-    number_arcs(arcs);
-    read_arcs(network, arcs, tails, heads);
-    find_arc(tails, heads, 0, arcs.len(), tail as usize, head as usize)
-}
-
-// The same, with room made for them.
+// The arc from tail to head in an accepted image, among the tails and heads of all its arcs.
 fn seek_arc(network: &Network<'_>, tail: u32, head: u32) -> Sought
     ensures { sought result ≡ find_of network.now.image.now tail head }
 {
-    let mut arcs = [0u16; 1000];
-    let mut tails = [0u16; 1000];
-    let mut heads = [0u16; 1000];
+    let mut arc_room = [0u16; 1000];
+    let mut tail_room = [0u16; 1000];
+    let mut head_room = [0u16; 1000];
     let m = network.sizes.m as usize;
-    seek_in(
-        network,
-        tail,
-        head,
-        &mut arcs[..m],
-        &mut tails[..m],
-        &mut heads[..m],
-    )
+    let arcs = &mut arc_room[..m];
+    let tails = &mut tail_room[..m];
+    let heads = &mut head_room[..m];
+    number_arcs(arcs);
+    read_arcs(network, arcs, tails, heads);
+    find_arc(tails, heads, 0, arcs.len(), tail as usize, head as usize)
 }
 
 // REFERENCE, section 4.9.

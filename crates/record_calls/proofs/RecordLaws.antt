@@ -123,6 +123,9 @@ module _ (l rest x rest' : List ℕ) (i : ℕ) (left : rest ≡ drop (4 * i) l) 
       ∙ ap₂ (λ (a c : ℕ). record_of a c (get_or l (4 * i + 2) 0) (get_or l (4 * i + 3) 0)) (ap (λ (n : ℕ). get_or l n 0) first ∙ chunk_at 0 (omega arith)) (chunk_at 1 (omega arith))
       ∙ ap₂ (λ (c s : ℕ). record_of (get_or x 0 0) (get_or x 1 0) c s) (chunk_at 2 (omega arith)) (chunk_at 3 (omega arith))
 
+  pub chunk_fits : {e m k : ℕ} → records_fault e m k 0 (record_list l) ≡ sound → Fits e m k (record_of (get_or x 0 0) (get_or x 1 0) (get_or x 2 0) (get_or x 3 0))
+  chunk_fits {e} {m} {k} h = rw chunk_is at (fit_at (all_fit e m k 0 (record_list l) h) i (omega (arith, chunk_low, length_list l)))
+
 -- ---- the place of a cost
 abbrev pub place_of : ℕ → Record → ℕ
 place_of m r = (r.column - 1) * m + r.arc

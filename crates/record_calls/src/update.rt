@@ -60,36 +60,20 @@ fn write_record(
     }
 }
 
-// Writes the winning costs of a list that passed, with room for the stamp of each cost, at first 0.
-fn write_records_in(image: &mut [u8], sizes: Sizes, records: &[u32], stamps: &mut [u32])
-    requires accepted { (sizes.m ≤ 1000) × (sizes.k ≤ 8) × (length image.old ≡ total sizes.m sizes.k) × (records_fault sizes.edition sizes.m sizes.k 0 (record_list records.now) ≡ sound) }
-    requires stamps_fresh { (length stamps.old ≡ sizes.m * sizes.k) × ((x : ℕ) → get_or stamps.old x 0 ≡ 0) }
-    ensures { (costs : List ℕ) → length costs ≡ sizes.m * sizes.k → image.old ≡ take (costs_start sizes.m) image.old ++ encode 4 costs → image.new ≡ take (costs_start sizes.m) image.old ++ encode 4 (costs_after sizes.m (record_list records.now) 0 costs) }
-{
-    let m = sizes.m as usize;
-    let start = costs_start(sizes.m) as usize;
-    for i in 0..records.len() / 4 {
-        let column = records[4 * i + 1] as usize;
-        let place = (column - 1) * m + records[4 * i] as usize;
-        write_record(
-            image,
-            start,
-            stamps,
-            place,
-            records[4 * i + 2],
-            records[4 * i + 3],
-        );
-    }
-}
-
-// The same, with room made for the stamps.
+// Writes the winning costs of a list that passed. At first each cost's stamp is 0.
 fn write_records(image: &mut [u8], sizes: Sizes, records: &[u32])
     requires { (sizes.m ≤ 1000) × (sizes.k ≤ 8) × (length image.old ≡ total sizes.m sizes.k) × (records_fault sizes.edition sizes.m sizes.k 0 (record_list records.now) ≡ sound) }
     ensures { (costs : List ℕ) → length costs ≡ sizes.m * sizes.k → image.old ≡ take (costs_start sizes.m) image.old ++ encode 4 costs → image.new ≡ take (costs_start sizes.m) image.old ++ encode 4 (costs_after sizes.m (record_list records.now) 0 costs) }
 {
-    let mut stamps = [0u32; 8000];
-    let count = cost_count(sizes.m, sizes.k) as usize;
-    write_records_in(image, sizes, records, &mut stamps[..count]);
+    let mut room = [0u32; 8000];
+    let stamps = &mut room[..cost_count(sizes.m, sizes.k) as usize];
+    let m = sizes.m as usize;
+    let start = costs_start(sizes.m) as usize;
+    for record in records.chunks_exact(4) {
+        let column = record[1] as usize;
+        let place = (column - 1) * m + record[0] as usize;
+        write_record(image, start, stamps, place, record[2], record[3]);
+    }
 }
 
 // The image's own rows, and among them row 4 for the length of the list, which is due only if no row up to 4 of
