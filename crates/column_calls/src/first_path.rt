@@ -7,8 +7,6 @@ ghost use Rattle.loading.specs.Networks.{net};
 
 use super::trip::Trip;
 use branching::{Tail, shortest};
-use loading::load_whole;
-use star::Graph;
 
 // The first path, laid out in route.
 pub fn find(trip: &Trip<'_>, route: &mut [u16]) -> Option<Tail>
@@ -19,20 +17,11 @@ pub fn find(trip: &Trip<'_>, route: &mut [u16]) -> Option<Tail>
     let mut star_room = [0u16; 3403];
     let mut weight_room = [0u32; 1000];
     let mut label_room = [0u64; 201];
-    let network = &trip.network;
-    let arcs = network.sizes.m as usize;
-    let nodes = network.sizes.n as usize;
-    let places = nodes + 1;
+    let arcs = trip.network.sizes.m as usize;
+    let places = trip.network.sizes.n as usize + 1;
     let star = &mut star_room[..3 * arcs + places + 1 + places];
     let weights = &mut weight_room[..arcs];
-    let overall = &mut label_room[..places];
-    let goal = trip.goal as usize;
-    let m = load_whole(network, trip.column, goal, star, weights, overall);
-    let size = 3 * m + places + 1 + places;
-    let graph = Graph {
-        nodes,
-        star: &star[..size],
-        weights: &weights[..m],
-    };
-    shortest(&graph, trip.start as u16, goal, overall, route)
+    let labels = &mut label_room[..places];
+    let graph = trip.load(star, weights, labels);
+    shortest(&graph, trip.start as u16, trip.goal as usize, labels, route)
 }

@@ -6,7 +6,6 @@ ghost use Rattle.star.specs.Graphs.{arcs_of};
 ghost use Rattle.listing.specs.Rows.{rows_of};
 ghost use Rattle.image.specs.Outcome.{sound, after};
 ghost use Rattle.loading.specs.Networks.{net};
-ghost use Rattle.loading.specs.Loaded.{Room};
 ghost use Rattle.outcomes.specs.Calls.{rank_of, rank_rows_of, rank_costs_of};
 ghost use Rattle.column_calls.specs.Slices.{ListSlices, ListedWork};
 
@@ -14,9 +13,7 @@ use super::trip::Trip;
 use candidates::{Entries, Routes};
 use labels::FAR;
 use listing::{clear, write_rows};
-use loading::load_whole;
 use ranking::{Query, rank_paths};
-use star::Graph;
 
 // Writes the first paths from start to goal in a loaded column, as many as there are slots or all, and
 // returns their number. The workspace is cleared.
@@ -43,50 +40,7 @@ fn list_loaded(query: &Query<'_>, work: &mut [u32], rows: &mut [u16], costs: &mu
     count
 }
 
-// The same from the image on, with room for all that the search needs. Nothing is touched if there is no path.
-// It is a function beside `list`: rattle covers a Query only where the parts that it reads come in at one lifetime.
-fn list_in<'a>(
-    trip: &Trip<'_>,
-    wanted: u32,
-    star: &'a mut [u16],
-    weights: &'a mut [u32],
-    overall: &'a mut [u64],
-    work: &mut [u32],
-    rows: &mut [u16],
-    costs: &mut [u32],
-) -> usize
-    requires room { Room trip.now.network.sizes.n trip.now.network.sizes.m star.old weights.old overall.old }
-    requires list_slices { ListSlices trip.now.network.sizes.n wanted rows.old costs.old work.old }
-    ensures value { result ≡ length (rank_of trip.now.network.image.now trip.now.column trip.now.start trip.now.goal wanted) }
-    ensures rows_after { rows.new ≡ after sound (rank_rows_of trip.now.network.image.now trip.now.column trip.now.start trip.now.goal wanted) rows.old }
-    ensures costs_after { costs.new ≡ after sound (rank_costs_of trip.now.network.image.now trip.now.column trip.now.start trip.now.goal wanted) costs.old }
-    ensures listed_work { ListedWork result work.old work.new }
-{
-    let goal = trip.goal as usize;
-    let m = load_whole(&trip.network, trip.column, goal, star, weights, overall);
-    let start = trip.start as usize;
-    if overall[start] == FAR {
-        return 0;
-    }
-    let nodes = trip.network.sizes.n as usize;
-    let places = nodes + 1;
-    let size = 3 * m + places + 1 + places;
-    let graph = Graph {
-        nodes,
-        star: &star[..size],
-        weights: &weights[..m],
-    };
-    let query = Query {
-        graph,
-        labels: overall,
-        start: trip.start as u16,
-        goal,
-        slots: wanted as usize,
-    };
-    list_loaded(&query, work, rows, costs)
-}
-
-// The same, with room made for it.
+// The same from the image on. Nothing is touched if there is no path.
 pub fn list(
     trip: &Trip<'_>,
     wanted: u32,
@@ -100,20 +54,24 @@ pub fn list(
     ensures costs_after { costs.new ≡ after sound (rank_costs_of trip.now.network.image.now trip.now.column trip.now.start trip.now.goal wanted) costs.old }
     ensures listed_work { ListedWork result work.old work.new }
 {
-    let mut star = [0u16; 3403];
-    let mut weights = [0u32; 1000];
-    let mut overall = [0u64; 201];
+    let mut star_room = [0u16; 3403];
+    let mut weight_room = [0u32; 1000];
+    let mut label_room = [0u64; 201];
     let arcs = trip.network.sizes.m as usize;
     let places = trip.network.sizes.n as usize + 1;
-    let size = 3 * arcs + places + 1 + places;
-    list_in(
-        trip,
-        wanted,
-        &mut star[..size],
-        &mut weights[..arcs],
-        &mut overall[..places],
-        work,
-        rows,
-        costs,
-    )
+    let star = &mut star_room[..3 * arcs + places + 1 + places];
+    let weights = &mut weight_room[..arcs];
+    let labels = &mut label_room[..places];
+    let graph = trip.load(star, weights, labels);
+    if labels[trip.start as usize] == FAR {
+        return 0;
+    }
+    let query = Query {
+        graph,
+        labels,
+        start: trip.start as u16,
+        goal: trip.goal as usize,
+        slots: wanted as usize,
+    };
+    list_loaded(&query, work, rows, costs)
 }

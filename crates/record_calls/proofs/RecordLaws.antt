@@ -46,10 +46,6 @@ pub list_at : (l : List ℕ) (i : ℕ) → i < length l / 4 → get_or (record_l
 unfolding record_list
 list_at l i h = in_at (length l / 4) l i h
 
--- record i of a list of numbers
-abbrev pub record_at : List ℕ → ℕ → Record
-record_at l i = record_of (get_or l (4 * i) 0) (get_or l (4 * i + 1) 0) (get_or l (4 * i + 2) 0) (get_or l (4 * i + 3) 0)
-
 -- ---- rows, one record after another
 module _ (e m k : ℕ) (records : List Record) (i : ℕ) where
   records_step : i < length records → records_fault e m k i (drop i records) ≡ (record_fault e m k i (get_or records i blank) then records_fault e m k (i + 1) (drop (i + 1) records))
@@ -94,10 +90,6 @@ pub fit_at : {e m k : ℕ} {records : List Record} → AllFit e m k records → 
 fit_at no_more i h = absurd (omega arith)
 fit_at (one_more f all) zero h = f
 fit_at (one_more f all) (suc i) h = fit_at all i (omega arith)
-
--- record i of a list of numbers that passes
-pub fit_here : {e m k : ℕ} (l : List ℕ) → records_fault e m k 0 (record_list l) ≡ sound → (i : ℕ) → i < length l / 4 → Fits e m k (record_at l i)
-fit_here {e} {m} {k} l h i low = rw (list_at l i low) at (fit_at (all_fit e m k 0 (record_list l) h) i (omega (arith, length_list l)))
 
 -- ---- chunk after chunk
 -- chunk x is taken off the front of what is left from record i on: it is record i, and the chunks from i + 1 on are left

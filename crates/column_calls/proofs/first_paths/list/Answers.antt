@@ -1,27 +1,59 @@
--- `first_paths::list` lends parts of local arrays: the length of the star, and a place for each arc and for each node and one more. Assumes nothing.
-use mathlib.Core.Path.{sym}
-use Rattle.loading.proofs.DecodeLaws.{few_arcs}
+-- `first_paths::list`: a start whose label is the mark has no path; else the loaded column is what the ranking asks for. Assumes nothing.
+use native.Mathlib.Omega.{arith}
+use mathlib.Core.Path.{refl, sym, ◌∙◌, ap}
+use lib.ListN.{length}
+use Rattle.column_calls.specs.Slices.{ListedWork}
+use Rattle.column_calls.proofs.RankLaws.{slices_for, none_reached, some_reached, no_rows, no_costs, light_paths, column_count, column_rows, column_costs}
+use Rattle.outcomes.proofs.WorkLaws.{rank_problem}
+use Rattle.loading.proofs.DecodeLaws.{few_arcs, few_nodes}
 use Rattle.loading.proofs.RoomLaws.{places_fit, star_fits, local_room}
-use Rattle.column_calls.proofs.RankLaws.{slices_for}
 use Rattle.column_calls.proofs.first_paths.list.Goals as goal
 
-pub list_in-requires : goal.list_in-requires
-list_in-requires c = record { room = local_room c.args.trip.now.network.accepted; list_slices = slices_for c.args.trip.now.network.accepted.nodes_are c.requires }
+pub returns-then-labels-trip : goal.returns-then-labels-trip
+returns-then-labels-trip c =
+    let column_loaded = c.load-graph.ensures.loaded in
+    let e = none_reached c.args.trip.now.network.accepted.passes c.args.trip.now.in_column c.args.trip.now.ends column_loaded c.args.wanted c.if-labels-trip.true in
+    record { value = sym (ap length e); rows_after = sym (no_rows c.args.trip.now.network.image.now c.args.trip.now.column c.args.trip.now.start c.args.trip.now.goal c.args.wanted e c.args.rows.now); costs_after = sym (no_costs c.args.trip.now.network.image.now c.args.trip.now.column c.args.trip.now.start c.args.trip.now.goal c.args.wanted e c.args.costs.now); listed_work = ListedWork.unused refl refl }
+
+pub list_loaded-requires : goal.list_loaded-requires
+list_loaded-requires c =
+    let column_loaded = c.load-graph.ensures.loaded in
+    record { list_slices = slices_for (c.load-graph.ensures.nodes ∙ c.args.trip.now.network.accepted.nodes_are) c.requires; costs_fit = light_paths c.args.trip.now.network.accepted.passes c.args.trip.now.in_column c.args.trip.now.ends column_loaded }
+
+pub returns : goal.returns
+returns c =
+    let column_loaded = c.load-graph.ensures.loaded in
+    let L = column_loaded in
+    let n = (c.load-graph.ensures.nodes ∙ c.args.trip.now.network.accepted.nodes_are) in
+    let count = column_count c.args.trip.now.network.accepted.passes c.args.trip.now.in_column c.args.trip.now.ends L n c.args.wanted _ c.list_loaded.ensures.value in
+    let some = some_reached c.args.trip.now.network.accepted.passes c.args.trip.now.in_column c.args.trip.now.ends L c.requires.wanted_from c.if-labels-trip.false in
+    record { value = count; rows_after = column_rows c.args.trip.now.network.accepted.passes c.args.trip.now.in_column c.args.trip.now.ends L n c.args.wanted c.args.rows.now c.list_loaded.ensures.rows_after; costs_after = column_costs c.args.trip.now.network.accepted.passes c.args.trip.now.in_column c.args.trip.now.ends L n c.args.wanted c.args.costs.now c.list_loaded.ensures.costs_after; listed_work = ListedWork.emptied (omega (arith, count, some)) c.list_loaded.ensures.work_after }
+
+pub invariant_of-query : goal.invariant_of-query
+invariant_of-query c =
+    let column_loaded = c.load-graph.ensures.loaded in
+    record { posed = rank_problem c.args.trip.now.ends column_loaded (c.load-graph.ensures.nodes ∙ c.args.trip.now.network.accepted.nodes_are) }
+
+pub load-graph-requires : goal.load-graph-requires
+load-graph-requires c = local_room c.args.trip.now.network.accepted
+
+pub overflow_cast-query : goal.overflow_cast-query
+overflow_cast-query c = omega (arith, c.args.trip.now.ends.start_in, c.args.trip.now.network.accepted.nodes_are, few_nodes c.args.trip.now.network.accepted)
+
+pub slice_bounds-star_room-end : goal.slice_bounds-star_room-end
+slice_bounds-star_room-end c = star_fits c.args.trip.now.network.accepted
+
+pub slice_bounds-weight_room-end : goal.slice_bounds-weight_room-end
+slice_bounds-weight_room-end c = few_arcs c.args.trip.now.network.accepted
+
+pub slice_bounds-label_room-end : goal.slice_bounds-label_room-end
+slice_bounds-label_room-end c = places_fit c.args.trip.now.network.accepted
 
 pub slice_bounds-star-end : goal.slice_bounds-star-end
-slice_bounds-star-end c = star_fits c.args.trip.now.network.accepted
-
-pub slice_bounds-list_in-end : goal.slice_bounds-list_in-end
-slice_bounds-list_in-end c = sym (local_room c.args.trip.now.network.accepted).star_long
+slice_bounds-star-end c = sym (local_room c.args.trip.now.network.accepted).star_long
 
 pub slice_bounds-weights-end : goal.slice_bounds-weights-end
-slice_bounds-weights-end c = few_arcs c.args.trip.now.network.accepted
+slice_bounds-weights-end c = sym (local_room c.args.trip.now.network.accepted).weights_long
 
-pub slice_bounds-list_in-end-2 : goal.slice_bounds-list_in-end-2
-slice_bounds-list_in-end-2 c = sym (local_room c.args.trip.now.network.accepted).weights_long
-
-pub slice_bounds-overall-end : goal.slice_bounds-overall-end
-slice_bounds-overall-end c = places_fit c.args.trip.now.network.accepted
-
-pub slice_bounds-list_in-end-3 : goal.slice_bounds-list_in-end-3
-slice_bounds-list_in-end-3 c = sym (local_room c.args.trip.now.network.accepted).labels_long
+pub slice_bounds-labels-end : goal.slice_bounds-labels-end
+slice_bounds-labels-end c = sym (local_room c.args.trip.now.network.accepted).labels_long
