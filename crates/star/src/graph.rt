@@ -4,6 +4,7 @@
 ghost use Rattle.std.specs.Prelude.{ℕ};
 ghost use Rattle.star.specs.Layout.{Holds};
 
+use crate::arcs::arc_between;
 use std::ops::Range;
 
 // A graph of nodes 1 to `nodes`. `star` has its topology, and `weights` the costs of one column.
@@ -17,6 +18,7 @@ pub struct Graph<'a> {
 
 impl<'a> Graph<'a> {
     ghost use Rattle.std.specs.Prelude.{◌≡◌, ◌+◌, ◌≤◌, length};
+    ghost use Rattle.star.specs.Found.{ArcFound};
     ghost use Rattle.star.specs.Graphs.{tails, heads, next_in, first_out, first_in, out_start};
 
     // The tail of each arc.
@@ -75,5 +77,13 @@ impl<'a> Graph<'a> {
     {
         let first_out = self.first_out();
         first_out[v] as usize..first_out[v + 1] as usize
+    }
+
+    // The index of the arc from v to y, if there is one.
+    pub fn arc(&self, v: usize, y: u16) -> Option<u16>
+        requires { v ≤ self.now.nodes }
+        ensures { ArcFound (heads self.now) (first_out self.now) v y result }
+    {
+        arc_between(self.heads(), self.first_out(), v, y)
     }
 }
