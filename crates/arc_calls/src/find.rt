@@ -33,7 +33,7 @@ fn seek_arc(network: &Network<'_>, tail: u32, head: u32) -> Sought
     let heads = &mut head_room[..m];
     number_arcs(arcs);
     read_arcs(network, arcs, tails, heads);
-    find_arc(tails, heads, 0, arcs.len(), tail as usize, head as usize)
+    find_arc(tails, heads, 0..arcs.len(), (tail as usize, head as usize))
 }
 
 // REFERENCE, section 4.9.

@@ -7,6 +7,9 @@ use mathlib.Core.Bool.{Bool, true, false, ◌||◌}
 use mathlib.Core.Logic.{⊎_elim}
 use mathlib.Core.List.{List}
 use Rattle.std.specs.Prelude.{Option, Some, None}
+use Rattle.std.proofs.Common.{Ordering, Less, Equal, Greater}
+use Rattle.std.specs.Ordering.{ordering_then, nat_cmp}
+use Rattle.std.proofs.lemmas.Bool.Decides.{nat_tests}
 use lib.Dec.{ltb, eqb}
 use lib.ListN.{get_or}
 use borrow.Author.Tests.{ltb-true, eqb-true, eqb-false, lt-ltb, le-ltb, eq-eqb, ne_eqb}
@@ -171,15 +174,15 @@ module _ (ts hs : List ℕ) (x : ℕ × ℕ) where
 -- ---- the search on its way: `looks` were looked at, and `left` records from `first` on are left
 pub record Seeking (ts hs : List ℕ) (x : ℕ × ℕ) (from to first left looks : ℕ) : Type 0 where
   pub most : ℕ
-  pub within : first + left ≤ to
+  pub within : first + left ≤ to + (from - to)
   pub enough : left ≤ most
   pub spent : looks + most ≡ to - from
   pub goes_on : halve ts hs x most looks first left ≡ seek ts hs x from to
 
 module _ {ts hs : List ℕ} {x : ℕ × ℕ} {from to : ℕ} where
-  pub seeking : from < to → Seeking ts hs x from to from (to - from) 0
+  pub seeking : Seeking ts hs x from to from (to - from) 0
   unfolding seek
-  seeking h = record { most = to - from; within = omega arith; enough = omega arith; spent = omega arith; goes_on = refl }
+  seeking = record { most = to - from; within = omega arith; enough = omega arith; spent = omega arith; goes_on = refl }
 
   -- what is left goes on to the same
   spend : {f l looks : ℕ} → Seeking ts hs x from to f l looks → 0 < l → (most : ℕ) × ((l ≤ suc most) × (looks + suc most ≡ to - from) × (halve ts hs x (suc most) looks f l ≡ seek ts hs x from to))
@@ -204,7 +207,16 @@ module _ {ts hs : List ℕ} {x : ℕ × ℕ} {from to : ℕ} where
   pub seek_end : {f l looks : ℕ} → Seeking ts hs x from to f l looks → l ≤ 0 → (None, looks) ≡ seek ts hs x from to
   seek_end {f} {l} {looks} s h = let z : l ≡ 0 = omega arith in sym (halve_none ts hs x s.most looks f) ∙ (rw z at s.goes_on)
 
--- of no records None is looked at
-pub seek_none : (ts hs : List ℕ) (x : ℕ × ℕ) (from to : ℕ) → to ≤ from → (None, 0) ≡ seek ts hs x from to
-unfolding seek
-seek_none ts hs x from to h = let z : to - from ≡ 0 = omega arith in rw z (sym (halve_none ts hs x 0 0 from))
+-- ---- the order of two pairs, as it came out
+module _ (t h t' h' : ℕ) {o : Ordering} (compared : o ≡ ordering_then (nat_cmp t t') (nat_cmp h h')) where
+  pub equal_is : o ≡ Equal → is_arc (t, h) (t', h') ≡ true
+  unfolding is_arc
+  equal_is e = grind (arith, nat_tests, compared, e)
+
+  pub less_is : o ≡ Less → (is_arc (t, h) (t', h') ≡ false) × (below (t, h) (t', h') ≡ true)
+  unfolding is_arc below
+  less_is e = (grind (arith, nat_tests, compared, e), grind (arith, nat_tests, compared, e))
+
+  pub greater_is : o ≡ Greater → (is_arc (t, h) (t', h') ≡ false) × (below (t, h) (t', h') ≡ false)
+  unfolding is_arc below
+  greater_is e = (grind (arith, nat_tests, compared, e), grind (arith, nat_tests, compared, e))

@@ -1,5 +1,6 @@
 // The arcs into each node, chained from the last one to the first. A link is one more than an
-// arc's index, and 0 ends a chain.
+// arc's index, and 0 ends a chain: the links are numbers of the one slice that a graph lies in (fixed
+// memory), where an Option of each would take twice the room.
 ghost use Rattle.star.specs.Chains.{Chainable, Chains};
 
 // Chains the arcs: first_in[h] leads to the last arc into h, and next_in[i] to the last one before

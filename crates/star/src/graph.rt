@@ -7,7 +7,8 @@ ghost use Rattle.star.specs.Layout.{Holds};
 use crate::arcs::arc_between;
 use std::ops::Range;
 
-// A graph of nodes 1 to `nodes`. `star` has its topology, and `weights` the costs of one column.
+// A graph of nodes 1 to `nodes`. `star` has its topology, and `weights` the costs of one column. The five
+// lists of the topology lie in one slice, so that the caller makes one array (no heap, fixed memory) for them.
 #[derive(Clone, Copy)]
 pub struct Graph<'a> {
     pub nodes: usize,

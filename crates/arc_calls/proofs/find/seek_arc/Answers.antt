@@ -26,7 +26,7 @@ find_arc-requires c =
 pub returns : goal.returns
 returns c =
     let all : c.number_arcs.new.kept ≡ numbers 0 c.args.network.now.sizes.m = c.number_arcs.ensures ∙ ap (numbers 0) (part_long 1000 _ (few_arcs c.args.network.now.accepted)) in
-    sought_in c.args.network.now.accepted c.args.tail c.args.head all c.read_arcs.ensures.tails_after c.read_arcs.ensures.heads_after c.find_arc.ensures.result_value
+    sought_in c.args.network.now.accepted c.args.tail c.args.head all c.read_arcs.ensures.tails_after c.read_arcs.ensures.heads_after c.find_arc.ensures.by_halving
 
 pub slice_bounds-arc_room-end : goal.slice_bounds-arc_room-end
 slice_bounds-arc_room-end c = few_arcs c.args.network.now.accepted

@@ -3,7 +3,7 @@ use Rattle.star.proofs.SearchLaws.{Seeking}
 use Rattle.star.proofs.arcs.find_arc.Given as goal
 
 abbrev pub invariant-loop-left : goal.invariant-loop-left
-invariant-loop-left l = Seeking l.tails l.heads (l.tail, l.head) l.from l.to l.first l.left l.looks
+invariant-loop-left l = Seeking l.tails l.heads l.arc l.fn.range.start l.fn.range.end l.first l.left l.looks
 
 abbrev pub decreases-loop-left : goal.decreases-loop-left
 decreases-loop-left l = l.left
