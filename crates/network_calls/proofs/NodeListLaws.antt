@@ -21,11 +21,10 @@ use Rattle.terms.proofs.ListLaws.{split, and_both, outside_cons, cons_outside, k
 use Rattle.terms.proofs.PathLaws.{unseen, unseen_lt}
 use Rattle.star.specs.Arcs.{graph, Arcs}
 use Rattle.star.proofs.ArcLaws.{linked_at, at_linked}
-use Rattle.star.specs.Star.{Star}
 use Rattle.image.specs.Outcome.{sound}
 use Rattle.outcomes.specs.Calls.{list_row}
 use Rattle.loading.specs.Accepted.{Node}
-use Rattle.network_calls.specs.NodeLists.{Followed, GoesOn, FirstError}
+use Rattle.network_calls.specs.NodeLists.{GoesOn, FirstError}
 
 distinct_le : (n : ℕ) {p : List ℕ} → Loopless p → ((x : ℕ) → x ∈ p → Node n x) → length p + length (unseen n p) ≤ n
 unfolding unseen
@@ -66,6 +65,10 @@ module _ (g : Graph) (sn : List ℕ) (v t x : ℕ) (p : List ℕ) (i : ℕ) wher
   unfolding fault_after
   stops n = ⊎_elim (λ c. let k = and_both (linked g v x) (not (elem x sn)) c in absurd (n k.0 (not-true _ k.1))) (λ c. rw c) (split (linked g v x && not (elem x sn)))
 
+-- ---- the head of an arc is a node
+pub head_node : {n : ℕ} {ts hs ws : List ℕ} → Arcs n ts hs ws → {i y : ℕ} → (i < length hs) × (get_or hs i 0 ≡ y) → y ≤ n
+head_node arcs {i} k = omega (arith, k.1, arcs.head_to i (omega (arith, k.0, arcs.heads_long)))
+
 -- ---- where each node to position j goes on
 record Passed (n : ℕ) (g : Graph) (nodes : List ℕ) (j : ℕ) : Type 0 where
   -- the check comes to that of what follows position j
@@ -98,15 +101,6 @@ module _ {n : ℕ} {ts hs ws : List ℕ} (arcs : Arcs n ts hs ws) (nodes : List 
           distinct = fresh k.1 before.distinct;
           nodes_of = λ x m. ⊎_elim (λ e. let q : x ≡ get_or hs arc.0 0 = e ∙ sym arc.1.head_is in rw q (record { from = arcs.head_from arc.0 arc.1.below; upto = arcs.head_to arc.0 arc.1.below })) (before.nodes_of x) (Memᴰ.cases_cons m);
         }
-
--- ---- the arcs of a list can be looked for where it begins with a node
-pub followed : {n s : ℕ} {ts hs ws outs nodes : List ℕ} → Arcs n ts hs ws → Star n ts hs outs → Node n s → 1 ≤ length nodes → get_or nodes 0 0 ≡ s → Followed hs outs nodes
-followed arcs star node long begins = record {
-  within = λ v h. omega (arith, star.within v (omega (arith, star.long)), arcs.heads_long);
-  heads_in = λ i h. omega (arith, star.long, arcs.head_to i (omega (arith, arcs.heads_long)));
-  nonempty = long;
-  first_in = omega (arith, star.long, node.upto);
-}
 
 -- ---- row 14
 -- it does not apply, so there is no place

@@ -1,13 +1,6 @@
 -- The first error of a node list, found in decoded arrays. Assumes nothing.
-use Rattle.std.specs.Prelude.{ℕ, ◌+◌, ◌-◌, ◌≤◌, ◌<◌, ◌≡◌, List, length, get_or}
+use Rattle.std.specs.Prelude.{ℕ, ◌-◌, ◌≤◌, ◌<◌, ◌≡◌, List, length, get_or}
 use Rattle.star.specs.Arcs.{At}
-
--- a list whose arcs can be looked for: its first node, and each head of an arc, has a place in first, which holds indices of arcs
-pub record Followed (hs first nodes : List ℕ) : Type 0 where
-  pub within : (v : ℕ) → v < length first → get_or first v 0 ≤ length hs
-  pub heads_in : (i : ℕ) → i < length hs → get_or hs i 0 + 1 < length first
-  pub nonempty : 1 ≤ length nodes
-  pub first_in : get_or nodes 0 0 + 1 < length first
 
 -- the node at position i, after the first, does not repeat and has an arc from the node before
 pub record GoesOn (ts hs nodes : List ℕ) (i : ℕ) : Type 0 where

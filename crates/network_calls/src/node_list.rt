@@ -1,22 +1,24 @@
 // Node lists: whether one is a path, and where it fails.
-ghost use Rattle.std.specs.Prelude.{◌≡◌, List, ℕ, length};
+ghost use Rattle.std.specs.Prelude.{◌≡◌, ◌≤◌, length, get_or};
 ghost use Rattle.terms.specs.Regret.{fault};
 ghost use Rattle.image.specs.Refusals.{verdict};
-ghost use Rattle.star.specs.Star.{Star};
-ghost use Rattle.star.specs.Graphs.{arcs_of};
+ghost use Rattle.star.specs.Graphs.{arcs_of, tails, heads};
 ghost use Rattle.loading.specs.Accepted.{Node};
 ghost use Rattle.outcomes.specs.Calls.{list_row};
-ghost use Rattle.network_calls.specs.NodeLists.{Followed, FirstError};
+ghost use Rattle.network_calls.specs.NodeLists.{FirstError};
 
 use image::Refusal;
 use star::{Graph, arc_between};
 
 // The first position after the first whose node repeats or has no arc from the node before; the
 // length if there is none.
-fn first_error(heads: &[u16], first_out: &[u16], nodes: &[u16]) -> usize
-    requires { Followed heads.now first_out.now nodes.now }
-    ensures { (n : ℕ) (ts : List ℕ) → Star n ts heads.now first_out.now → FirstError ts heads.now nodes.now result }
+fn first_error(graph: &Graph<'_>, nodes: &[u16]) -> usize
+    requires some_node { 1 ≤ length nodes.now }
+    requires first_node { get_or nodes.now 0 0 ≤ graph.now.nodes }
+    ensures { FirstError (tails graph.now) (heads graph.now) nodes.now result }
 {
+    let heads = graph.heads();
+    let first_out = graph.first_out();
     for at in 1..nodes.len() {
         let found = arc_between(heads, first_out, nodes[at - 1] as usize, nodes[at]);
         let Some(_) = found else {
@@ -42,7 +44,7 @@ pub fn check_list(graph: &Graph<'_>, start: u32, goal: u32, nodes: &[u16]) -> Re
     if nodes[0] as u32 != start {
         return Err(Refusal::NotAPath(0));
     }
-    let at = first_error(graph.heads(), graph.first_out(), nodes);
+    let at = first_error(graph, nodes);
     if at < nodes.len() {
         return Err(Refusal::NotAPath(at as u32));
     }
