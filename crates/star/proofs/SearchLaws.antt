@@ -7,9 +7,6 @@ use mathlib.Core.Bool.{Bool, true, false, ◌||◌}
 use mathlib.Core.Logic.{⊎_elim}
 use mathlib.Core.List.{List}
 use Rattle.std.specs.Prelude.{Option, Some, None}
-use Rattle.std.proofs.Common.{Ordering, Less, Equal, Greater}
-use Rattle.std.specs.Ordering.{ordering_then, nat_cmp}
-use Rattle.std.proofs.lemmas.Bool.Decides.{nat_tests}
 use lib.Dec.{ltb, eqb}
 use lib.ListN.{get_or}
 use borrow.Author.Tests.{ltb-true, eqb-true, eqb-false, lt-ltb, le-ltb, eq-eqb, ne_eqb}
@@ -206,17 +203,3 @@ module _ {ts hs : List ℕ} {x : ℕ × ℕ} {from to : ℕ} where
 
   pub seek_end : {f l looks : ℕ} → Seeking ts hs x from to f l looks → l ≤ 0 → (None, looks) ≡ seek ts hs x from to
   seek_end {f} {l} {looks} s h = let z : l ≡ 0 = omega arith in sym (halve_none ts hs x s.most looks f) ∙ (rw z at s.goes_on)
-
--- ---- the order of two pairs, as it came out
-module _ (t h t' h' : ℕ) {o : Ordering} (compared : o ≡ ordering_then (nat_cmp t t') (nat_cmp h h')) where
-  pub equal_is : o ≡ Equal → is_arc (t, h) (t', h') ≡ true
-  unfolding is_arc
-  equal_is e = grind (arith, nat_tests, compared, e)
-
-  pub less_is : o ≡ Less → (is_arc (t, h) (t', h') ≡ false) × (below (t, h) (t', h') ≡ true)
-  unfolding is_arc below
-  less_is e = (grind (arith, nat_tests, compared, e), grind (arith, nat_tests, compared, e))
-
-  pub greater_is : o ≡ Greater → (is_arc (t, h) (t', h') ≡ false) × (below (t, h) (t', h') ≡ false)
-  unfolding is_arc below
-  greater_is e = (grind (arith, nat_tests, compared, e), grind (arith, nat_tests, compared, e))

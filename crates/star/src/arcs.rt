@@ -3,7 +3,6 @@ ghost use Rattle.std.specs.Prelude.{◌≡◌, ◌+◌, ◌≤◌, ◌<◌, leng
 ghost use Rattle.star.specs.Search.{seek, Finds};
 ghost use Rattle.star.specs.Found.{sought, ArcFound};
 
-use std::cmp::Ordering;
 use std::ops::Range;
 
 // What a search for an arc finds: the arc's index, if there is one; and at how many records it looked.
@@ -29,18 +28,19 @@ pub fn find_arc(tails: &[u16], heads: &[u16], range: Range<usize>, arc: (usize, 
         let before = (left - 1) / 2;
         let middle = first + before;
         looks += 1;
-        match (tails[middle] as usize, heads[middle] as usize).cmp(&arc) {
-            Ordering::Equal => {
-                return Sought {
-                    arc: Some(middle as u16),
-                    looks,
-                };
-            }
-            Ordering::Less => {
-                first = middle + 1;
-                left /= 2;
-            }
-            Ordering::Greater => left = before,
+        let record = (tails[middle] as usize, heads[middle] as usize);
+        // two tests: one `cmp` costs a quarter more in instructions
+        if record == arc {
+            return Sought {
+                arc: Some(middle as u16),
+                looks,
+            };
+        }
+        if record < arc {
+            first = middle + 1;
+            left /= 2;
+        } else {
+            left = before;
         }
     }
     Sought { arc: None, looks }
