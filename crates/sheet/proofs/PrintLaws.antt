@@ -5,7 +5,7 @@ use mathlib.Core.Path.{◌≡◌, sym, ◌∙◌, ap, subst}
 use mathlib.Core.Logic.{⊎_elim}
 use mathlib.Core.List.Memᴰ
 use mathlib.Core.List.{List, [], ◌∷◌, tail}
-use Rattle.std.specs.Prelude.{Option, Some, None, Result, Ok, Err}
+use Rattle.std.specs.Prelude.{Option, Some, None, Result, Ok, Err, IsErrAnd}
 use lib.ListN.{length, get_or, take, drop, length-append}
 use lib.Seq.{take_at, get_or-take}
 use borrow.Author.Tests.{lt-ltb, le-ltb}
@@ -18,6 +18,7 @@ use Rattle.terms.proofs.ListLaws.{get_or_mem}
 use Rattle.terms.proofs.PathLaws.{Within, of_path, at_most_nodes, column_within}
 use Rattle.terms.proofs.Demand3Laws.{demand_3}
 use Rattle.image.specs.Outcome.{Fault, sound, fault, row, ◌then◌, gives, outcome, after}
+use Rattle.image.specs.Refusals.{number_of, place_of}
 use Rattle.image.specs.Layout.{net_of}
 use Rattle.image.specs.Calls.{image_fault}
 use Rattle.image.proofs.OutcomeLaws.{gives_sound, refuses_fault, after_sound}
@@ -122,6 +123,11 @@ long_enough room h = rw (le-ltb room 1024 h)
 pub sheet_refused : (b : List ℕ) {number place : ℕ} → image_fault b ≡ fault number place → refused_line number place ≡ sheet b
 unfolding sheet sheet_of program_fault robust_fault robust_rows ranking_rows search_rows ◌then◌
 sheet_refused b e = rw e
+
+-- what is printed of a refusal that `?` hands on
+pub decided_refused : (r : Result Decision Refusal) (e : Refusal) (path : List ℕ) → IsErrAnd r (λ x. x ≡ e) → decided_text r path ≡ refused_line (number_of e) (place_of e)
+decided_refused (Ok x) e path h = absurd h
+decided_refused (Err x) e path h = ap (λ x. refused_line (number_of x) (place_of x)) h
 
 -- an image that is accepted: no slice is too short for it
 pub slices_suffice : (b : List ℕ) → image_fault b ≡ sound → (room_row 200 (net_of b).nodes ≡ sound) × (room_row 13848 (workspace (net_of b).nodes 48) ≡ sound)

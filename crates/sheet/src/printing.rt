@@ -49,21 +49,18 @@ fn write_answer(text: &mut [u8], path: &[u16], answer: Result<Decision, Refusal>
     }
 }
 
-// The sheet of an image, with slices for Robust.
-fn write_sheet(image: &[u8], text: &mut [u8], path: &mut [u16], work: &mut [u32]) -> usize
-    requires { (1024 ≤ length text.old) × (length path.old ≡ 200) × (length work.old ≡ 13848) }
-    ensures { Wrote text.old 0 (Sheet·sheet image.now) text.new result × (result ≤ 1024) }
+// Robust on an image as the sheet asks for it: column 1, start 1, goal n, K = 48.
+fn decide(image: &[u8], path: &mut [u16], work: &mut [u32]) -> Result<Decision, Refusal>
+    requires { (length path.old ≡ 200) × (length work.old ≡ 13848) }
+    ensures printable { Printable path.new (nodes_of result) }
+    ensures told { decided_text result path.new ≡ Sheet·sheet image.now }
 {
-    let sizes = match check(image) {
-        Ok(sizes) => sizes,
-        Err(row) => return write_refused(text, row),
-    };
-    let found = robust(image, 1, 1, sizes.n, 48, path, work);
-    write_answer(text, path, found)
+    let sizes = check(image)?;
+    robust(image, 1, 1, sizes.n, 48, path, work)
 }
 
-// REFERENCE, sections 7.1 and 7.5: column 1, start 1, goal n, K = 48. A sheet has at most
-// 1,024 bytes: a slice of so many places is long enough for every image.
+// REFERENCE, sections 7.1 and 7.5. A sheet has at most 1,024 bytes: a slice of so many places is long enough for
+// every image.
 pub fn sheet(image: &[u8], text: &mut [u8]) -> Result<u32, TooShort>
     ensures result_value { printed result ≡ sheet_outcome image.now (length text.old) }
     ensures text_after { text.new ≡ after (sheet_fault (length text.old)) (Sheet·sheet image.now) text.old }
@@ -73,5 +70,6 @@ pub fn sheet(image: &[u8], text: &mut [u8]) -> Result<u32, TooShort>
     }
     let mut path = [0u16; 200];
     let mut work = [0u32; 13848];
-    Ok(write_sheet(image, text, &mut path, &mut work) as u32)
+    let answer = decide(image, &mut path, &mut work);
+    Ok(write_answer(text, &path, answer) as u32)
 }

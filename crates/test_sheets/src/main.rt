@@ -5,8 +5,7 @@
 // from the library.
 #![tactic(auto)]
 
-ghost use Rattle.std.specs.Prelude.{◌≤◌, length, IfOk};
-
+use arrayvec::ArrayVec;
 use sheet::sheet;
 use std::fs::File;
 use std::io;
@@ -46,44 +45,19 @@ fn print_answer(rt: &impl Print, image: &[u8], text: &mut [u8]) -> io::Result<()
     print_text(rt, text, length as usize)
 }
 
-// Fills the places from the first on, until none is left or the file ends; says how many are filled. vihrolom has the same
-// function: std has none for a slice, and the crates below both read no input.
-fn read_full(file: &mut impl Read, places: &mut [u8]) -> io::Result<usize>
-    ensures { IfOk result (λ n. n ≤ length places.old) }
-{
-    let mut filled = 0;
-    while filled < places.len() {
-        let count = file.read(&mut places[filled..])?;
-        if count == 0 {
-            return Ok(filled);
-        }
-        filled += count;
-    }
-    Ok(filled)
-}
-
-// Prints the sheet of a file, by way of slices for the image and for the text.
-fn print_file(
-    rt: &(impl Files + Print),
-    name: &str,
-    image: &mut [u8],
-    text: &mut [u8],
-) -> io::Result<()> {
-    let mut file = File::open(rt, name)?;
-    let length = read_full(&mut file, image)?;
-    print_answer(rt, &image[..length], text)
-}
-
-// Prints the title and the sheet of a file, with so many places for the text: at most
-// `TEXT_PLACES`.
+// Prints the title and the sheet of a file, with so many places for the text: at most `TEXT_PLACES`.
 fn print_in(rt: &(impl Files + Print), name: &str, places: usize) -> io::Result<()> {
-    let mut image = [0u8; IMAGE_PLACES];
+    let mut image: ArrayVec<u8, IMAGE_PLACES> = ArrayVec::new();
     let mut text = [u8::PATTERN; TEXT_PLACES];
     print_title(rt, name, places)?;
-    if TEXT_PLACES < places {
+    let Some(text) = text.get_mut(..places) else {
         return Ok(());
-    }
-    print_file(rt, name, &mut image, &mut text[0..places])
+    };
+    io::copy(
+        &mut File::open(rt, name)?.take(IMAGE_PLACES as u64),
+        &mut image,
+    )?;
+    print_answer(rt, image.as_slice(), text)
 }
 
 fn print(rt: &(impl Files + Print), name: &str) -> io::Result<()> {
