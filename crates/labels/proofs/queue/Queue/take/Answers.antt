@@ -12,7 +12,7 @@ pub returns-then-count-eq0 : goal.returns-then-count-eq0
 returns-then-count-eq0 c = record { node = tt; none = rw c.self.view_is at (flagged_zero (take c.self.inside.nodes c.self.inside.dirty) (sym c.self.invariant.1.counted ∙ c.if-count-eq0.true)) }
 
 pub pick-at-requires : goal.pick-at-requires
-pick-at-requires c = record { first_bound = (c.self.invariant.1.start, omega arith, count_le c.self.invariant.1); ring = rw (c.self.view_is, c.requires) at c.self.invariant.1.nodes }
+pick-at-requires c = record { ends = (c.self.invariant.1.start, omega arith, count_le c.self.invariant.1); ring = rw (c.self.view_is, c.requires) at c.self.invariant.1.nodes }
 
 pub invariant_of-self : goal.invariant_of-self
 invariant_of-self c =
