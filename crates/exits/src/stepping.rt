@@ -83,8 +83,7 @@ fn keeps(y: usize, w: u32, labels: &[u64], used: &[bool], want: u64) -> bool
     requires used_long { length used.now ≡ length labels.now }
     ensures { IsTrue result ↔ Keeps labels.now used.now y w want }
 {
-    let rest = labels[y];
-    rest <= want && want - rest == w as u64 && !used[y]
+    want.checked_sub(labels[y]) == Some(u64::from(w)) && !used[y]
 }
 
 // The smallest unused node to which an arc goes from x so that weight and label make up the label of x.

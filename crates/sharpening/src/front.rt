@@ -7,10 +7,11 @@ use labels::FAR;
 use std::marker::Model;
 
 // In a contract it is the nodes that were taken, how many were met, and how many places nodes have. The
-// arrays are lent: one that is made here would be copied out.
+// arrays are lent: arrays of its own, of 201 places (no heap, fixed memory), would want a field beside `met`
+// and `taken` for the places that count, which the length of the slices tells.
 #[derive(Drop)]
 pub struct Front<'a> {
-    // FAR for a node that was not met
+    // FAR for a node that was not met, so that one comparison serves both cases
     keys: &'a mut [u64],
     // the nodes met, those taken before the others
     nodes: &'a mut [u16],
@@ -69,7 +70,8 @@ impl<'a> Front<'a> {
     }
 
     // The place of a node with the least key among those met and not taken: the first, if its key is
-    // `floor`, than which none is less.
+    // `floor`, than which none is less. By hand: `min_by_key` over the places takes 1 to 2 in 100 instructions
+    // more, an iterator over the nodes 3.
     pub fn pick(&self, floor: u64) -> Option<usize>
         ensures { IfSome result (Picked self.now) }
     {
@@ -99,11 +101,8 @@ impl<'a> Front<'a> {
         ensures places { self.new.places ≡ self.old.places }
         ensures one_more { length self.new.taken ≡ length self.old.taken + 1 }
     {
-        let taken = self.taken;
-        let node = self.nodes[at];
-        self.nodes[at] = self.nodes[taken];
-        self.nodes[taken] = node;
-        self.taken = taken + 1;
+        self.nodes.swap(at, self.taken);
+        self.taken += 1;
     }
 
     // Notes that y has that key, if it had none or a greater one. A node that is met then is listed; if

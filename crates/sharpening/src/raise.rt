@@ -1,7 +1,6 @@
 // Labels raised by what a search found, and mended so that they are consistent.
-ghost use Rattle.std.specs.Prelude.{◌≡◌, true, List, ℕ, ◌+◌, ◌≤◌, ◌<◌, length, get_or, false};
+ghost use Rattle.std.specs.Prelude.{◌≡◌, true, List, ℕ, ◌+◌, ◌≤◌, ◌<◌, length, get_or, false, IfSome};
 ghost use Rattle.terms.specs.Lists.{elem};
-ghost use Rattle.labels.specs.Labels.{far};
 ghost use Rattle.star.specs.Graphs.{arcs_of};
 ghost use Rattle.exits.specs.Small.{Small, longest};
 ghost use Rattle.exits.specs.Walks.{Consistent};
@@ -13,29 +12,30 @@ use exits::least_exit;
 use labels::FAR;
 use star::Graph;
 
-// Raises the label of x by what its key falls short of `level`, or to FAR if level is.
-fn lift(x: usize, level: u64, front: &Front<'_>, labels: &mut [u64])
+// Raises the label of x by what its key falls short of `level`, or to FAR if there is none.
+fn lift(x: usize, level: Option<u64>, front: &Front<'_>, labels: &mut [u64])
     requires small { Small front.now.places labels.old }
     requires node { x < front.now.places }
-    requires level { level < far → level ≤ longest }
+    requires level { IfSome level (λ cost. cost ≤ longest) }
     ensures still_small { Small front.now.places labels.new }
     ensures raises { Raises x labels.old labels.new }
 {
-    let old = labels[x];
-    if level == FAR {
+    let Some(level) = level else {
         labels[x] = FAR;
         return;
-    }
-    let key = front.key(x);
-    if key <= level && old <= LONGEST - (level - key) {
-        labels[x] = old + (level - key);
+    };
+    let old = labels[x];
+    if let Some(more) = level.checked_sub(front.key(x))
+        && old <= LONGEST - more
+    {
+        labels[x] = old + more;
     }
 }
 
 // The same for each node that was taken but the goal.
-pub fn lift_all(front: &Front<'_>, goal: usize, level: u64, labels: &mut [u64])
+pub fn lift_all(front: &Front<'_>, goal: usize, level: Option<u64>, labels: &mut [u64])
     requires small { Small front.now.places labels.old }
-    requires level { level < far → level ≤ longest }
+    requires level { IfSome level (λ cost. cost ≤ longest) }
     ensures still_small { Small front.now.places labels.new }
     ensures lifted { Lifted goal front.now.taken (length front.now.taken) labels.old labels.new }
 {
@@ -47,7 +47,8 @@ pub fn lift_all(front: &Front<'_>, goal: usize, level: u64, labels: &mut [u64])
     }
 }
 
-// Raises the label of x to the least weight and label over its exits, if it is not above that.
+// Raises the label of x to the least weight and label over its exits. Says whether it fits then: not if it
+// was above that.
 fn mend(graph: &Graph<'_>, x: usize, used: &[bool], labels: &mut [u64]) -> bool
     requires used_long { length used.now ≡ graph.now.nodes + 1 }
     requires small { Small (length used.now) labels.old }

@@ -1,6 +1,5 @@
 // The search: it takes nodes outwards from the end of a branch's beginning, and says how far it went.
-ghost use Rattle.std.specs.Prelude.{◌≡◌, ◌+◌, ◌≤◌, ◌<◌, length};
-ghost use Rattle.labels.specs.Labels.{far};
+ghost use Rattle.std.specs.Prelude.{◌≡◌, ◌+◌, ◌≤◌, ◌<◌, length, IfSome};
 ghost use Rattle.exits.specs.Small.{Small, longest};
 ghost use Rattle.sharpening.specs.Sharp.{Same};
 
@@ -36,11 +35,11 @@ fn reach(y: usize, l: u64, own: u64, hub: Hub, front: &mut Front<'_>)
     requires room { hub.key + hub.room ≤ longest }
     ensures { Same front.old front.new }
 {
-    if l < own || hub.room < l - own {
-        return;
+    if let Some(more) = l.checked_sub(own)
+        && more <= hub.room
+    {
+        front.note(y, hub.key + more, more == 0);
     }
-    let more = l - own;
-    front.note(y, hub.key + more, more == 0);
 }
 
 // Follows each arc from the hub to a node that is neither used nor barred.
@@ -91,12 +90,10 @@ fn leads(
     requires places { front.now.places ≡ length overall.now }
 {
     let mut at = x;
-    let mut left = most;
-    while at != goal {
-        if left == 0 {
-            return false;
+    for _ in 0..most {
+        if at == goal {
+            return true;
         }
-        left -= 1;
         let Some(y) = tight_exit(graph, at, overall, used) else {
             return false;
         };
@@ -105,26 +102,30 @@ fn leads(
             return false;
         }
     }
-    true
+    at == goal
 }
 
-// How many steps that walk may have: none from the first node, where it was tried before, nor from one
-// that has the key of the last node taken, because it goes on from there; else any number.
-fn steps_allowed(none_taken: bool, floor: u64, key: u64, nodes: usize) -> usize {
-    if none_taken || key <= floor { 0 } else { nodes }
+// How many steps that walk may have, where `last` is the key of the last node taken: none from the first
+// node, where it was tried before, nor from one that has that key, because it goes on from there; else any
+// number.
+fn steps_allowed(last: Option<u64>, key: u64, nodes: usize) -> usize {
+    match last {
+        Some(last) if last < key => nodes,
+        _ => 0,
+    }
 }
 
-// What a path costs at least if none was found that costs `most` at the most.
-fn beyond(most: u64) -> u64
+// What a path costs at least if none was found that costs `most` at the most: None if any would do.
+fn beyond(most: u64) -> Option<u64>
     requires { most ≤ longest }
-    ensures { result < far → result ≤ longest }
+    ensures { IfSome result (λ cost. cost ≤ longest) }
 {
-    if most < LONGEST { most + 1 } else { FAR }
+    (most < LONGEST).then_some(most + 1)
 }
 
 // Takes node after node, by its key, and follows its arcs, until it comes to the goal, or a walk along
 // the labels leads there, or all keys are above `most`. Returns what a path costs at least: the key with
-// which it came to the goal, or one more than the most, or FAR if any path would do.
+// which it came to the goal, or one more than the most; None if there was none, and any path would do.
 fn search(
     graph: &Graph<'_>,
     goal: usize,
@@ -132,28 +133,29 @@ fn search(
     used: &[bool],
     front: &mut Front<'_>,
     most: u64,
-) -> u64
+) -> Option<u64>
     requires overall_long { length overall.now ≡ graph.now.nodes + 1 }
     requires small { Small (length overall.now) overall.now }
     requires used_long { length used.now ≡ length overall.now }
     requires most { most ≤ longest }
     requires places { front.old.places ≡ length overall.now }
     ensures places { front.new.places ≡ front.old.places }
-    ensures level { result < far → result ≤ longest }
+    ensures level { IfSome result (λ cost. cost ≤ longest) }
 {
-    let mut floor = 0;
-    while let Some(at) = front.pick(floor) {
+    // the key of the last node taken
+    let mut last = None;
+    while let Some(at) = front.pick(last.unwrap_or(0)) {
         let node = front.node(at);
         let key = front.key(node);
         if most < key {
             return beyond(most);
         }
-        let steps = steps_allowed(front.taken().is_empty(), floor, key, used.len());
+        let steps = steps_allowed(last, key, used.len());
         if leads(graph, goal, overall, used, front, node, key, steps) {
-            return key;
+            return Some(key);
         }
         front.take(at);
-        floor = key;
+        last = Some(key);
         let hub = Hub {
             node,
             key,
@@ -172,7 +174,7 @@ pub fn search_from(
     used: &[bool],
     barred: &[bool],
     front: &mut Front<'_>,
-) -> u64
+) -> Option<u64>
     requires overall_long { length overall.now ≡ graph.now.nodes + 1 }
     requires small { Small (length overall.now) overall.now }
     requires from { quest.from < length overall.now }
@@ -181,7 +183,7 @@ pub fn search_from(
     requires barred_long { length barred.now ≡ length overall.now }
     requires places { front.old.places ≡ length overall.now }
     ensures places { front.new.places ≡ front.old.places }
-    ensures level { result < far → result ≤ longest }
+    ensures level { IfSome result (λ cost. cost ≤ longest) }
 {
     let most = quest.most;
     let key = overall[quest.from];
