@@ -1,5 +1,7 @@
 // The calls that read all columns of an image: Regret, the greatest regret of a given path, and Robust, the
 // path whose greatest regret is least. None asks anything of its caller.
+// That start and goal are two nodes stays a clause here, where column_calls has its Trip: Search and a week hold
+// them in structs of their own, and would make another one only to hand them on.
 #![tactic(auto)]
 
 mod chosen;
