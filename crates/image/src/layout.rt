@@ -1,4 +1,6 @@
-// Where the parts of an image with m arcs and k columns lie.
+// Where the parts of an image with m arcs and k columns lie. That m and k are small is asked of each function: Check has
+// them from an image that is not accepted yet, Build from its caller, and a struct of the two would be taken apart by
+// each, as the definitions speak of m and k. Of an accepted image it is in a type, `loading::Network`.
 ghost use Rattle.std.specs.Prelude.{◌≡◌, ◌*◌, ◌≤◌};
 ghost use Rattle.image.specs.Layout.{costs_start, total};
 

@@ -9,7 +9,7 @@ pub fn read_words<W: Word>(source: &[u8], count: usize, words: &mut [W])
     requires { (W.BYTES * count ≤ length source.now) × (count ≤ length words.old) }
     ensures { map W.value words.new ≡ decode W.BYTES count source.now ++ drop count (map W.value words.old) }
 {
-    for i in 0..count {
-        words[i] = W::read(source, W::BYTES * i);
+    for (i, word) in words[..count].iter_mut().enumerate() {
+        *word = W::read(source, W::BYTES * i);
     }
 }

@@ -58,7 +58,8 @@ impl Refusal {
         }
     }
 
-    // The place that it names, or 0.
+    // The place that it names, or 0: a number, since the C interface and the sheet give one for each refusal (REFERENCE,
+    // section 6.2, and docs/DECISIONS.md); whether it names one is told by the variant.
     pub fn place(self) -> u32
         ensures { result ≡ place_of self }
     {

@@ -10,7 +10,7 @@ use super::refusal::Refusal;
 pub fn is_taken(latest: u32, edition: u32) -> bool
     ensures { result ≡ (leb 1 edition && leb edition latest) }
 {
-    1 <= edition && edition <= latest
+    (1..=latest).contains(&edition)
 }
 
 // Whether n, m and k are in their ranges: row 3.
@@ -60,7 +60,9 @@ fn check_arc(n: u32, last: (u32, u32), index: u32, arc: (u32, u32)) -> Result<()
     Ok(())
 }
 
-// Rows 6 to 8, over `count` arcs, each of which `arc` gives.
+// Rows 6 to 8, over `count` arcs, each of which `arc` gives. Check has them in bytes and Build in a list of nodes, so
+// both are asked for arc i, as for cost i below: an iterator is no plainer, since its contract speaks of a run and of
+// what is left of it, where here one clause says what stands at i.
 pub fn check_arcs<F: Fn(usize) -> (u32, u32)>(n: u32, count: usize, arc: F) -> Result<(), Refusal>
     requires small { count ≤ 1000 }
     requires callable { (i : ℕ) → i < count → F.pre arc i }
@@ -75,7 +77,7 @@ pub fn check_arcs<F: Fn(usize) -> (u32, u32)>(n: u32, count: usize, arc: F) -> R
     Ok(())
 }
 
-// In the place of a cost: the arc is closed in that column.
+// In the place of a cost: the arc is closed in that column. A number, since it stands so in the bytes of an image.
 pub const CLOSED: u32 = 4294967295;
 
 // Whether a number may stand as a cost in an image of this edition: row 9.
