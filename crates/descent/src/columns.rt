@@ -1,4 +1,6 @@
 // A network in arrays: its arcs, and what its columns say of one arc, and of a completed path.
+// That sums are low is asked of each function, and stands in no type: how low goes by the depth of the route, which
+// `lengthen` raises by one (Low d gives Low (d + 1)), so a type of low sums would have the depth beside them.
 ghost use Rattle.std.specs.Prelude.{◌≡◌, map, ◌-◌, ◌≤◌, ◌<◌, length, get_or};
 ghost use Rattle.terms.specs.Lists.{largest, numbers};
 ghost use Rattle.labels.specs.Labels.{far};
@@ -20,7 +22,8 @@ fn drops_in(cost: u32, label: u64, best: u64, sum: u64, figure: u64) -> bool
 
 // The star has all arcs of a network, open or not. The costs of its columns, marks included, and the labels to
 // the goal stand one column after the other: a cost for each arc, a label for each node and one place that is
-// not used. bests has the best of each column.
+// not used. bests has the best of each column. No `measuring::Columns`: that holds no mark of a closed arc, its costs are
+// weights, and here each closed arc keeps its place, since the search counts by the arcs of the image.
 #[derive(Clone, Copy)]
 pub struct Columns<'a> {
     pub arcs: usize,
@@ -38,7 +41,8 @@ impl Columns<'_> {
         requires { (i < self.now.arcs) × (h < self.now.places) × Low 200 sums.now }
         ensures { Drops self.now.arcs self.now.places i h self.now.costs.now self.now.labels.now self.now.bests.now sums.now figure result }
     {
-        // read once: in the loop each column would read the slices' addresses anew
+        // read once: in the loop each column would read the slices' addresses anew. And by u, in this the hottest loop of
+        // Search: an arc's cost and its head's label stand a stride apart, so `any` would ask the same of a closure by u
         let (costs, labels, bests) = (self.costs, self.labels, self.bests);
         for u in 0..bests.len() {
             let cost = costs[u * self.arcs + i];
@@ -56,6 +60,7 @@ impl Columns<'_> {
         ensures { Lengthened self.now.arcs i (length self.now.bests.now) self.now.costs.now sums.now result }
     {
         let mut longer = *sums;
+        // by u: what the arc costs in the columns stands `arcs` places apart, so each form asks for u
         for u in 0..self.bests.len() {
             longer[u] += u64::from(self.costs[u * self.arcs + i]);
         }
@@ -67,8 +72,8 @@ impl Columns<'_> {
         ensures { result ≡ largest (map (λ u. get_or sums.now (u - 1) 0 - get_or self.now.bests.now (u - 1) 0) (numbers 1 (length self.now.bests.now))) }
     {
         let mut figure: u64 = 0;
-        for u in 0..self.bests.len() {
-            figure = figure.max(sums[u].saturating_sub(self.bests[u]));
+        for (&sum, &best) in sums.iter().zip(self.bests) {
+            figure = figure.max(sum.saturating_sub(best));
         }
         figure
     }

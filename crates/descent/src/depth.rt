@@ -1,4 +1,5 @@
-// The search, depth first.
+// The search, depth first. That route, flags and path have a place for each node is asked of each function (Begun): a
+// struct over lent &mut slices is lent on whole at each step, and its contracts would still say of each what is kept.
 ghost use Rattle.std.specs.Prelude.{◌≡◌, List, map, ℕ, ◌+◌, ◌-◌, ◌≤◌, ◌<◌, length, get_or, take};
 ghost use Rattle.terms.specs.Lists.{largest, numbers};
 ghost use Rattle.terms.specs.Network.{Net};
@@ -29,7 +30,8 @@ struct Partial {
 
 // What is held besides the best path: its length, 0 if there is none yet, its figure, then FAR, and the
 // number of arcs tried. FAR is above each figure, so that one comparison serves for every arc and every
-// completed path, before the first is found and after; an Option would be opened at each.
+// completed path, before the first is found and after; an Option would be opened at each. `search` gives it as it is,
+// since the number of arcs tried belongs to the answer with and without a path.
 #[derive(Clone, Copy)]
 pub struct Held {
     pub length: usize,
@@ -59,7 +61,7 @@ fn complete(
         return Held {
             length: partial.depth,
             figure,
-            tried: held.tried,
+            ..held
         };
     }
     held
@@ -91,9 +93,8 @@ fn try_arc(
         return Err(Cut);
     }
     let more = Held {
-        length: held.length,
-        figure: held.figure,
         tried: held.tried + 1,
+        ..held
     };
     if columns.drops(i, h, &partial.sums, held.figure) {
         return Ok(more);
