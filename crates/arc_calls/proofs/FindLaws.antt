@@ -1,8 +1,8 @@
 -- The search among all records of an accepted image, which rise. Assumes nothing.
 use Prim.Native.Nat.{ℕ}
 use native.Mathlib.Omega.{arith}
-use mathlib.Core.Path.{◌≡◌, sym, ◌∙◌, ap, ap₂}
-use mathlib.Core.List.{List, [], ◌∷◌}
+use mathlib.Core.Path.{◌≡◌, refl, sym, ◌∙◌, ap, ap₂}
+use mathlib.Core.List.{List}
 use lib.ListN.{length, length-map, get_or-map}
 use Rattle.terms.specs.Lists.{numbers}
 use Rattle.terms.proofs.ListLaws.{length_numbers}
@@ -16,7 +16,8 @@ use Rattle.image.proofs.NetworkLaws.{accepted_network}
 use Rattle.star.specs.Search.{Sought, seek, Among, Rising}
 use Rattle.star.specs.Found.{sought}
 use Rattle.star.specs.declared.arcs.Sought as found
-use Rattle.std.specs.Prelude.{Option, Some, None}
+use Rattle.std.specs.Prelude.{Option, Some, None, MatchOption, IsSomeAnd}
+use Rattle.arc_calls.specs.Answers.{sought_list}
 use Rattle.star.proofs.SearchLaws.{below_of, seek_finds}
 use Rattle.loading.specs.Accepted.{Accepted}
 use Rattle.loading.specs.Selected.{selected}
@@ -69,15 +70,22 @@ sought_in {b} {z} a tail head {ks} all e f r =
     r ∙ ap₂ (λ (t h : List ℕ). seek t h (tail, head) 0 (length ks)) (e ∙ ap (λ x. tails x.arcs) same) (f ∙ ap (λ x. heads x.arcs) same) ∙ ap (λ (m : ℕ). seek (tails (net_of b).arcs) (heads (net_of b).arcs) (tail, head) 0 m) long
 
 -- ---- Find's values
+-- what `map` gives with a function that keeps the number
+pub mapped : (o r : Option ℕ) {P : ℕ → ℕ → Type 0} → ((x y : ℕ) → P x y → y ≡ x) → MatchOption o (r ≡ None) (λ x. IsSomeAnd r (P x)) → r ≡ o
+mapped None r same h = h
+mapped (Some x) None same h = absurd h
+mapped (Some x) (Some y) same h = ap Some (same x y h)
+
 module _ (b : List ℕ) (tail head : ℕ) {s : found.Sought} (ok : image_fault b ≡ sound) (e : sought s ≡ find_of b tail head) where
   values : gives (find_values (sought s)) ≡ find_outcome b tail head
   unfolding find_outcome
   values = ap (λ (r : Sought). gives (find_values r)) e ∙ sym (outcome_sound _ ok)
 
-  pub found_values : {index : ℕ} → s.arc ≡ Some index → gives (1 ∷ index ∷ s.looks ∷ []) ≡ find_outcome b tail head
+  -- the values, with the index that a `map` has taken over
+  pub taken_values : {o : Option ℕ} → o ≡ s.arc → gives (sought_list o s.looks) ≡ find_outcome b tail head
   unfolding find_values
-  found_values t = ap (λ (o : Option ℕ). gives (find_values (o, s.looks))) (sym t) ∙ values
-
-  pub none_values : s.arc ≡ None → gives (0 ∷ 0 ∷ s.looks ∷ []) ≡ find_outcome b tail head
-  unfolding find_values
-  none_values t = ap (λ (o : Option ℕ). gives (find_values (o, s.looks))) (sym t) ∙ values
+  taken_values {o = o} e = listed o ∙ ap (λ (o : Option ℕ). gives (find_values (o, s.looks))) e ∙ values
+    where
+      listed : (o : Option ℕ) → gives (sought_list o s.looks) ≡ gives (find_values (o, s.looks))
+      listed None = refl
+      listed (Some index) = refl

@@ -44,14 +44,8 @@ pub fn find(image: &[u8], tail: u32, head: u32) -> Result<Found, Refusal>
     let sizes = check(image)?;
     let network = Network { image, sizes };
     let sought = seek_arc(&network, tail, head);
-    match sought.arc {
-        Some(index) => Ok(Found {
-            index: Some(index as u32),
-            looks: sought.looks,
-        }),
-        None => Ok(Found {
-            index: None,
-            looks: sought.looks,
-        }),
-    }
+    Ok(Found {
+        index: sought.arc.map(|index| index as u32),
+        looks: sought.looks,
+    })
 }

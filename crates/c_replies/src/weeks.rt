@@ -6,7 +6,8 @@ ghost use Rattle.c_replies.specs.Replies.{week_numbers, week_reply_of};
 use week_calls::{Week, Weekly};
 
 // refusal is 0 for a result, and roads is then how many roads the map closes; it is else the number of the
-// refusal, place is its place, and roads is 0. The state is the one that the call gives.
+// refusal, place is its place, and roads is 0. The state is the one that the call gives. C has no enum with values:
+// the number stands beside them.
 #[repr(C)]
 #[derive(Clone, Copy)]
 pub struct WeekReply {

@@ -77,7 +77,7 @@ fn write_records(image: &mut [u8], sizes: Sizes, records: &[u32])
 }
 
 // The image's own rows, and among them row 4 for the length of the list, which is due only if no row up to 4 of
-// the image is.
+// the image is. Refusals are compared by their rows' numbers: by their own order their places would count too.
 fn check_both(image: &[u8], records: &[u32]) -> Result<Sizes, Refusal>
     ensures answer { answer size_list result ≡ outcome (both_fault image.now records.now) (sizes image.now) }
     ensures bytes { AllBytes image.now }

@@ -5,7 +5,7 @@ use Rattle.image.proofs.OutcomeLaws.{outcome_fault}
 use Rattle.image.proofs.CheckLaws.{accepted, rejected}
 use Rattle.loading.proofs.DecodeLaws.{accepted_of}
 use Rattle.arc_calls.specs.Calls.{find_outcome}
-use Rattle.arc_calls.proofs.FindLaws.{finds_arc, found_values, none_values}
+use Rattle.arc_calls.proofs.FindLaws.{finds_arc, mapped, taken_values}
 use Rattle.arc_calls.proofs.find.find.Goals as goal
 
 pub returns-in_err-sizes : goal.returns-in_err-sizes
@@ -18,10 +18,6 @@ invariant_of-network c =
     let g = accepted _ c.in_ok-sizes.ensures in
     record { accepted = accepted_of g.0 g.1 }
 
-pub returns-in-Some : goal.returns-in-Some
-returns-in-Some c =
-    record { result_value = found_values _ _ _ (accepted _ c.in_ok-sizes.ensures).0 c.seek_arc-sought.ensures c.in-Some.is; finds_arc = finds_arc _ _ _ }
-
-pub returns-in-None : goal.returns-in-None
-returns-in-None c =
-    record { result_value = none_values _ _ _ (accepted _ c.in_ok-sizes.ensures).0 c.seek_arc-sought.ensures c.in-None.is; finds_arc = finds_arc _ _ _ }
+pub returns : goal.returns
+returns c =
+    record { result_value = taken_values _ _ _ (accepted _ c.in_ok-sizes.ensures).0 c.seek_arc-sought.ensures (mapped _ _ (λ x y l. l.said-raw.1.1) c.map.ensures.cases); finds_arc = finds_arc _ _ _ }
