@@ -6,7 +6,9 @@ use native.Mathlib.Decide.{ℕ_discrete}
 use mathlib.Core.Path.{◌≡◌, refl, sym, ◌∙◌, ap}
 use mathlib.Core.Bool.{Bool, true, false}
 use mathlib.Core.Logic.{◌⊎◌, inl, inr, ⊎_elim}
-use mathlib.Core.List.{List}
+use mathlib.Core.List.{List, [], ◌∷◌}
+use Rattle.std.specs.List.{push}
+use Rattle.std.proofs.lemmas.List.{length_push, get_or_append_left, get_or_push}
 use lib.ListN.{length, get_or, set, take, replicate, length-replicate, get_or-eq_default}
 use lib.Seq.{get_or-set_same, get_or-set_other, get_or-take, length-take-le}
 use Rattle.terms.specs.Lists.{elem}
@@ -81,6 +83,23 @@ lifted_more {t} {i} {x} {nodes} {os} {ls} {ls'} e n r l = record {
     by_case : (z : ℕ) → Dec (z ≡ x) → (get_or ls' z 0 ≡ get_or os z 0) ⊎ Among nodes (i + 1) z
     by_case z (yes h) = inr (record { place = i; before = omega arith; is = e ∙ sym h })
     by_case z (no m) = ⊎_elim (λ h. inl (r.others z m ∙ h)) (λ a. inr (among_more (omega arith) a)) (l.each z)
+
+-- ---- of the nodes that are left, which are a beginning of all, the last is taken
+pub record Begins (left nodes : List ℕ) : Type 0 where
+  pub same : (j : ℕ) → j < length left → get_or nodes j 0 ≡ get_or left j 0
+
+pub begins_all : (nodes : List ℕ) → Begins nodes nodes
+begins_all nodes = record { same = λ j h. refl }
+
+module _ (left rest nodes : List ℕ) (x : ℕ) (split : left ≡ push rest x) where
+  pub one_less : length left ≡ length rest + 1
+  one_less = rw split (length_push rest x)
+
+  pub begins_rest : Begins left nodes → Begins rest nodes
+  begins_rest b = record { same = λ j h. b.same j (omega (arith, one_less)) ∙ (rw split (get_or_append_left rest (x ∷ []) 0 j h)) }
+
+  pub last_is : Begins left nodes → get_or nodes (length rest) 0 ≡ x
+  last_is b = b.same (length rest) (omega (arith, one_less)) ∙ (rw split (get_or_push rest x 0 (length rest) refl))
 
 -- ---- labels mended: those of the first `count` nodes are still to be
 pub data Mended (g : Graph) (used : List Bool) (nodes : List ℕ) (count : ℕ) (os ls : List ℕ) (x : ℕ) : Type 0 where

@@ -86,10 +86,8 @@ pub fn mend_all(
     ensures still_small { Small (length used.now) labels.new }
     ensures consistent { (os bar : List ℕ) → result ≡ true → Lifted goal front.now.taken (length front.now.taken) os labels.old → ((z : ℕ) → elem z bar ≡ false → get_or used.now z false ≡ false) → Consistent (arcs_of graph.now) goal os bar → Consistent (arcs_of graph.now) goal labels.new bar }
 {
-    let taken = front.taken();
-    // by index: the invariant counts the nodes still to be mended, and a reversed iterator has no place
-    for i in (0..taken.len()).rev() {
-        let x = taken[i] as usize;
+    for &node in front.taken().iter().rev() {
+        let x = node as usize;
         if x != goal && !mend(graph, x, used, labels) {
             return false;
         }
