@@ -1,4 +1,6 @@
-// The exits of a node: the arcs from it to nodes that may come next.
+// The exits of a node: the arcs from it to nodes that may come next. That the lent slices have a place for
+// each node is asked of each function: labels and flags change between the calls, so that a struct over them
+// and the graph would be made anew, with its facts, before each.
 ghost use Rattle.std.specs.Prelude.{◌≡◌, ◌+◌, ◌≤◌, ◌<◌, ◌↔◌, length, get_or, IfSome, IsTrue};
 ghost use Rattle.labels.specs.Labels.{far};
 ghost use Rattle.exits.specs.Exits.{Unmarked, Unused, via, Below, Usable, Chosen, Keeps};
@@ -45,7 +47,8 @@ pub fn via_below(
 }
 
 // The least weight and label over the exits of v that are neither used nor barred, and the smallest
-// node that has it.
+// node that has it. Here and below the arcs are gone through by index: a `zip` of heads and weights, both cut
+// to the arcs of the node, takes 1 in 100 instructions more.
 pub fn least_exit(
     graph: &Graph<'_>,
     v: usize,
@@ -65,7 +68,8 @@ pub fn least_exit(
     let weights = graph.weights;
     let outs = graph.outs(v);
     let mut found = None;
-    // what the step that was found costs; FAR before one is found
+    // what the step that was found costs; FAR before one is found: read out of `found` in each turn it
+    // takes 11 in 100 instructions more
     let mut best = FAR;
     for i in outs.start..outs.end {
         let node = heads[i];

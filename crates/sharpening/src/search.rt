@@ -1,4 +1,7 @@
-// The search: it takes nodes outwards from the end of a branch's beginning, and says how far it went.
+// The search: it takes nodes outwards from the end of a branch's beginning, and says how far it went. That
+// the lent slices and the front have a place for each node is asked of each function: the front changes in
+// the loops, so that a struct over them would be taken apart before each, and `barred` is `used` from the
+// second node on.
 ghost use Rattle.std.specs.Prelude.{◌≡◌, ◌+◌, ◌≤◌, ◌<◌, length, IfSome};
 ghost use Rattle.exits.specs.Small.{Small, longest};
 ghost use Rattle.sharpening.specs.Sharp.{Same};
@@ -60,6 +63,7 @@ fn spread(
     requires places { front.old.places ≡ length overall.now }
     ensures { Same front.old front.new }
 {
+    // by index, as in `exits`
     let heads = graph.heads();
     let weights = graph.weights;
     let own = overall[hub.node];
