@@ -18,7 +18,8 @@ pub fn shortest(
     path: &mut [u16],
 ) -> Option<Tail>
     requires overall_long { length overall.now ≡ graph.now.nodes + 1 }
-    requires ends { Ends (length overall.now) start goal × (length overall.now ≤ length path.old + 1) }
+    requires ends { Ends (length overall.now) start goal }
+    requires path_long { length overall.now ≤ length path.old + 1 }
     requires least { Least (arcs_of graph.now) [] goal overall.now }
     ensures extent { Extent 1 path.new result }
     ensures first_found { FirstFound (arcs_of graph.now) start goal (everything start) path.new result }
@@ -31,8 +32,6 @@ pub fn shortest(
     let v = start as usize;
     path[0] = start;
     used[v] = true;
-    let Some(step) = least_exit(graph, v, overall, used, barred) else {
-        return None;
-    };
+    let step = least_exit(graph, v, overall, used, barred)?;
     along(graph, goal, overall, used, barred, path, 1, step)
 }

@@ -1,6 +1,7 @@
 // The first path of a branch: by a walk along labels that are at hand, or else along these sharpened for
 // the branch, or else along labels with the beginning barred, or else step by step.
-// A struct of path, used, barred and d with Begun as a ghost field proves and is no plainer: each function also says that both slices, d and barred are the same after, and takes it apart to walk.
+// A struct of path, used, barred and d with Begun as a ghost field proves and is no plainer: `Kept` compares used and the first d nodes of path before and after each call, which such a struct can't say, and each function takes it apart to walk.
+// Graph, goal and labels are no struct: one call of `first_path` walks along three kinds of labels, of which each has facts of its own (Consistent, Small, Least), and Ahead and the lengths are of slices that the call lends.
 ghost use Rattle.std.specs.Prelude.{◌≡◌, true, false, List, [], ◌∷◌, ◌++◌, ℕ, ◌+◌, ◌-◌, ◌≤◌, ◌<◌, length, take, get_or};
 ghost use Rattle.terms.specs.Paths.{Route};
 ghost use Rattle.branching.specs.Branches.{branch, In, First, Beginning};
@@ -26,6 +27,7 @@ pub struct Tail {
 }
 
 // From path[at - 1], each step to the node that labels made anew show to be the next.
+// One loop for this and `walk`, with the next node by a closure, is no plainer: each loop keeps a fact of its own (a first path here, a tight walk there), which it would have to be given with the closure.
 fn steps(
     graph: &Graph<'_>,
     goal: usize,
@@ -101,14 +103,9 @@ fn exact_path(
     let labels = &mut room[..places];
     least(graph, used, goal, labels);
     let v = path[d - 1] as usize;
-    let Some(step) = least_exit(graph, v, labels, used, barred) else {
-        return None;
-    };
-    if let Some(len) = attempt(graph, goal, labels, used, path, d, step.node) {
-        return Some(Tail {
-            len,
-            cost: step.rest,
-        });
+    let step = least_exit(graph, v, labels, used, barred)?;
+    if let Some(tail) = attempt(graph, goal, labels, used, path, d, step) {
+        return Some(tail);
     }
     let len = by_steps(graph, goal, used, path, d, step.node, labels);
     Some(Tail {
@@ -132,29 +129,28 @@ pub fn along(
     requires used_long { length used.old ≡ graph.now.nodes + 1 }
     requires begun { Begun (length used.old) used.old barred.now path.old d }
     requires ahead { Ahead (length used.old) goal used.old }
-    requires consistent { Consistent (arcs_of graph.now) goal overall.now (take d path.old) × Small (length used.old) overall.now }
+    requires consistent { Consistent (arcs_of graph.now) goal overall.now (take d path.old) }
+    requires small { Small (length used.old) overall.now }
     requires choice { Choice (arcs_of graph.now) overall.now (Unmarked used.old barred.now) (get_or path.old (d - 1) 0) step.rest step.node }
     ensures kept { Kept used.old path.old d used.new path.new result }
     ensures first_found { (s : ℕ) (F : List ℕ) → Beginning (arcs_of graph.now) s goal (take d path.old) → Flagged barred.now F → FirstFound (arcs_of graph.now) s goal (branch (take d path.old) F) path.new result }
 {
-    if let Some(len) = attempt(graph, goal, overall, used, path, d, step.node) {
-        return Some(Tail {
-            len,
-            cost: step.rest,
-        });
+    if let Some(tail) = attempt(graph, goal, overall, used, path, d, step) {
+        return Some(tail);
     }
     exact_path(graph, goal, used, barred, path, d)
 }
 
-// Whether l is above the most that is wanted, if that is a limit at all.
+// Whether l is above the most that is wanted, if that is a limit at all: LONGEST is none, since all paths cost less.
+// As an Option the limit would be matched here, at the `min` that makes it (ranking) and where labels are sharpened.
 fn is_dear(l: u64, most: u64) -> bool
     ensures { result ≡ true → (most < l) × (most < longest) }
 {
     most < LONGEST && most < l
 }
 
-// The same, with no exit chosen yet, and only if the path's tail costs `most` at the most: the walk is along
-// sharper labels.
+// The first path of that branch as by `along`, but with no exit chosen yet, and only if the path's tail costs
+// `most` at the most: the walk is along sharper labels.
 fn sharp_path(
     graph: &Graph<'_>,
     goal: usize,
@@ -168,7 +164,9 @@ fn sharp_path(
     requires used_long { length used.old ≡ graph.now.nodes + 1 }
     requires begun { Begun (length used.old) used.old barred.now path.old d }
     requires ahead { Ahead (length used.old) goal used.old }
-    requires consistent { Consistent (arcs_of graph.now) goal overall.now (take d path.old) × Small (length used.old) overall.now × (most ≤ longest) }
+    requires consistent { Consistent (arcs_of graph.now) goal overall.now (take d path.old) }
+    requires small { Small (length used.old) overall.now }
+    requires most_small { most ≤ longest }
     ensures kept { Kept used.old path.old d used.new path.new result }
     ensures first_within { (s : ℕ) (F : List ℕ) → Beginning (arcs_of graph.now) s goal (take d path.old) → Flagged barred.now F → FirstWithin (arcs_of graph.now) s goal (branch (take d path.old) F) path.new most result }
 {
@@ -185,9 +183,7 @@ fn sharp_path(
     if !sharp {
         return exact_path(graph, goal, used, barred, path, d);
     }
-    let Some(step) = least_exit(graph, v, labels, used, barred) else {
-        return None;
-    };
+    let step = least_exit(graph, v, labels, used, barred)?;
     if is_dear(step.rest, most) {
         return None;
     }
@@ -211,16 +207,15 @@ pub fn first_path(
     requires used_long { length used.old ≡ graph.now.nodes + 1 }
     requires begun { Begun (length used.old) used.old barred.now path.old d }
     requires ahead { Ahead (length used.old) goal used.old }
-    requires consistent { Consistent (arcs_of graph.now) goal overall.now (take d path.old) × Small (length used.old) overall.now × (most ≤ longest) }
+    requires consistent { Consistent (arcs_of graph.now) goal overall.now (take d path.old) }
+    requires small { Small (length used.old) overall.now }
+    requires most_small { most ≤ longest }
     requires choice { Choice (arcs_of graph.now) overall.now (Unmarked used.old barred.now) (get_or path.old (d - 1) 0) step.rest step.node }
     ensures kept { Kept used.old path.old d used.new path.new result }
     ensures first_within { (s : ℕ) (F : List ℕ) → Beginning (arcs_of graph.now) s goal (take d path.old) → Flagged barred.now F → FirstWithin (arcs_of graph.now) s goal (branch (take d path.old) F) path.new most result }
 {
-    if let Some(len) = attempt(graph, goal, overall, used, path, d, step.node) {
-        return Some(Tail {
-            len,
-            cost: step.rest,
-        });
+    if let Some(tail) = attempt(graph, goal, overall, used, path, d, step) {
+        return Some(tail);
     }
     sharp_path(graph, goal, overall, used, barred, path, d, most)
 }

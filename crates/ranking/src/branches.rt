@@ -33,14 +33,7 @@ fn most_wanted(entries: &Entries<'_>, slots: usize, before: u64) -> u64
         return LONGEST;
     }
     let dearest = entries.cost(entries.count - 1);
-    if dearest <= before {
-        return 0;
-    }
-    let room = dearest - before;
-    if LONGEST < room {
-        return LONGEST;
-    }
-    room
+    dearest.saturating_sub(before).min(LONGEST)
 }
 
 // The first path of a branch, of which the step is the least exit, is found and put in its place. The

@@ -14,20 +14,18 @@ ghost use Rattle.ranking.specs.State.{branch_of, taking_over, waiting_to};
 use crate::branches::consider;
 use crate::query::{Detour, Query, Stem};
 use candidates::{Entries, Routes};
-use star::{Graph, arc_between};
+use star::Graph;
 
 // The weight of the arc from v to y.
 fn arc_weight(graph: &Graph<'_>, v: usize, y: u16) -> u32
     requires { v ≤ graph.now.nodes }
     ensures { linked (arcs_of graph.now) v y ≡ true → result ≡ weight (arcs_of graph.now) v y }
 {
-    let Some(i) = arc_between(graph.heads(), graph.first_out(), v, y) else {
-        return 0;
-    };
-    graph.weights[i as usize]
+    graph.arc(v, y).map_or(0, |i| graph.weights[i as usize])
 }
 
-// Flags the nodes in path[..len].
+// Flags the nodes in path[..len]. `len` stands beside path: what is flagged is Laid, which says too that path has a
+// place for each node of the network, and path[..len] has not. `unmark` of branching is no twin: it starts from Laid.
 fn mark(path: &[u16], len: usize, used: &mut [bool])
     requires { Markable (length used.old) used.old path.now len }
     ensures { Laid (length used.old) used.new path.now len }

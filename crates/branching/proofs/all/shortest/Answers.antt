@@ -11,24 +11,25 @@ use Rattle.branching.proofs.all.shortest.Goals as goal
 pub least_exit-requires-clause-small : goal.least_exit-requires-clause-small
 least_exit-requires-clause-small c = graph_small c.args.graph.now.holds c.requires.overall_long refl c.requires.least
 
-pub returns-in_default : goal.returns-in_default
-returns-in_default c =
-    let s = started c.args.path.now (flags_room c.args.graph.now.holds c.requires.overall_long) c.requires.ends.1 c.requires.ends.0 in
+pub returns-in_err-step : goal.returns-in_err-step
+returns-in_err-step c =
+    let s = started c.args.path.now (flags_room c.args.graph.now.holds c.requires.overall_long) c.requires.path_long c.requires.ends in
     let consistent = graph_consistent c.args.graph.now.holds c.requires.overall_long refl c.requires.least (λ x. refl) in
-    record { extent = Extent.nothing; first_found = FirstFound.none (λ p i. branch_empty s.begun s.unbarred (s.beginning _) (consistent _) (rw s.last (rw c.in_default.is at c.least_exit.ensures.chosen)) p (rw s.laid i)) }
+    rw c.from_residual.ensures (record { extent = Extent.nothing; first_found = FirstFound.none (λ p i. branch_empty s.begun s.unbarred (s.beginning _) (consistent _) (rw s.last c.in_err-step.ensures.chosen) p (rw s.laid i)) })
 
 pub along-requires : goal.along-requires
 along-requires c =
-    let s = started c.args.path.now (flags_room c.args.graph.now.holds c.requires.overall_long) c.requires.ends.1 c.requires.ends.0 in
+    let s = started c.args.path.now (flags_room c.args.graph.now.holds c.requires.overall_long) c.requires.path_long c.requires.ends in
     record {
       used_long = s.long ∙ c.requires.overall_long;
       begun = s.begun;
       ahead = s.ahead;
-      consistent = (graph_consistent c.args.graph.now.holds c.requires.overall_long refl c.requires.least (λ x. refl) _, subst (λ i. Small i c.args.overall.now) (sym s.long) (graph_small c.args.graph.now.holds c.requires.overall_long refl c.requires.least));
-      choice = rw s.last c.in-Some.ensures.chosen;
+      consistent = graph_consistent c.args.graph.now.holds c.requires.overall_long refl c.requires.least (λ x. refl) _;
+      small = subst (λ i. Small i c.args.overall.now) (sym s.long) (graph_small c.args.graph.now.holds c.requires.overall_long refl c.requires.least);
+      choice = rw s.last c.in_ok-step.ensures.chosen;
     }
 
 pub returns : goal.returns
 returns c =
-    let s = started c.args.path.now (flags_room c.args.graph.now.holds c.requires.overall_long) c.requires.ends.1 c.requires.ends.0 in
+    let s = started c.args.path.now (flags_room c.args.graph.now.holds c.requires.overall_long) c.requires.path_long c.requires.ends in
     record { extent = c.along.ensures.kept.reach; first_found = rw s.laid at (c.along.ensures.first_found c.args.start [] (s.beginning _) s.unbarred) }

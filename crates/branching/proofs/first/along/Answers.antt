@@ -1,5 +1,6 @@
 -- `first::along`: a walk along any consistent labels that arrives is the first path of the branch; else it is searched by exact labels.
 -- Assumes nothing.
+use native.Mathlib.Omega.{arith}
 use Rattle.branching.specs.Found.{FirstFound}
 use Rattle.branching.proofs.FirstLaws.{branch_walked, tried_kept, kept_again}
 use Rattle.branching.proofs.LaidLaws.{laid_kept}
@@ -8,15 +9,15 @@ use Rattle.branching.proofs.first.along.Goals as goal
 
 pub attempt-requires : goal.attempt-requires
 attempt-requires c =
-    rw c.requires.consistent.1.long (record { labels_long = c.requires.used_long; laid = (c.requires.begun.laid, choice_fresh c.args.graph.now.holds c.requires.used_long c.requires.choice) })
+    rw c.requires.small.long (record { labels_long = c.requires.used_long; laid = (c.requires.begun.laid, choice_fresh c.args.graph.now.holds c.requires.used_long c.requires.choice) })
 
 pub returns-in-Some : goal.returns-in-Some
 returns-in-Some c =
     record {
       kept = tried_kept (rw c.in-Some.is at c.attempt.ensures.tried);
       first_found = λ s F B h.
-          let r = branch_walked c.requires.begun h B c.requires.choice c.requires.consistent.0 (rw c.in-Some.is at (c.attempt.ensures.arrives c.requires.choice.exit.reached)) in
-          FirstFound.found r.0 r.1;
+          let r = branch_walked c.requires.begun h B c.requires.choice c.requires.consistent (rw c.in-Some.is at (c.attempt.ensures.arrives c.requires.choice.exit.reached)) in
+          FirstFound.found r.0 (omega (arith, r.1, rw c.in-Some.is at c.attempt.ensures.cost_is));
     }
 
 pub exact_path-requires : goal.exact_path-requires

@@ -1,5 +1,6 @@
 -- `first::first_path`: a walk along any consistent labels that arrives is the first path of the branch; else it is searched by exact labels.
 -- Assumes nothing.
+use native.Mathlib.Omega.{arith}
 use Rattle.branching.specs.Found.{FirstFound, FirstWithin}
 use Rattle.branching.proofs.FirstLaws.{branch_walked, tried_kept, kept_again}
 use Rattle.branching.proofs.LaidLaws.{laid_kept}
@@ -8,21 +9,21 @@ use Rattle.branching.proofs.first.first_path.Goals as goal
 
 pub attempt-requires : goal.attempt-requires
 attempt-requires c =
-    rw c.requires.consistent.1.long (record { labels_long = c.requires.used_long; laid = (c.requires.begun.laid, choice_fresh c.args.graph.now.holds c.requires.used_long c.requires.choice) })
+    rw c.requires.small.long (record { labels_long = c.requires.used_long; laid = (c.requires.begun.laid, choice_fresh c.args.graph.now.holds c.requires.used_long c.requires.choice) })
 
 pub returns-in-Some : goal.returns-in-Some
 returns-in-Some c =
     record {
       kept = tried_kept (rw c.in-Some.is at c.attempt.ensures.tried);
       first_within = λ s F B h.
-          let r = branch_walked c.requires.begun h B c.requires.choice c.requires.consistent.0 (rw c.in-Some.is at (c.attempt.ensures.arrives c.requires.choice.exit.reached)) in
-          FirstWithin.is (FirstFound.found r.0 r.1);
+          let r = branch_walked c.requires.begun h B c.requires.choice c.requires.consistent (rw c.in-Some.is at (c.attempt.ensures.arrives c.requires.choice.exit.reached)) in
+          FirstWithin.is (FirstFound.found r.0 (omega (arith, r.1, rw c.in-Some.is at c.attempt.ensures.cost_is)));
     }
 
 pub sharp_path-requires : goal.sharp_path-requires
 sharp_path-requires c =
     let back = c.attempt.ensures.back in
-    rw back.flags (record { used_long = c.requires.used_long; begun = record { laid = laid_kept back.kept c.attempt.auto.path c.requires.begun.laid; some = c.requires.begun.some; barred_long = c.requires.begun.barred_long }; ahead = c.requires.ahead; consistent = (rw back.kept c.requires.consistent.0, c.requires.consistent.1, c.requires.consistent.2) })
+    rw back.flags (record { used_long = c.requires.used_long; begun = record { laid = laid_kept back.kept c.attempt.auto.path c.requires.begun.laid; some = c.requires.begun.some; barred_long = c.requires.begun.barred_long }; ahead = c.requires.ahead; consistent = rw back.kept c.requires.consistent; small = c.requires.small; most_small = c.requires.most_small })
 
 pub returns : goal.returns
 returns c =

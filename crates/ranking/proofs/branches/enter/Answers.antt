@@ -20,7 +20,7 @@ first_path-requires c =
     let q = c.args.query.now in
     let W = c.most_wanted-most.ensures in
     let D = c.requires.deviation in
-    rw D.begun.laid.flags_long (record { used_long = refl; begun = D.begun; ahead = goal_ahead q.graph.holds q.posed D; consistent = (still_consistent q.graph.holds q.posed D, q.posed.small, W.small); choice = c.requires.choice })
+    rw D.begun.laid.flags_long (record { used_long = refl; begun = D.begun; ahead = goal_ahead q.graph.holds q.posed D; consistent = still_consistent q.graph.holds q.posed D; small = q.posed.small; most_small = W.small; choice = c.requires.choice })
 
 pub returns-in_default : goal.returns-in_default
 returns-in_default c =
