@@ -21,7 +21,11 @@ fn arc_weight(graph: &Graph<'_>, v: usize, y: u16) -> u32
     requires { v ≤ graph.now.nodes }
     ensures { linked (arcs_of graph.now) v y ≡ true → result ≡ weight (arcs_of graph.now) v y }
 {
-    graph.arc(v, y).map_or(0, |i| graph.weights[i as usize])
+    // `map_or` is no plainer: its closure would need a contract that says which weight it reads
+    match graph.arc(v, y) {
+        Some(i) => graph.weights[i as usize],
+        None => 0,
+    }
 }
 
 // Flags the nodes in path[..len]. `len` stands beside path: what is flagged is Laid, which says too that path has a

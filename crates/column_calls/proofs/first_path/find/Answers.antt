@@ -14,7 +14,7 @@ shortest-requires c =
     let L = c.load-graph.ensures.loaded in
     let long = L.labels_long in
     let ends = c.args.trip.now.ends in
-    record { overall_long = omega (arith, long, c.load-graph.ensures.nodes, c.args.trip.now.network.accepted.nodes_are); ends = (record { start_from = ends.start_in.from; start_place = omega (arith, ends.start_in, long); goal_place = omega (arith, ends.goal_in, long); apart = ends.apart }, omega (arith, long, c.requires)); least = L.least }
+    record { overall_long = omega (arith, long, c.load-graph.ensures.nodes, c.args.trip.now.network.accepted.nodes_are); ends = record { start_from = ends.start_in.from; start_place = omega (arith, ends.start_in, long); goal_place = omega (arith, ends.goal_in, long); apart = ends.apart }; path_long = omega (arith, long, c.requires); least = L.least }
 
 pub returns : goal.returns
 returns c = record { extent = c.shortest.ensures.extent; first_found = found_in_column c.load-graph.ensures.loaded c.shortest.ensures.first_found }

@@ -8,14 +8,8 @@ use Rattle.candidates.specs.Views.{entry_in, listed}
 use Rattle.candidates.proofs.EntryLaws.{entries_at}
 use Rattle.ranking.proofs.branches.most_wanted.Goals as goal
 
-pub returns-then-dearest-before : goal.returns-then-dearest-before
-returns-then-dearest-before c =
-    let l = c.args.entries.now in
-    let last_cost : (get_or (listed l) (l.count - 1) none).cost ≡ (entry_in l (l.count - 1)).cost = ap (λ (e : Entry). e.cost) (entries_at l.nodes l.work.now l.count (l.count - 1) (omega (arith, c.requires.0))) in
-    record { small = omega arith; full = λ _. omega (arith, c.requires.1); last = λ _. omega (arith, last_cost, c.cost-dearest.ensures) }
-
 pub returns : goal.returns
 returns c =
     let l = c.args.entries.now in
     let last_cost : (get_or (listed l) (l.count - 1) none).cost ≡ (entry_in l (l.count - 1)).cost = ap (λ (e : Entry). e.cost) (entries_at l.nodes l.work.now l.count (l.count - 1) (omega (arith, c.requires.0))) in
-    record { small = omega arith; full = λ _. omega (arith, c.requires.1); last = λ _. omega (arith, last_cost, c.cost-dearest.ensures) }
+    record { small = omega arith; full = λ _. omega (arith, c.requires.1); last = λ h. omega (arith, h, last_cost, c.cost-dearest.ensures) }
