@@ -1,16 +1,16 @@
 -- Whether a route touches an arc, and whether two lists are equal: what the tests say, and how they go from place to place. Assumes nothing.
-use Prim.Native.Nat.{ℕ, ◌≤◌, ◌<◌}
+use Prim.Native.Nat.{ℕ, zero, suc, ◌+◌, ◌<◌}
 use native.Mathlib.Omega.{arith}
 use mathlib.Core.Path.{◌≡◌, refl, sym, ◌∙◌, ap, ap₂}
-use mathlib.Core.Bool.{true, false, ◌&&◌, ◌||◌}
+use mathlib.Core.Bool.{Bool, true, false, ◌&&◌}
+use mathlib.Core.Logic.{⊎_elim}
 use mathlib.Core.List.{List, [], ◌∷◌}
 use lib.Dec.{eqb}
-use lib.ListN.{length, get_or, take, drop}
-use lib.Seq.{get_or-take}
+use lib.ListN.{length, get_or}
 use lib.Pointwise.{pointwise}
-use borrow.Author.Tests.{eqb-true, eq-eqb, ne_eqb}
+use borrow.Author.Tests.{eqb-true, eq-eqb}
 use Rattle.terms.specs.Paths.{Route}
-use Rattle.terms.proofs.ListLaws.{clash, or_right, and_both}
+use Rattle.terms.proofs.ListLaws.{clash, or_right, or_cases, and_both}
 use Rattle.terms.proofs.GraphLaws.{Next, here, later}
 use Rattle.closures.specs.Standing.{touches, touches_after, alike}
 
@@ -34,37 +34,6 @@ alike_equal [] (y ∷ l) e = clash e refl
 alike_equal (x ∷ k) [] e = clash e refl
 alike_equal (x ∷ k) (y ∷ l) e = let h = and_both (eqb x y) (alike k l) e in ap₂ (λ a z. a ∷ z) (eqb-true x y h.0) (alike_equal k l h.1)
 
--- ---- what the code tests
-module _ (a : ℕ × ℕ) (l : List ℕ) {n : ℕ} (two : n ≡ 2) (h : n ≤ length l) {step : List ℕ} (is : step ≡ take n l) where
-  -- the first step decides, or what is left after it
-  touches_step : touches a l ≡ ((eqb (get_or l 0 0) a.0 && eqb (get_or l 1 0) a.1) || touches a (drop 1 l))
-  unfolding touches touches_after
-  touches_step = by_case l (omega arith)
-    where
-      by_case : (l : List ℕ) → 2 ≤ length l → touches a l ≡ ((eqb (get_or l 0 0) a.0 && eqb (get_or l 1 0) a.1) || touches a (drop 1 l))
-      by_case [] h = absurd (omega arith)
-      by_case (v ∷ []) h = absurd (omega arith)
-      by_case (v ∷ x ∷ l) h = refl
-
-  node : (i : ℕ) → i < 2 → get_or step i 0 ≡ get_or l i 0
-  node i k = ap (λ (x : List ℕ). get_or x i 0) is ∙ get_or-take n l i 0 (omega arith)
-
-  pub touches_here : get_or step 0 0 ≡ a.0 → get_or step 1 0 ≡ a.1 → touches a l ≡ true
-  touches_here e f = touches_step ∙ rw (eq-eqb (get_or l 0 0) a.0 (sym (node 0 (omega arith)) ∙ e), eq-eqb (get_or l 1 0) a.1 (sym (node 1 (omega arith)) ∙ f))
-
-  pub tail_differs : (get_or step 0 0 ≡ a.0 → ⊥) → touches a l ≡ touches a (drop 1 l)
-  tail_differs n = touches_step ∙ rw (ne_eqb (get_or l 0 0) a.0 (λ e. n (node 0 (omega arith) ∙ e)))
-
-  pub head_differs : get_or step 0 0 ≡ a.0 → (get_or step 1 0 ≡ a.1 → ⊥) → touches a l ≡ touches a (drop 1 l)
-  head_differs e n = touches_step ∙ rw (eq-eqb (get_or l 0 0) a.0 (sym (node 0 (omega arith)) ∙ e), ne_eqb (get_or l 1 0) a.1 (λ f. n (node 1 (omega arith) ∙ f)))
-
--- fewer than two nodes touch nothing
-pub touches_none : (a : ℕ × ℕ) (l : List ℕ) → length l < 2 → touches a l ≡ false
-unfolding touches touches_after
-touches_none a [] h = refl
-touches_none a (v ∷ []) h = refl
-touches_none a (v ∷ x ∷ l) h = absurd (omega arith)
-
 -- `==` of two slices of numbers
 pub alike_is : (k l : List ℕ) → pointwise eqb k l ≡ alike k l
 unfolding alike
@@ -72,3 +41,24 @@ alike_is [] [] = refl
 alike_is [] (y ∷ l) = refl
 alike_is (x ∷ k) [] = refl
 alike_is (x ∷ k) (y ∷ l) = ap (λ t. eqb x y && t) (alike_is k l)
+
+-- ---- a route touches an arc where two nodes of it are the arc's, one behind the other, and nowhere else
+pub touches_at : (a : ℕ × ℕ) (l : List ℕ) (k : ℕ) → k + 1 < length l → get_or l k 0 ≡ a.0 → get_or l (suc k) 0 ≡ a.1 → touches a l ≡ true
+unfolding touches touches_after
+touches_at a [] k h e e' = absurd (omega arith)
+touches_at a (v ∷ []) k h e e' = absurd (omega arith)
+touches_at a (v ∷ x ∷ l) zero h e e' = rw (eq-eqb v a.0 e, eq-eqb x a.1 e') refl
+touches_at a (v ∷ x ∷ l) (suc k) h e e' = touches_later a v (x ∷ l) (touches_at a (x ∷ l) k (omega arith) e e')
+
+pub touches_nowhere : (a : ℕ × ℕ) (l : List ℕ) → ((k : ℕ) → k + 1 < length l → get_or l k 0 ≡ a.0 → get_or l (suc k) 0 ≡ a.1 → ⊥) → touches a l ≡ false
+unfolding touches touches_after
+touches_nowhere a l none = of_false _ (λ t. let p = touched a l t in none p.0 p.1 p.2 p.3)
+  where
+    touched : (a : ℕ × ℕ) (l : List ℕ) → touches a l ≡ true → (k : ℕ) × (k + 1 < length l) × (get_or l k 0 ≡ a.0) × (get_or l (suc k) 0 ≡ a.1)
+    touched a [] t = clash t refl
+    touched a (v ∷ []) t = clash t refl
+    touched a (v ∷ x ∷ l) t = ⊎_elim (λ h. let b = and_both (eqb v a.0) (eqb x a.1) h in (0, omega arith, eqb-true v a.0 b.0, eqb-true x a.1 b.1)) (λ h. let p = touched a (x ∷ l) h in (suc p.0, omega (arith, p.1), p.2, p.3)) (or_cases t)
+
+    of_false : (b : Bool) → (b ≡ true → ⊥) → b ≡ false
+    of_false true n = absurd (n refl)
+    of_false false n = refl

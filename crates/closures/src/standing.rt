@@ -6,10 +6,7 @@ ghost use Rattle.closures.specs.Standing as standing;
 pub fn touches(tail: u16, head: u16, route: &[u16]) -> bool
     ensures { result ≡ standing.touches (tail, head) route.now }
 {
-    for step in route.windows(2) {
-        if step[0] == tail && step[1] == head {
-            return true;
-        }
-    }
-    false
+    route
+        .windows(2)
+        .any(|step| matches!(step, &[v, y] if v == tail && y == head))
 }
