@@ -45,7 +45,8 @@ fn change(
     run(network, asked, next, work)
 }
 
-// Whether an event turns over the bit of an arc: it closes an open one, or opens a closed one.
+// Whether an event turns over the bit of an arc: it closes an open one, or opens a closed one. A function of its own:
+// `!=` of two bools inside a test leaves a form that no law has in its words, and here the contract puts it as a `cond`.
 fn turns(was_closed: bool, close: bool) -> bool
     ensures { result ≡ cond close (not was_closed) was_closed }
 {

@@ -1,30 +1,14 @@
 // Fresh: a week that begins with every road open.
 ghost use Rattle.std.specs.Prelude.{◌≡◌, length};
 ghost use Rattle.outcomes.specs.Calls.{cleared};
-ghost use Rattle.week_calls.specs.Weeks.{no_week, fresh_fault, fresh_week, fresh_outcome};
+ghost use Rattle.week_calls.specs.Weeks.{fresh_fault, fresh_week, fresh_outcome};
 ghost use Rattle.image.specs.Answers.{answer, one_number};
 ghost use Rattle.week_calls.specs.Promise.{KeptWeek};
 
 use super::running::run;
-use super::week::{Question, Week, Weekly};
+use super::week::{Question, Weekly, blank};
 use loading::Network;
 use outcomes::check_ranking;
-
-// A state that holds nothing.
-fn blank() -> Week
-    ensures { result ≡ no_week }
-{
-    Week {
-        closed: [0u64; 16],
-        route: [0u16; 200],
-        state: 0,
-        length: 0,
-        figure: 0,
-        worst: 0,
-        count: 0,
-        floor: 0,
-    }
-}
 
 // REFERENCE, section 4.12. The first three promises say what is given and cleared; the last one is about the whole
 // week, section 9.5.

@@ -5,7 +5,7 @@ ghost use Rattle.week_calls.specs.Weeks.{run_week};
 ghost use Rattle.week_calls.specs.Asked.{Asked};
 ghost use Rattle.week_calls.specs.Answers.{made};
 
-use super::week::{Question, Week};
+use super::week::{Question, Week, blank};
 use image::Refusal;
 use listing::clear;
 use loading::Network;
@@ -30,11 +30,7 @@ fn hold(closed: [u64; 16], route: [u16; 200], answer: Result<Decision, Refusal>)
             closed,
             route,
             state: 15,
-            length: 0,
-            figure: 0,
-            worst: 0,
-            count: 0,
-            floor: 0,
+            ..blank()
         },
     }
 }

@@ -1,4 +1,7 @@
 // A week's state, and what a call gives.
+ghost use Rattle.std.specs.Prelude.{◌≡◌};
+ghost use Rattle.week_calls.specs.Weeks.{no_week};
+
 use image::Refusal;
 
 // The state beside an image: the map of closed arcs, and the current answer with its route. `state` is 1 if the
@@ -15,6 +18,22 @@ pub struct Week {
     pub worst: u32,
     pub count: u32,
     pub floor: u32,
+}
+
+// A state that holds nothing.
+pub fn blank() -> Week
+    ensures { result ≡ no_week }
+{
+    Week {
+        closed: [0u64; 16],
+        route: [0u16; 200],
+        state: 0,
+        length: 0,
+        figure: 0,
+        worst: 0,
+        count: 0,
+        floor: 0,
+    }
 }
 
 // The state after a call, and how many roads its map closes. A refused event leaves the state as it was, and a

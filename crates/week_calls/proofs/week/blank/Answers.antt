@@ -1,7 +1,7 @@
--- `fresh::blank` meets its contract. Assumes nothing.
+-- `week::blank` meets its contract. Assumes nothing.
 use mathlib.Core.Path.{refl}
 use Rattle.week_calls.specs.Weeks.{no_week}
-use Rattle.week_calls.proofs.fresh.blank.Goals as goal
+use Rattle.week_calls.proofs.week.blank.Goals as goal
 
 pub returns : goal.returns
 unfolding no_week
