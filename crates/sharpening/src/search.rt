@@ -20,6 +20,18 @@ pub struct Quest {
     pub from: usize,
     pub goal: usize,
     pub most: u64,
+    pub ghost bounded: { most ≤ longest },
+}
+
+impl Quest {
+    ghost use Rattle.std.specs.Prelude.{◌≤◌, IfSome};
+
+    // What a path costs at least if none was found that costs `most` at the most: None if any would do.
+    fn beyond(self) -> Option<u64>
+        ensures { IfSome result (λ cost. cost ≤ longest) }
+    {
+        (self.most < LONGEST).then_some(self.most + 1)
+    }
 }
 
 // The node whose arcs are followed. Its key is the least cost of a path through it, by the labels at
@@ -29,13 +41,13 @@ pub struct Hub {
     pub node: usize,
     pub key: u64,
     pub room: u64,
+    pub ghost bounded: { key + room ≤ longest },
 }
 
 // Follows an arc from the hub, whose label is `own`, to y, with weight and label l. A y with the hub's
 // own key is next: no node has a smaller one.
 fn reach(y: usize, l: u64, own: u64, hub: Hub, front: &mut Front<'_>)
     requires node { y < front.old.places }
-    requires room { hub.key + hub.room ≤ longest }
     ensures { Same front.old front.new }
 {
     if let Some(more) = l.checked_sub(own)
@@ -57,7 +69,6 @@ fn spread(
     requires overall_long { length overall.now ≡ graph.now.nodes + 1 }
     requires small { Small (length overall.now) overall.now }
     requires node { hub.node < length overall.now }
-    requires room { hub.key + hub.room ≤ longest }
     requires used_long { length used.now ≡ length overall.now }
     requires barred_long { length barred.now ≡ length overall.now }
     requires places { front.old.places ≡ length overall.now }
@@ -119,29 +130,19 @@ fn steps_allowed(last: Option<u64>, key: u64, nodes: usize) -> usize {
     }
 }
 
-// What a path costs at least if none was found that costs `most` at the most: None if any would do.
-fn beyond(most: u64) -> Option<u64>
-    requires { most ≤ longest }
-    ensures { IfSome result (λ cost. cost ≤ longest) }
-{
-    (most < LONGEST).then_some(most + 1)
-}
-
 // Takes node after node, by its key, and follows its arcs, until it comes to the goal, or a walk along
 // the labels leads there, or all keys are above `most`. Returns what a path costs at least: the key with
 // which it came to the goal, or one more than the most; None if there was none, and any path would do.
 fn search(
     graph: &Graph<'_>,
-    goal: usize,
+    quest: Quest,
     overall: &[u64],
     used: &[bool],
     front: &mut Front<'_>,
-    most: u64,
 ) -> Option<u64>
     requires overall_long { length overall.now ≡ graph.now.nodes + 1 }
     requires small { Small (length overall.now) overall.now }
     requires used_long { length used.now ≡ length overall.now }
-    requires most { most ≤ longest }
     requires places { front.old.places ≡ length overall.now }
     ensures places { front.new.places ≡ front.old.places }
     ensures level { IfSome result (λ cost. cost ≤ longest) }
@@ -151,11 +152,11 @@ fn search(
     while let Some(at) = front.pick(last.unwrap_or(0)) {
         let node = front.node(at);
         let key = front.key(node);
-        if most < key {
-            return beyond(most);
+        if quest.most < key {
+            return quest.beyond();
         }
         let steps = steps_allowed(last, key, used.len());
-        if leads(graph, goal, overall, used, front, node, key, steps) {
+        if leads(graph, quest.goal, overall, used, front, node, key, steps) {
             return Some(key);
         }
         front.take(at);
@@ -163,11 +164,11 @@ fn search(
         let hub = Hub {
             node,
             key,
-            room: most - key,
+            room: quest.most - key,
         };
         spread(graph, hub, overall, used, used, front);
     }
-    beyond(most)
+    quest.beyond()
 }
 
 // The whole search, from the last node of the branch's beginning. No node has been met.
@@ -182,23 +183,21 @@ pub fn search_from(
     requires overall_long { length overall.now ≡ graph.now.nodes + 1 }
     requires small { Small (length overall.now) overall.now }
     requires from { quest.from < length overall.now }
-    requires most { quest.most ≤ longest }
     requires used_long { length used.now ≡ length overall.now }
     requires barred_long { length barred.now ≡ length overall.now }
     requires places { front.old.places ≡ length overall.now }
     ensures places { front.new.places ≡ front.old.places }
     ensures level { IfSome result (λ cost. cost ≤ longest) }
 {
-    let most = quest.most;
     let key = overall[quest.from];
-    if most < key {
-        return beyond(most);
+    if quest.most < key {
+        return quest.beyond();
     }
     let hub = Hub {
         node: quest.from,
         key,
-        room: most - key,
+        room: quest.most - key,
     };
     spread(graph, hub, overall, used, barred, front);
-    search(graph, quest.goal, overall, used, front, most)
+    search(graph, quest, overall, used, front)
 }

@@ -2,7 +2,7 @@
 ghost use Rattle.std.specs.Prelude.{◌≡◌, true, false, List, ℕ, ◌+◌, ◌≤◌, ◌<◌, length, get_or};
 ghost use Rattle.terms.specs.Lists.{elem};
 ghost use Rattle.star.specs.Graphs.{arcs_of};
-ghost use Rattle.exits.specs.Small.{Small, longest};
+ghost use Rattle.exits.specs.Small.{Small};
 ghost use Rattle.exits.specs.Walks.{Consistent};
 
 use crate::front::Front;
@@ -24,7 +24,6 @@ pub fn sharpen(
     requires overall_long { length overall.now ≡ graph.now.nodes + 1 }
     requires small { Small (length overall.now) overall.now }
     requires from { quest.from < length overall.now }
-    requires most { quest.most ≤ longest }
     requires labels_long { length labels.old ≡ length overall.now }
     requires used_long { length used.now ≡ length overall.now }
     requires barred_long { length barred.now ≡ length overall.now }
