@@ -10,6 +10,7 @@ use mathlib.Core.List.Memᴰ
 use mathlib.Core.List.{List, [], ◌∷◌, ◌++◌, map, append-nil}
 use lib.ListN.{length, get_or, take, set, length-map}
 use lib.Seq.{take-suc, take-suc-set}
+use borrow.Rule.Slice.PartMut.{put_mid, post_of}
 use borrow.Author.Tests.{eqb-false, ne_eqb, not-true}
 use Rattle.terms.specs.Lists.{◌∈◌, keep, pick, numbers}
 use Rattle.terms.specs.Network.{Net, mark, cost_column, restrict, open_in, open_everywhere, common, Admitted}
@@ -72,6 +73,15 @@ module _ (f : ℕ → Bool) (old now : List ℕ) (i front : ℕ) (here : i < len
   pub index_dropped : f (get_or old i 0) ≡ false → take front now ≡ keep f (take (i + 1) old)
   unfolding keep
   index_dropped n = so_far ∙ sym (keep_next ∙ rw n (append-nil (keep f (take i old))))
+
+-- what stands at the front of a part that was lent from the beginning on
+take_front : (r : ℕ) (part rest : List ℕ) → r ≤ length part → take r (part ++ rest) ≡ take r part
+take_front zero part rest h = refl
+take_front (suc r) [] rest h = absurd (omega arith)
+take_front (suc r) (x ∷ part) rest h = ap (λ (l : List ℕ). x ∷ l) (take_front r part rest (omega arith))
+
+pub take_lent : (k r : ℕ) (old part : List ℕ) → r ≤ length part → take r (put_mid 0 k old part) ≡ take r part
+take_lent k r old part h = take_front r part (post_of 0 k old) h
 
 -- ---- which arcs are open
 -- in the columns 1 to u

@@ -1,6 +1,9 @@
 // A column of an accepted image made ready for the search of paths: the graph of the arcs that are open in
 // it, and their labels; the arcs that are open in every column, and all arcs, each with all columns. Beside the
 // image stands a map of closed arcs, which may be empty.
+// That the column and the goal are of the image and that the lent slices have room is asked of each function: a
+// goal comes without a start (Label has none), and a struct over lent `&mut` slices would be taken apart again
+// before the star is cut to its arcs and read as a graph.
 ghost use Rattle.std.specs.Prelude.{◌≡◌, [], ◌+◌, ◌*◌, ◌≤◌, ◌<◌, length, take};
 ghost use Rattle.closures.specs.Map.{without};
 ghost use Rattle.star.specs.Graphs.{arcs_of};
@@ -88,7 +91,8 @@ pub fn load_left(
     m
 }
 
-// The same of the whole image: the map that is handed down closes no arc.
+// The same of the whole image: the map that is handed down closes no arc. The code is one call; it stands here
+// since each caller without a map would else repeat the proof that the empty map leaves the whole network.
 pub fn load_whole(
     network: &Network<'_>,
     u: u32,

@@ -10,10 +10,11 @@ ghost use Rattle.loading.specs.Selected.{Indices, at_places, selected, in_a_row}
 use crate::network::Network;
 use image::{Word, costs_start, read_words};
 
-// The tails and heads of the arcs at these indices.
+// The tails and heads of the arcs at these indices, each in a slice of its own: the star keeps them apart.
 pub fn read_arcs(network: &Network<'_>, kept: &[u16], tails: &mut [u16], heads: &mut [u16])
     requires indices { Indices network.now.sizes.m kept.now }
-    requires tails_len { (length tails.old ≡ length kept.now) × (length heads.old ≡ length kept.now) }
+    requires tails_len { length tails.old ≡ length kept.now }
+    requires heads_len { length heads.old ≡ length kept.now }
     ensures tails_after { tails.new ≡ map (λ a. a.0) (selected kept.now (net network.now)).arcs }
     ensures heads_after { heads.new ≡ map (λ a. a.1) (selected kept.now (net network.now)).arcs }
 {
@@ -68,7 +69,8 @@ pub fn read_column(network: &Network<'_>, u: u32, kept: &[u16], weights: &mut [u
     copy_costs(&network.image[start..start + 4 * m], m, kept, weights);
 }
 
-// The costs of all columns for the arcs at these indices, one column after the other.
+// The costs of all columns for the arcs at these indices, one column after the other. The parts are cut by
+// hand: there may be no arc, and `chunks_exact_mut` takes no parts of length 0.
 pub fn read_columns(network: &Network<'_>, kept: &[u16], costs: &mut [u32])
     requires indices { Indices network.now.sizes.m kept.now }
     requires costs_len { length costs.old ≡ length kept.now * network.now.sizes.k }

@@ -19,12 +19,13 @@ pub fn number_arcs(kept: &mut [u16])
     requires { length kept.old ≤ 1000 }
     ensures { kept.new ≡ numbers 0 (length kept.old) }
 {
-    for i in 0..kept.len() {
-        kept[i] = i as u16;
+    for (i, index) in kept.iter_mut().enumerate() {
+        *index = i as u16;
     }
 }
 
-// The indices of the arcs that the map leaves open, at the front. Returns how many.
+// The indices of the arcs that the map leaves open, at the front. Returns how many. The front is counted by
+// hand, here and in `drop_marked`: std has no `retain` for a slice.
 fn number_left(closed: &[u64], kept: &mut [u16]) -> usize
     requires { length kept.old ≤ 1000 }
     ensures { (result ≤ length kept.old) × (take result kept.new ≡ passing (left closed.now) (length kept.old)) }
@@ -51,14 +52,15 @@ fn select_left(closed: &[u64], kept: &mut [u16]) -> usize
     number_left(closed, kept)
 }
 
-// Of the first `count` indices those whose cost is not the mark, moved to the front. Returns how many.
-fn drop_marked(costs: &[u8], m: usize, kept: &mut [u16], count: usize) -> usize
-    requires m_in_bounds { (4 * m ≤ length costs.now) × (m ≤ 1000) × (count ≤ length kept.old) }
-    requires indices { Indices m (take count kept.old) }
-    ensures { (result ≤ count) × (take result kept.new ≡ keep (unmarked_at (decode 4 m costs.now)) (take count kept.old)) }
+// Of these indices those whose cost is not the mark, moved to the front. Returns how many.
+fn drop_marked(costs: &[u8], m: usize, kept: &mut [u16]) -> usize
+    requires costs_long { 4 * m ≤ length costs.now }
+    requires few_costs { m ≤ 1000 }
+    requires indices { Indices m kept.old }
+    ensures { (result ≤ length kept.old) × (take result kept.new ≡ keep (unmarked_at (decode 4 m costs.now)) kept.old) }
 {
     let mut front = 0;
-    for i in 0..count {
+    for i in 0..kept.len() {
         let arc = kept[i];
         if u32::read(costs, 4 * (arc as usize)) != CLOSED {
             kept[front] = arc;
@@ -68,16 +70,15 @@ fn drop_marked(costs: &[u8], m: usize, kept: &mut [u16], count: usize) -> usize
     front
 }
 
-// Of the first `count` indices of arcs those that are open in column u, moved to the front.
-fn keep_open(network: &Network<'_>, u: u32, kept: &mut [u16], count: usize) -> usize
+// Of these indices of arcs those that are open in column u, moved to the front. Returns how many.
+fn keep_open(network: &Network<'_>, u: u32, kept: &mut [u16]) -> usize
     requires column { InColumn network.now.image.now u }
-    requires count_in_bounds { count ≤ length kept.old }
-    requires indices { Indices network.now.sizes.m (take count kept.old) }
-    ensures { (result ≤ count) × (take result kept.new ≡ keep (open_in (net network.now) u) (take count kept.old)) }
+    requires indices { Indices network.now.sizes.m kept.old }
+    ensures { (result ≤ length kept.old) × (take result kept.new ≡ keep (open_in (net network.now) u) kept.old) }
 {
     let m = network.sizes.m as usize;
     let start = column_start(network.sizes.m, u);
-    drop_marked(&network.image[start..start + 4 * m], m, kept, count)
+    drop_marked(&network.image[start..start + 4 * m], m, kept)
 }
 
 // Writes the indices of the arcs that the map leaves and that are open in column u, and returns how many
@@ -91,7 +92,7 @@ pub fn select_open(network: &Network<'_>, closed: &[u64], u: u32, kept: &mut [u1
     if network.sizes.edition == 1 {
         return count;
     }
-    keep_open(network, u, kept, count)
+    keep_open(network, u, &mut kept[..count])
 }
 
 // Writes the indices of the arcs that the map leaves and that are open in every column, and returns how many
@@ -105,7 +106,7 @@ pub fn select_common(network: &Network<'_>, closed: &[u64], kept: &mut [u16]) ->
         return count;
     }
     for u in 0..network.sizes.k {
-        count = keep_open(network, u + 1, kept, count);
+        count = keep_open(network, u + 1, &mut kept[..count]);
     }
     count
 }

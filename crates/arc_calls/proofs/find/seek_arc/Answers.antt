@@ -16,7 +16,7 @@ pub read_arcs-requires : goal.read_arcs-requires
 read_arcs-requires c =
     let all : c.number_arcs.new.kept ≡ numbers 0 c.args.network.now.sizes.m = c.number_arcs.ensures ∙ ap (numbers 0) (part_long 1000 _ (few_arcs c.args.network.now.accepted)) in
     let long = c.number_arcs.auto.kept ∙ part_long 1000 _ (few_arcs c.args.network.now.accepted) in
-    record { indices = subst (Indices c.args.network.now.sizes.m) (sym all) (all_indices c.args.network.now.sizes.m); tails_len = (part_long 1000 _ (few_arcs c.args.network.now.accepted) ∙ sym long, part_long 1000 _ (few_arcs c.args.network.now.accepted) ∙ sym long) }
+    record { indices = subst (Indices c.args.network.now.sizes.m) (sym all) (all_indices c.args.network.now.sizes.m); tails_len = part_long 1000 _ (few_arcs c.args.network.now.accepted) ∙ sym long; heads_len = part_long 1000 _ (few_arcs c.args.network.now.accepted) ∙ sym long }
 
 pub find_arc-requires : goal.find_arc-requires
 find_arc-requires c =

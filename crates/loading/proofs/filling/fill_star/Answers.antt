@@ -43,7 +43,10 @@ pub slice_bounds-first_in-end : goal.slice_bounds-first_in-end
 slice_bounds-first_in-end c = sym (part_long 201 _ (places_fit c.args.network.now.accepted))
 
 pub read_arcs-requires-clause-tails_len : goal.read_arcs-requires-clause-tails_len
-read_arcs-requires-clause-tails_len c = let m = part_long 1000 _ (kept_fit c.args.network.now.accepted c.requires.indices) in (m, m)
+read_arcs-requires-clause-tails_len c = part_long 1000 _ (kept_fit c.args.network.now.accepted c.requires.indices)
+
+pub read_arcs-requires-clause-heads_len : goal.read_arcs-requires-clause-heads_len
+read_arcs-requires-clause-heads_len c = part_long 1000 _ (kept_fit c.args.network.now.accepted c.requires.indices)
 
 pub out_starts-requires : goal.out_starts-requires
 out_starts-requires c =

@@ -40,4 +40,4 @@ pub returns : goal.returns
 returns c =
     let done : c.loop-i.i ≡ length c.args.kept.now = omega arith in
     let long = selected_length c.args.kept.now (net_of c.args.network.now.image.now) in
-    record { tails_after = c.loop-i.invariant.3 ∙ rw (done, take_all (length c.args.kept.now) (map (λ (a : ℕ × ℕ). a.0) (selected c.args.kept.now (net_of c.args.network.now.image.now)).arcs) (simp length-map (omega arith))) (whole _ c.args.tails.now c.requires.tails_len.0); heads_after = c.loop-i.invariant.4 ∙ rw (done, take_all (length c.args.kept.now) (map (λ (a : ℕ × ℕ). a.1) (selected c.args.kept.now (net_of c.args.network.now.image.now)).arcs) (simp length-map (omega arith))) (whole _ c.args.heads.now c.requires.tails_len.1) }
+    record { tails_after = c.loop-i.invariant.3 ∙ rw (done, take_all (length c.args.kept.now) (map (λ (a : ℕ × ℕ). a.0) (selected c.args.kept.now (net_of c.args.network.now.image.now)).arcs) (simp length-map (omega arith))) (whole _ c.args.tails.now c.requires.tails_len); heads_after = c.loop-i.invariant.4 ∙ rw (done, take_all (length c.args.kept.now) (map (λ (a : ℕ × ℕ). a.1) (selected c.args.kept.now (net_of c.args.network.now.image.now)).arcs) (simp length-map (omega arith))) (whole _ c.args.heads.now c.requires.heads_len) }

@@ -2,7 +2,7 @@
 use Prim.Native.Nat.{◌+◌, ◌*◌, ◌≤◌}
 use native.Mathlib.Omega.{arith}
 use mathlib.Core.Path.{◌∙◌, ap}
-use lib.ListN.{length, take}
+use lib.ListN.{length}
 use Rattle.terms.specs.Lists.{keep}
 use Rattle.terms.specs.Network.{open_in}
 use Rattle.loading.specs.Selected.{unmarked_at}
@@ -14,11 +14,11 @@ column_start-start-requires c = column_few c.args.network.now.accepted c.require
 
 pub drop_marked-requires : goal.drop_marked-requires
 drop_marked-requires c =
-    record { m_in_bounds = (omega (arith, column_bytes c.args.network.now.accepted c.requires.column c.column_start-start.ensures), few_arcs c.args.network.now.accepted, c.requires.count_in_bounds); indices = c.requires.indices }
+    record { costs_long = omega (arith, column_bytes c.args.network.now.accepted c.requires.column c.column_start-start.ensures); few_costs = few_arcs c.args.network.now.accepted; indices = c.requires.indices }
 
 pub returns : goal.returns
 unfolding open_in
-returns c = (c.drop_marked.ensures.0, c.drop_marked.ensures.1 ∙ ap (λ l. keep (unmarked_at l) (take c.args.count c.args.kept.now)) (column_read c.args.network.now.accepted c.requires.column c.column_start-start.ensures))
+returns c = (c.drop_marked.ensures.0, c.drop_marked.ensures.1 ∙ ap (λ l. keep (unmarked_at l) c.args.kept.now) (column_read c.args.network.now.accepted c.requires.column c.column_start-start.ensures))
 
 pub overflow_add-start : goal.overflow_add-start
 overflow_add-start c =

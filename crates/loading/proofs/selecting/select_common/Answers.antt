@@ -2,14 +2,16 @@
 use Prim.Native.Nat.{◌+◌}
 use native.Mathlib.Omega.{arith}
 use mathlib.Core.Path.{◌≡◌, refl, sym, ◌∙◌, ap, subst}
-use lib.ListN.{take}
+use lib.ListN.{length, take}
+use lib.Seq.{length-take-le}
+use borrow.Rule.Slice.PartMut.{same_len_mid}
 use Rattle.terms.specs.Lists.{keep, numbers}
 use Rattle.terms.specs.Network.{open_in, open_everywhere, Admitted}
 use Rattle.terms.proofs.ListLaws.{keep_keep}
 use Rattle.image.specs.Layout.{net_of}
 use Rattle.closures.specs.Map.{left}
 use Rattle.loading.specs.Selected.{passing}
-use Rattle.loading.proofs.SelectLaws.{open_upto, none_closed, one_column_more, open_in_all, first_edition_common, indices_of}
+use Rattle.loading.proofs.SelectLaws.{open_upto, none_closed, one_column_more, open_in_all, first_edition_common, indices_of, take_lent}
 use Rattle.loading.proofs.DecodeLaws.{admitted, few_arcs}
 use Rattle.loading.proofs.selecting.select_common.Goals as goal
 
@@ -34,8 +36,10 @@ loop-u-init c =
     (omega arith, omega (arith, c.select_left-count.ensures.0, c.requires), refl, all ∙ none_closed (net_of c.args.network.now.image.now) _)
 
 pub loop-u-preserved : goal.loop-u-preserved
-loop-u-preserved c = (omega (arith, c.loop-u-test.true), omega (arith, c.keep_open-count.ensures.0, c.loop-u.invariant.1), c.keep_open-count.auto.kept ∙ c.loop-u.invariant.2, c.keep_open-count.ensures.1 ∙ ap (keep (open_in (net_of c.args.network.now.image.now) (c.loop-u.u + 1))) c.loop-u.invariant.3 ∙ one_column_more (net_of c.args.network.now.image.now) c.loop-u.u _)
+loop-u-preserved c =
+    let lent : length (take c.loop-u.count c.loop-u.kept) ≡ c.loop-u.count = length-take-le _ _ (omega (arith, c.loop-u.invariant.1, c.loop-u.invariant.2, c.requires, c.select_left-count.auto.kept)) in
+    (omega (arith, c.loop-u-test.true), omega (arith, c.keep_open-count.ensures.0, lent, c.loop-u.invariant.1), same_len_mid 0 c.loop-u.count c.loop-u.kept c.keep_open-count.new.kept c.keep_open-count.auto.kept ∙ c.loop-u.invariant.2, take_lent c.loop-u.count c.keep_open-count.result c.loop-u.kept c.keep_open-count.new.kept (omega (arith, c.keep_open-count.ensures.0, c.keep_open-count.auto.kept)) ∙ c.keep_open-count.ensures.1 ∙ ap (keep (open_in (net_of c.args.network.now.image.now) (c.loop-u.u + 1))) c.loop-u.invariant.3 ∙ one_column_more (net_of c.args.network.now.image.now) c.loop-u.u _)
 
 pub keep_open-count-requires : goal.keep_open-count-requires
 keep_open-count-requires c =
-    record { column = record { from = omega arith; upto = omega (arith, c.loop-u-test.true, c.args.network.now.accepted.columns_are) }; count_in_bounds = omega (arith, c.loop-u.invariant.1, c.loop-u.invariant.2, c.requires, c.select_left-count.auto.kept); indices = indices_of (left c.args.closed.now) (open_upto (net_of c.args.network.now.image.now) c.loop-u.u) c.args.network.now.sizes.m c.loop-u.invariant.3 }
+    record { column = record { from = omega arith; upto = omega (arith, c.loop-u-test.true, c.args.network.now.accepted.columns_are) }; indices = indices_of (left c.args.closed.now) (open_upto (net_of c.args.network.now.image.now) c.loop-u.u) c.args.network.now.sizes.m c.loop-u.invariant.3 }
