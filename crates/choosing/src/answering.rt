@@ -44,9 +44,10 @@ fn state(found: Finding, length: usize) -> Decision
 pub fn least_regret(contest: &Contest<'_>, work: &mut [u32], route: &mut [u16]) -> Decision
     requires space { Space (nodes_in contest.now) contest.now.query.slots work.old }
     requires route_long { nodes_in contest.now ≤ length route.old }
-    ensures work_unchanged { drop (contest.now.query.slots * (nodes_in contest.now + 16)) work.new ≡ drop (contest.now.query.slots * (nodes_in contest.now + 16)) work.old }
-    ensures result_after { answered (take (chosen_length result) route.new) result ≡ answer_in contest.now }
-    ensures route_after { (route.new ≡ take (chosen_length result) route.new ++ drop (chosen_length result) route.old) × (chosen_length result ≤ nodes_in contest.now) }
+    ensures beyond_same { drop (contest.now.query.slots * (nodes_in contest.now + 16)) work.new ≡ drop (contest.now.query.slots * (nodes_in contest.now + 16)) work.old }
+    ensures answer_given { answered (take (chosen_length result) route.new) result ≡ answer_in contest.now }
+    ensures path_fits { chosen_length result ≤ nodes_in contest.now }
+    ensures rest_kept { route.new ≡ take (chosen_length result) route.new ++ drop (chosen_length result) route.old }
 {
     let found = search(contest, work);
     let place = found.leader.place;

@@ -1,4 +1,5 @@
-// What the search for the path of least greatest regret is asked.
+// What the search for the path of least greatest regret is asked. The entries and routes of the workspace are made where
+// they are read, from its count there: a method that made them would name each of their fields again in its contract.
 ghost use Rattle.choosing.specs.Given.{Posed};
 
 use measuring::Columns;

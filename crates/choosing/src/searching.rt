@@ -24,7 +24,7 @@ pub struct Finding {
 // column's best and the least figure so far.
 pub fn search(contest: &Contest<'_>, work: &mut [u32]) -> Finding
     requires { Space (nodes_in contest.now) contest.now.query.slots work.old }
-    ensures work_unchanged { drop (contest.now.query.slots * (nodes_in contest.now + 16)) work.new ≡ drop (contest.now.query.slots * (nodes_in contest.now + 16)) work.old }
+    ensures beyond_same { drop (contest.now.query.slots * (nodes_in contest.now + 16)) work.new ≡ drop (contest.now.query.slots * (nodes_in contest.now + 16)) work.old }
     ensures counted { result.leader.place < result.count }
     ensures decided { Decided (nodes_in contest.now) contest.now.query.start work.new (answer_in contest.now) result }
 {
@@ -32,6 +32,8 @@ pub fn search(contest: &Contest<'_>, work: &mut [u32]) -> Finding
     let wanted = contest.wanted;
     let best = contest.best();
     let mut count = begin(query, work);
+    // before a path is counted: each figure is smaller, and with `best` it is FAR, so that one comparison serves for the
+    // first path and for the others. An Option would be opened at each, here and in `next_deviation`
     let mut leader = Leader {
         place: 0,
         figure: FAR - best,

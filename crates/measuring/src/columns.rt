@@ -24,8 +24,8 @@ impl<'a> Columns<'a> {
     // The cost of each arc in column u.
     pub fn costs_in(&self, u: usize) -> &'a [u32]
         requires { IsColumn self.now u }
-        ensures value { result.now ≡ costs_in self.now u }
-        ensures long { length result.now ≡ self.now.arcs }
+        ensures costs { result.now ≡ costs_in self.now u }
+        ensures one_per_arc { length result.now ≡ self.now.arcs }
     {
         let from = (u - 1) * self.arcs;
         &self.costs[from..from + self.arcs]

@@ -32,9 +32,10 @@ returns c =
     let laid = all_laid c.length-length.result path c.args.route.now c.lay_out.new.path long c.lay_out.ensures in
     let behind = behind_laid c.length-length.result path c.args.route.now c.lay_out.new.path long c.lay_out.ensures in
     record {
-      work_unchanged = c.search-found.ensures.work_unchanged;
-      result_after = c.state.ensures.answers _ ∙ ap (λ (p : Route). told p c.search-found.result) (ap (λ (i : ℕ). take i c.lay_out.new.path) c.state.ensures.length_is ∙ laid) ∙ D.answers;
-      route_after = (subst (λ (i : ℕ). c.lay_out.new.path ≡ take i c.lay_out.new.path ++ drop i c.args.route.now) (sym c.state.ensures.length_is) behind, omega (arith, c.state.ensures.length_is, len_upto D.rooted c.length-length.ensures));
+      beyond_same = c.search-found.ensures.beyond_same;
+      answer_given = c.state.ensures.answers _ ∙ ap (λ (p : Route). told p c.search-found.result) (ap (λ (i : ℕ). take i c.lay_out.new.path) c.state.ensures.length_is ∙ laid) ∙ D.answers;
+      path_fits = omega (arith, c.state.ensures.length_is, len_upto D.rooted c.length-length.ensures);
+      rest_kept = subst (λ (i : ℕ). c.lay_out.new.path ≡ take i c.lay_out.new.path ++ drop i c.args.route.now) (sym c.state.ensures.length_is) behind;
     }
 
 pub invariant_of-entries : goal.invariant_of-entries

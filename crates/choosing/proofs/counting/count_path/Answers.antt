@@ -28,7 +28,7 @@ measure-found-requires c =
     let long = part_long 200 c.length-len.result (path_room c.args.ranked.now c.args.rank c.requires.inside c.length-len.ensures) in
     let laid = path_laid c.args.ranked.now c.args.rank c.requires.inside c.length-len.ensures _ c.lay_out.new.path (c.lay_out.auto.path ∙ long) c.lay_out.ensures in
     let m = measurable_in x laid c.requires.is_path in
-    record { bests_long = x.posed.priced.bests_long; by_arcs = m.0; length = m.1.0; no_less = m.1.1 }
+    record { bests_long = x.posed.priced.bests_long; by_arcs = m.0; from_2_to_200_nodes = m.1.0; no_less = m.1.1 }
 
 pub returns-then-found-limit : goal.returns-then-found-limit
 returns-then-found-limit c =

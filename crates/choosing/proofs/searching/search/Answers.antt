@@ -19,7 +19,7 @@ returns-then-is_none c =
     let x = c.args.contest.now in
     let o = outlook_none c.next_deviation.ensures c.if-is_none.ensures in
     let some = counted_some x c.loop-j.invariant.0 o refl in
-    record { work_unchanged = c.loop-j.invariant.1 ∙ c.begin-count.ensures.beyond; counted = (c.loop-j.invariant.0.leading.leads some).counted; decided = decided c.loop-j.invariant.0 some (omega arith) (λ e. clash e refl) o }
+    record { beyond_same = c.loop-j.invariant.1 ∙ c.begin-count.ensures.beyond; counted = (c.loop-j.invariant.0.leading.leads some).counted; decided = decided c.loop-j.invariant.0 some (omega arith) (λ e. clash e refl) o }
 
 pub count_path-leader-requires : goal.count_path-leader-requires
 count_path-leader-requires c =
@@ -67,4 +67,4 @@ returns c =
     let x = c.args.contest.now in
     let done : c.loop-j.j ≡ x.wanted = omega arith in
     let counting = subst (λ (j : ℕ). Counting x c.loop-j.work c.loop-j.count j c.loop-j.leader) done c.loop-j.invariant.0 in
-    record { work_unchanged = c.loop-j.invariant.1 ∙ c.begin-count.ensures.beyond; counted = (counting.leading.leads x.posed.some_wanted).counted; decided = decided counting x.posed.some_wanted (omega arith) (λ _. omega arith) c.next_deviation-2.ensures }
+    record { beyond_same = c.loop-j.invariant.1 ∙ c.begin-count.ensures.beyond; counted = (counting.leading.leads x.posed.some_wanted).counted; decided = decided counting x.posed.some_wanted (omega arith) (λ _. omega arith) c.next_deviation-2.ensures }

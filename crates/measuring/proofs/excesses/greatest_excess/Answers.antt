@@ -12,7 +12,7 @@ use Rattle.measuring.proofs.excesses.greatest_excess.Goals.{then-greatest-excess
 pub returns-then-limit-excess : goal.returns-then-limit-excess
 returns-then-limit-excess c =
     let columns = c.args.columns.now in
-    let excess-is = excess_is columns c.args.bests.now c.args.arcs.now c.loop-i.i c.costs_in.ensures.value c.arc_sum.ensures in
+    let excess-is = excess_is columns c.args.bests.now c.args.arcs.now c.loop-i.i c.costs_in.ensures.costs c.arc_sum.ensures in
     record {
       exact = λ h. absurd (omega (arith, c.if-limit-excess.true));
       beyond = λ _. omega (arith, c.if-limit-excess.true, excess-is, excess_within columns.arcs columns.costs.now c.args.bests.now c.args.arcs.now (c.loop-i.i + 1) (omega arith) (omega arith));
@@ -20,7 +20,7 @@ returns-then-limit-excess c =
 
 pub loop-i-preserved : goal.loop-i-preserved
 loop-i-preserved c =
-    let excess-is = excess_is c.args.columns.now c.args.bests.now c.args.arcs.now c.loop-i.i c.costs_in.ensures.value c.arc_sum.ensures in
+    let excess-is = excess_is c.args.columns.now c.args.bests.now c.args.arcs.now c.loop-i.i c.costs_in.ensures.costs c.arc_sum.ensures in
     elim c.if-greatest-excess.branch [ then-greatest-excess+else-limit-excess w ↦ raised (omega arith) c.loop-i.invariant excess-is w.if-greatest-excess.true (ap (λ g. g.figure) w.greatest-is) (ap (λ g. g.worst) w.greatest-is) | else-greatest-excess w ↦ kept (omega arith) c.loop-i.invariant excess-is w.if-greatest-excess.false (ap (λ g. g.figure) w.greatest-is) (ap (λ g. g.worst) w.greatest-is) ]
 
 pub returns : goal.returns

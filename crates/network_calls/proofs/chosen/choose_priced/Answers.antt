@@ -10,5 +10,5 @@ use Rattle.network_calls.proofs.chosen.choose_priced.Goals as goal
 
 pub returns : goal.returns
 returns c =
-    let fits : chosen_length c.least_regret-decision.result ≤ length c.least_regret-decision.new.route = omega (arith, c.least_regret-decision.ensures.route_after.1, c.least_regret-decision.auto.route, c.requires.path_long) in
-    record { result_value = decision_values c.least_regret-decision.result _ (chosen_long c.least_regret-decision.result c.args.path.now c.least_regret-decision.ensures.result_after c.least_regret-decision.ensures.route_after.0 fits) ∙ ap robust_values c.least_regret-decision.ensures.result_after; path_after = chosen_written c.least_regret-decision.result c.args.path.now c.least_regret-decision.ensures.result_after c.least_regret-decision.ensures.route_after.0 fits; work_after = c.clear.ensures ∙ ap (λ (k : ℕ). replicate k 0) c.least_regret-decision.auto.work }
+    let fits : chosen_length c.least_regret-decision.result ≤ length c.least_regret-decision.new.route = omega (arith, c.least_regret-decision.ensures.path_fits, c.least_regret-decision.auto.route, c.requires.path_long) in
+    record { result_value = decision_values c.least_regret-decision.result _ (chosen_long c.least_regret-decision.result c.args.path.now c.least_regret-decision.ensures.answer_given c.least_regret-decision.ensures.rest_kept fits) ∙ ap robust_values c.least_regret-decision.ensures.answer_given; path_after = chosen_written c.least_regret-decision.result c.args.path.now c.least_regret-decision.ensures.answer_given c.least_regret-decision.ensures.rest_kept fits; work_after = c.clear.ensures ∙ ap (λ (k : ℕ). replicate k 0) c.least_regret-decision.auto.work }

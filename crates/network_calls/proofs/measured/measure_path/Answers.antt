@@ -19,7 +19,7 @@ pub measure-found-requires : goal.measure-found-requires
 measure-found-requires c =
     let held = subst (λ net. Held net c.args.columns.now c.args.start c.args.goal c.price.new.bests) (without_none (net_of c.args.network.now.image.now)) c.price.ensures in
     let m = measurable_open (admitted c.args.network.now.accepted) c.args.columns.now c.requires.common c.requires.ends held c.requires.path in
-    record { bests_long = held.priced.bests_long; by_arcs = m.0; length = m.1.0; no_less = m.1.1 }
+    record { bests_long = held.priced.bests_long; by_arcs = m.0; from_2_to_200_nodes = m.1.0; no_less = m.1.1 }
 
 pub returns : goal.returns
 returns c =

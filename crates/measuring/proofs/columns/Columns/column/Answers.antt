@@ -5,4 +5,4 @@ use Rattle.measuring.proofs.ColumnLaws.{column_graph}
 use Rattle.measuring.proofs.columns.Columns.column.Goals as goal
 
 pub returns-clause-graph : goal.returns-clause-graph
-returns-clause-graph c = ap (graph_of c.args.self.now.star.now) c.costs_in.ensures.value ∙ sym (column_graph c.args.self.now c.requires)
+returns-clause-graph c = ap (graph_of c.args.self.now.star.now) c.costs_in.ensures.costs ∙ sym (column_graph c.args.self.now c.requires)
