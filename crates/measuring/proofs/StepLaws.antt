@@ -3,18 +3,18 @@ use Prim.Native.Nat.{ℕ, suc, ◌+◌, ◌-◌, ◌≤◌, ◌<◌}
 use native.Mathlib.Omega.{arith}
 use native.Mathlib.Nat.{eq-or-lt_of_le}
 use mathlib.Core.Path.{◌≡◌, refl, sym, ◌∙◌, ap, ap₂, subst}
-use mathlib.Core.Bool.{true}
 use mathlib.Core.Logic.{⊎_elim}
 use mathlib.Core.List.Memᴰ
 use mathlib.Core.List.{List, [], ◌∷◌}
 use lib.Dec.{eqb}
 use Rattle.std.specs.Prelude.{Option, unwrap_or}
-use lib.ListN.{length, get_or, set}
+use lib.ListN.{length, get_or, set, take, drop, length-drop}
+use lib.Seq.{get_or-take, get_or-drop}
 use Rattle.std.proofs.lemmas.List.Elements.{All-from_get_or}
 use Rattle.std.proofs.lemmas.List.Sums.{sum_by-cons}
 use Rattle.terms.specs.Lists.{largest, index}
-use Rattle.terms.specs.Network.{Graph, linked, column}
-use Rattle.terms.specs.Paths.{Route, ByArcs, cost, cost_from}
+use Rattle.terms.specs.Network.{column}
+use Rattle.terms.specs.Paths.{cost, cost_from}
 use Rattle.terms.specs.Regret.{over, figure_over, worst_over}
 use Rattle.terms.proofs.ListLaws.{map_numbers, largest_ge, mem_numbers}
 use Rattle.star.specs.Arcs.{graph, Arcs, At}
@@ -23,7 +23,6 @@ use Rattle.star.proofs.Stores.{set_each}
 use Rattle.star.specs.Star.{Star}
 use Rattle.star.specs.Found.{ArcFound, here, missing}
 use Rattle.star.specs.Layout.{tails_of, heads_of}
-use Rattle.terms.proofs.PathLaws.{arcs_linked}
 use Rattle.measuring.specs.Networks.{network_of, costs_in, IsColumn}
 use Rattle.measuring.specs.declared.columns.Columns.{Columns}
 use Rattle.measuring.specs.Steps.{Steps, sum_of, excess, excesses, Measured, Summed}
@@ -42,14 +41,20 @@ excess_is c bests arcs i own e =
     ap₂ (λ (x y : ℕ). x - y) (e ∙ ap (λ (l : List ℕ). sum_of l arcs) own) (ap (λ (x : ℕ). get_or bests x 0) place)
 
 -- ---- the arcs of a path, found one by one
-pub step_linked : {g : Graph} {p : Route} (i : ℕ) → ByArcs g p → 1 ≤ i → i < length p → linked g (get_or p (i - 1) 0) (get_or p i 0) ≡ true
-step_linked {g} {p} i b h l = let e : i - 1 + 1 ≡ i = omega arith in rw e at (arcs_linked (i - 1) b (omega arith))
-
-pub steps_more : {ts hs path arcs : List ℕ} {i a : ℕ} → 1 ≤ i → i - 1 < length arcs → At ts hs (get_or path (i - 1) 0) (get_or path i 0) a → Steps ts hs path arcs i → Steps ts hs path (set arcs (i - 1) a) (i + 1)
-steps_more {ts} {hs} {path} {arcs} {i} {a} from inside found s = record { step = set_each (λ j x. suc j < i + 1 → At ts hs (get_or path j 0) (get_or path (suc j) 0) x) arcs (i - 1) a inside (λ _. here) (λ j n h. s.step j (⊎_elim (λ e. absurd (n (omega arith))) (λ l. l) (eq-or-lt_of_le {n = suc j} {m = i} (omega arith)))) }
+-- the pair that begins what is left after i nodes: these are nodes i and i + 1
+pub pair_at : (path : List ℕ) {left pair : List ℕ} (i : ℕ) → left ≡ drop i path → 2 ≤ length left → pair ≡ take 2 left → (i + 1 < length path) × (get_or pair 0 0 ≡ get_or path i 0) × (get_or pair 1 0 ≡ get_or path (i + 1) 0)
+pair_at path {left} {pair} i rest some first =
+    let e : i + 0 ≡ i = omega arith in
+    (omega (arith, ap length rest, length-drop i path), at 0 (omega arith) ∙ ap (λ (x : ℕ). get_or path x 0) e, at 1 (omega arith))
   where
-    here : At ts hs (get_or path (i - 1) 0) (get_or path (suc (i - 1)) 0) a
-    here = let e : suc (i - 1) ≡ i = omega arith in rw e found
+    at : (k : ℕ) → k < 2 → get_or pair k 0 ≡ get_or path (i + k) 0
+    at k h = ap (λ (l : List ℕ). get_or l k 0) first ∙ get_or-take 2 left k 0 h ∙ ap (λ (l : List ℕ). get_or l k 0) rest ∙ get_or-drop i path k 0
+
+pub steps_more : {ts hs path arcs : List ℕ} {i a : ℕ} → i < length arcs → At ts hs (get_or path i 0) (get_or path (i + 1) 0) a → Steps ts hs path arcs (i + 1) → Steps ts hs path (set arcs i a) (i + 1 + 1)
+steps_more {ts} {hs} {path} {arcs} {i} {a} inside found s = record { step = set_each (λ j x. suc j < i + 1 + 1 → At ts hs (get_or path j 0) (get_or path (suc j) 0) x) arcs i a inside (λ _. here) (λ j n h. s.step j (⊎_elim (λ e. absurd (n (omega arith))) (λ l. l) (eq-or-lt_of_le {n = suc j} {m = i + 1} (omega arith)))) }
+  where
+    here : At ts hs (get_or path i 0) (get_or path (suc i) 0) a
+    here = let e : suc i ≡ i + 1 = omega arith in rw e found
 
 -- what is found where there is an arc
 pub found_or : {hs first : List ℕ} {v y i n : ℕ} {ts : List ℕ} {o : Option ℕ} → ArcFound hs first v y o → Star n ts hs first → At ts hs v y i → At ts hs v y (unwrap_or o 0)

@@ -14,9 +14,8 @@ pub fn path_arcs(graph: &Graph<'_>, path: &[u16], arcs: &mut [u16])
 {
     let heads = graph.heads();
     let first_out = graph.first_out();
-    for i in 1..path.len() {
-        let v = path[i - 1] as usize;
+    for (i, step) in path.windows(2).enumerate() {
         // there is an arc to each next node
-        arcs[i - 1] = arc_between(heads, first_out, v, path[i]).unwrap_or(0);
+        arcs[i] = arc_between(heads, first_out, step[0] as usize, step[1]).unwrap_or(0);
     }
 }
