@@ -1,12 +1,14 @@
--- The decimal digits of a number: the equations by which they are written, and how many there are. Assumes nothing.
+-- The decimal digits of a number: the equations by which they are written, how many there are, and that they are those which std prints. Assumes nothing.
 use Prim.Native.Nat.{ℕ, zero, suc, ◌+◌, ◌/◌, ◌%◌, ◌^◌, ◌≤◌, ◌<◌}
 use native.Mathlib.Omega.{arith}
 use native.Mathlib.Nat.{pow-suc, div-lt_iff_lt-mul}
-use mathlib.Core.Path.{◌≡◌, ◌∙◌, ap}
+use mathlib.Core.Path.{◌≡◌, sym, ◌∙◌, ap}
 use mathlib.Core.Logic.{⊎_elim}
 use mathlib.Core.List.{List, [], ◌∷◌, ◌++◌}
 use lib.ListN.{length, length-append}
 use borrow.Author.Tests.{lt-ltb, le-ltb}
+use Rattle.std.specs.Fmt as std
+use Rattle.std.proofs.lemmas.Fmt.{decimal_digit, decimal_step}
 use Rattle.terms.proofs.ListLaws.{le_or_lt}
 use Rattle.sheet.specs.Text.{digit, digits, decimal}
 
@@ -59,3 +61,15 @@ pub length_word : (x : ℕ) → x < 4294967296 → length (decimal x) ≤ 10
 length_word x h =
     let h' : x < 10000000000 = omega arith in
     length_decimal 9 x h'
+
+-- ---- they are the digits that std prints
+std_digits : (k x : ℕ) → x < k → x < 2 ^ 64 → std.decimal x ≡ decimal x
+std_digits zero x h w = absurd (omega arith)
+std_digits (suc k) x h w =
+    ⊎_elim
+    (λ (s : 10 ≤ x). decimal_step x s w ∙ ap (λ (l : List ℕ). l ++ (digit (x % 10) ∷ [])) (std_digits k (x / 10) (omega arith) (omega arith)) ∙ sym (decimal_more x s))
+    (λ (s : x < 10). decimal_digit x s ∙ sym (decimal_small x s))
+    (le_or_lt 10 x)
+
+pub std_decimal : (x : ℕ) → x < 4294967296 → std.decimal x ≡ decimal x
+std_decimal x h = std_digits (suc x) x (omega arith) (omega arith)

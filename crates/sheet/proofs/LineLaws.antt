@@ -4,7 +4,7 @@ use native.Mathlib.Omega.{arith}
 use native.Mathlib.Numerals.{add-one}
 use mathlib.Core.Path.{◌≡◌, refl, sym, ◌∙◌, ap}
 use mathlib.Core.List.{List, [], ◌∷◌, ◌++◌, append_assoc, append-nil}
-use lib.ListN.{length, get_or, take, drop, length-append, take-append-drop}
+use lib.ListN.{length, get_or, take, length-append}
 use lib.Seq.{take-suc, get_or-take, take-length, length-take-le}
 use Rattle.terms.specs.Paths.{Route}
 use Rattle.terms.specs.Robust.{settled, left_open}
@@ -65,17 +65,6 @@ nodes_more p i h =
 
 pub nodes_all : (p : Route) (i : ℕ) → i ≡ length p → nodes_text (take i p) ≡ nodes_text p
 nodes_all p i done = ap (λ (j : ℕ). nodes_text (take j p)) done ∙ ap nodes_text (take-length p)
-
--- no beginning is longer than the whole
-pub nodes_within : (p : Route) (i : ℕ) → i < length p → length (nodes_text (take i p)) + length (node_text (get_or p i 0)) ≤ length (nodes_text p)
-nodes_within p i h =
-    omega (arith, sym (length-append (nodes_text (take i p)) (node_text (get_or p i 0))), ap length (nodes_more p i h), whole)
-  where
-    whole : length (nodes_text p) ≡ length (nodes_text (take (i + 1) p)) + length (nodes_text (drop (i + 1) p))
-    whole =
-        ap (λ (q : Route). length (nodes_text q)) (sym (take-append-drop (i + 1) p))
-        ∙ ap length (nodes_append (take (i + 1) p) (drop (i + 1) p))
-        ∙ length-append (nodes_text (take (i + 1) p)) (nodes_text (drop (i + 1) p))
 
 -- ---- a sheet has at most 1,024 bytes
 -- nodes of at most three digits

@@ -1,55 +1,32 @@
 -- Text that grows piece by piece. Assumes nothing.
-use Prim.Native.Nat.{ℕ, ◌+◌, ◌≤◌, ◌<◌}
+use Prim.Native.Nat.{ℕ, ◌≤◌}
 use native.Mathlib.Omega.{arith}
-use native.Mathlib.Nat.{zero-add, add-zero}
-use native.Mathlib.Numerals.{add-one}
-use mathlib.Core.Path.{◌≡◌, refl, sym, ◌∙◌, ap, subst}
-use mathlib.Core.List.{List, [], ◌∷◌, ◌++◌, append_assoc}
-use lib.ListN.{length, take, drop, set, length-append, length-take, length-drop, take-append-drop}
-use lib.Seq.{set_split, length-take-le}
-use Rattle.image.proofs.ByteLaws.{write_next}
-use Rattle.sheet.specs.Text.{Wrote}
+use mathlib.Core.Path.{◌≡◌, sym, ◌∙◌, ap, subst}
+use mathlib.Core.List.{List, [], ◌++◌, append_assoc, append-nil}
+use lib.ListN.{length, length-append}
+use Rattle.sheet.specs.Text.{Grown}
 
--- nothing, and one byte
-pub wrote_nothing : (t : List ℕ) (at : ℕ) → at ≤ length t → Wrote t at [] t at
-wrote_nothing t at h = record { fits = omega arith; holds = rw (add-zero at) (sym (take-append-drop at t)); behind = sym (add-zero at) }
-
-pub wrote_byte : (t : List ℕ) (at x : ℕ) → at < length t → Wrote t at (x ∷ []) (set t at x) (at + 1)
-wrote_byte t at x h = record { fits = omega arith; holds = rw add-one (set_split t at x h); behind = refl }
-
--- the slice keeps its length
-pub wrote_length : {t t' new : List ℕ} {at next : ℕ} → Wrote t at new t' next → length t' ≡ length t
-wrote_length {t} {new = new} {at = at} w = let f = w.fits in
-    ap length w.holds ∙ simp (length-append, length-take, length-drop) (omega arith)
+-- nothing
+pub grown_nothing : (t : List ℕ) → Grown t [] t
+grown_nothing t = record { held = λ fits. sym (append-nil t) }
 
 -- a piece behind a piece
-pub wrote_both : {t t' t'' a b : List ℕ} {at next end : ℕ} → Wrote t at a t' next → Wrote t' next b t'' end → Wrote t at (a ++ b) t'' end
-wrote_both {t} {t'} {t''} {a} {b} {at} {next} {end} v w = record { fits = omega (arith, length-append a b, wrote_length v, v.behind, w.fits); holds = w.holds ∙ both; behind = w.behind ∙ there }
+pub grown_both : {t t' t'' a b : List ℕ} → Grown t a t' → Grown t' b t'' → Grown t (a ++ b) t''
+grown_both {t} {t'} {t''} {a} {b} v w = record { held = both }
   where
-    there : next + length b ≡ at + length (a ++ b)
-    there = omega (arith, length-append a b, v.behind)
-
-    front : length (take at t ++ a) ≡ next
-    front = omega (arith, length-append (take at t) a, length-take-le at t (omega (arith, v.fits)), v.behind)
-
-    before : t' ≡ (take at t ++ a) ++ drop next t
-    before =
-        v.holds ∙ ap (λ (i : ℕ). take at t ++ (a ++ drop i t)) (sym v.behind) ∙ sym (append_assoc (take at t) a (drop next t))
-
-    both : take next t' ++ (b ++ drop (next + length b) t') ≡ take at t ++ ((a ++ b) ++ drop (at + length (a ++ b)) t)
-    both =
-        write_next b (length b) (take at t ++ a) t' t next front before
-        ∙ ap (λ (i : ℕ). ((take at t ++ a) ++ b) ++ drop i t) there
-        ∙ simp append_assoc
+    both : length (t ++ (a ++ b)) ≤ 1024 → t'' ≡ t ++ (a ++ b)
+    both fits =
+        let whole : (t ++ a) ++ b ≡ t ++ (a ++ b) = append_assoc t a b in
+        let first : t' ≡ t ++ a = v.held (omega (arith, fits, ap length whole, length-append (t ++ a) b)) in
+        let joined : t' ++ b ≡ t ++ (a ++ b) = ap (λ (l : List ℕ). l ++ b) first ∙ whole in
+        w.held (omega (arith, fits, ap length joined)) ∙ joined
 
 -- the same text under another name
-pub wrote_as : {t t' a b : List ℕ} {at next : ℕ} → a ≡ b → Wrote t at a t' next → Wrote t at b t' next
-wrote_as {t} {t'} {at = at} {next} e w = subst (λ (l : List ℕ). Wrote t at l t' next) e w
+pub grown_as : {t t' a b : List ℕ} → a ≡ b → Grown t a t' → Grown t b t'
+grown_as {t} {t'} e w = subst (λ (l : List ℕ). Grown t l t') e w
 
--- behind a piece there is room for what was to follow it
-pub wrote_room : {t t' a : List ℕ} {at next : ℕ} → Wrote t at a t' next → (rest : ℕ) → at + (length a + rest) ≤ length t → next + rest ≤ length t'
-wrote_room w rest h = omega (arith, w.behind, wrote_length w)
-
--- text at the beginning of a slice
-pub wrote_first : {t t' new : List ℕ} {next : ℕ} → Wrote t 0 new t' next → (next ≡ length new) × (t' ≡ new ++ drop (length new) t)
-wrote_first {t} {t'} {new} w = (w.behind ∙ zero-add (length new), w.holds ∙ ap (λ (i : ℕ). new ++ drop i t) (zero-add (length new)))
+-- a page that was empty
+pub grown_first : {t t' new : List ℕ} → t ≡ [] → Grown t new t' → length new ≤ 1024 → t' ≡ new
+grown_first {t} {t'} {new} empty w fits =
+    let same : t ++ new ≡ new = ap (λ (l : List ℕ). l ++ new) empty in
+    w.held (omega (arith, fits, ap length same)) ∙ same

@@ -1,5 +1,5 @@
--- Numbers as decimal digits, and text that is written into a slice. Assumes nothing.
-use Rattle.std.specs.Prelude.{ℕ, zero, suc, ◌+◌, ◌/◌, ◌%◌, ◌≤◌, ◌≡◌, cond, List, [], ◌∷◌, ◌++◌, ltb, length, take, drop}
+-- Numbers as decimal digits, and text that is written at the end of a page. Assumes nothing.
+use Rattle.std.specs.Prelude.{ℕ, zero, suc, ◌+◌, ◌/◌, ◌%◌, ◌≤◌, ◌≡◌, cond, List, [], ◌∷◌, ◌++◌, ltb, length}
 
 -- ---- numbers in decimal digits
 -- the byte of a digit, "0" to "9"
@@ -17,8 +17,6 @@ digits (suc k) x =
 unfoldable pub decimal : ℕ → List ℕ
 decimal x = digits (suc x) x
 
--- ---- a slice before and after the bytes `new` are written from the place `at` on; the places before and behind them keep their content, and `next` is the place behind
-pub record Wrote (text : List ℕ) (at : ℕ) (new text' : List ℕ) (next : ℕ) : Type 0 where
-  pub fits : at + length new ≤ length text
-  pub holds : text' ≡ take at text ++ (new ++ drop (at + length new) text)
-  pub behind : next ≡ at + length new
+-- ---- a page before and after the bytes `new` are written at its end: if they fit in its 1,024 bytes, they stand there behind what it had
+pub record Grown (page new page' : List ℕ) : Type 0 where
+  pub held : length (page ++ new) ≤ 1024 → page' ≡ page ++ new

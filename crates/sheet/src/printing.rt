@@ -1,13 +1,13 @@
 // The sheet of an image.
-ghost use Rattle.std.specs.Prelude.{◌≡◌, ◌≤◌, length};
+ghost use Rattle.std.specs.Prelude.{◌≡◌, length};
 ghost use Rattle.image.specs.Outcome.{after};
 ghost use Rattle.image.specs.Refusals.{number_of, place_of};
-ghost use Rattle.sheet.specs.Text.{Wrote};
 ghost use Rattle.sheet.specs.Sheet.{refused_line};
 ghost use Rattle.sheet.specs.Sheet.{sheet as Sheet·sheet};
 ghost use Rattle.sheet.specs.Answers.{nodes_of, decided_text, Printable, printed, sheet_fault, sheet_outcome};
 
-use super::lines::{write_decision, write_pair};
+use super::lines::{decision_page, write_pair};
+use super::words::Page;
 use image::Refusal;
 use image::check::check;
 use network_calls::Decision;
@@ -28,24 +28,25 @@ impl fmt::Display for TooShort {
 impl Error for TooShort {}
 
 // The sheet of a refusal.
-fn write_refused(text: &mut [u8], row: Refusal) -> usize
-    requires { 1024 ≤ length text.old }
-    ensures { Wrote text.old 0 (refused_line (number_of row) (place_of row)) text.new result × (result ≤ 1024) }
+fn refusal_page(row: Refusal) -> Page
+    ensures { result.items ≡ refused_line (number_of row) (place_of row) }
 {
-    write_pair(text, 0, b"refused ", row.number(), b" at ", row.place())
+    let mut page = Page::new();
+    write_pair(&mut page, b"refused ", row.number(), b" at ", row.place());
+    page
 }
 
 // The sheet of an answer of Robust, whose path is in a slice.
-fn write_answer(text: &mut [u8], path: &[u16], answer: Result<Decision, Refusal>) -> usize
-    requires { (1024 ≤ length text.old) × Printable path.now (nodes_of answer) }
-    ensures { Wrote text.old 0 (decided_text answer path.now) text.new result × (result ≤ 1024) }
+fn answer_page(path: &[u16], answer: Result<Decision, Refusal>) -> Page
+    requires { Printable path.now (nodes_of answer) }
+    ensures { result.items ≡ decided_text answer path.now }
 {
     match answer {
         Ok(found) => {
             let nodes = found.length as usize;
-            write_decision(text, &path[..nodes], found)
+            decision_page(&path[..nodes], found)
         }
-        Err(row) => write_refused(text, row),
+        Err(row) => refusal_page(row),
     }
 }
 
@@ -71,5 +72,8 @@ pub fn sheet(image: &[u8], text: &mut [u8]) -> Result<u32, TooShort>
     let mut path = [0u16; 200];
     let mut work = [0u32; 13848];
     let answer = decide(image, &mut path, &mut work);
-    Ok(write_answer(text, &path, answer) as u32)
+    let page = answer_page(&path, answer);
+    let length = page.len();
+    text[..length].copy_from_slice(page.as_slice());
+    Ok(length as u32)
 }

@@ -1,29 +1,25 @@
-// Words and numbers, written into a slice from a place on. Each function returns the place behind
-// what it wrote.
-ghost use Rattle.std.specs.Prelude.{◌+◌, ◌≤◌, length};
-ghost use Rattle.sheet.specs.Text.{decimal, Wrote};
+// Words and numbers, written at the end of a page.
+ghost use Rattle.sheet.specs.Text.{decimal, Grown};
 
-// The bytes of a word.
-pub fn write_word(text: &mut [u8], at: usize, word: &[u8]) -> usize
-    requires { at + length word.now ≤ length text.old }
-    ensures { Wrote text.old at word.now text.new result }
+use arrayvec::ArrayVec;
+use itoa::Buffer;
+
+// The text of a sheet, which has at most so many bytes. Not by `write!`: std's contract of it tells what
+// is written if it succeeds, but never that it does, and a sheet must.
+pub type Page = ArrayVec<u8, 1024>;
+
+// The bytes of a word. This and each line say what is written if it fits, and so ask for no room: that
+// a whole sheet fits is shown where its page is done.
+pub fn write_word(page: &mut Page, word: &[u8])
+    ensures { Grown page.old.items word.now page.new.items }
 {
-    let end = at + word.len();
-    text[at..end].copy_from_slice(word);
-    end
+    let _fits = page.try_extend_from_slice(word);
 }
 
-// The decimal digits of a number, with no zero in front. The digits of its tenth are written first,
-// by a call of itself: the calls are at most ten deep.
-pub fn write_number(text: &mut [u8], at: usize, x: u32) -> usize
-    requires { at + length (decimal x) ≤ length text.old }
-    ensures { Wrote text.old at (decimal x) text.new result }
+// The decimal digits of a number, with no zero in front.
+pub fn write_number(page: &mut Page, x: u32)
+    ensures { Grown page.old.items (decimal x) page.new.items }
 {
-    if x < 10 {
-        text[at] = 48 + x as u8;
-        return at + 1;
-    }
-    let last = write_number(text, at, x / 10);
-    text[last] = 48 + (x % 10) as u8;
-    last + 1
+    let mut digits = Buffer::new();
+    write_word(page, digits.format(x).as_bytes());
 }
