@@ -10,7 +10,7 @@ ghost use Rattle.loading.specs.Accepted.{Node, InColumn};
 use image::check::check;
 use image::{Refusal, Sizes, is_node};
 use loading::{Network, load_whole};
-use outcomes::{is_column, write_narrow};
+use outcomes::{is_one_of, write_narrow};
 
 // Label's rows for a slice of `room` places.
 fn check_label(image: &[u8], column: u32, goal: u32, room: usize) -> Result<Sizes, Refusal>
@@ -20,7 +20,7 @@ fn check_label(image: &[u8], column: u32, goal: u32, room: usize) -> Result<Size
     if !is_node(sizes.n, goal) {
         return Err(Refusal::WrongEnds);
     }
-    if !is_column(sizes.k, column) {
+    if !is_one_of(sizes.k, column) {
         return Err(Refusal::WrongColumn);
     }
     if room < sizes.n as usize {
@@ -29,7 +29,7 @@ fn check_label(image: &[u8], column: u32, goal: u32, room: usize) -> Result<Size
     Ok(sizes)
 }
 
-// Writes the labels of the column.
+// Writes the labels of the column. Label has a goal and no start, so that they are no `Trip`.
 fn write_labels(network: &Network<'_>, column: u32, goal: u32, labels: &mut [u32])
     requires column { InColumn network.now.image.now column }
     requires goal { Node (net network.now).nodes goal }

@@ -36,7 +36,7 @@ fn check_rank(
     Ok(sizes)
 }
 
-// Row 15, and the paths. Whether there is one is decided before anything is written.
+// Row 15, and the paths. Whether there is one is decided before anything is written: then the number is 0.
 fn write_ranked(
     trip: &Trip<'_>,
     wanted: u32,

@@ -14,7 +14,8 @@ use image::{Refusal, Sizes};
 use loading::Network;
 use outcomes::{check_search, write_path};
 
-// What Shortest gives: the length and the cost of the path.
+// What Shortest gives: the length and the cost of the path, in the 32 bits of the C interface. A `Tail` has them
+// in the numbers of the search; no `From` makes one of the other, since a `From` can't ask that they fit.
 #[derive(Clone, Copy, Debug, PartialEq, Eq)]
 pub struct Path {
     pub length: u32,

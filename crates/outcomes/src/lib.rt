@@ -5,5 +5,5 @@
 mod rows;
 mod writing;
 
-pub use rows::{check_ends, check_ranking, check_search, is_column};
+pub use rows::{check_ends, check_ranking, check_search, is_one_of};
 pub use writing::{narrow, write_narrow, write_path};

@@ -11,11 +11,11 @@ ghost use Rattle.outcomes.specs.Calls.{ends_row, search_rows, ranking_rows, work
 use image::check::check;
 use image::{Refusal, Sizes, is_node};
 
-// Whether u is one of the columns 1 to k: row 11.
-pub fn is_column(k: u32, u: u32) -> bool
-    ensures { result ≡ (leb 1 u && leb u k) }
+// Whether a number is one of 1 to `last`: row 11 for a column, row 12 for a number of wanted paths.
+pub fn is_one_of(last: u32, number: u32) -> bool
+    ensures { result ≡ (leb 1 number && leb number last) }
 {
-    (1..=k).contains(&u)
+    (1..=last).contains(&number)
 }
 
 // Whether start and goal are two nodes of 1 to n: row 10.
@@ -41,17 +41,10 @@ pub fn check_search(image: &[u8], column: u32, start: u32, goal: u32) -> Result<
     ensures { answer size_list result ≡ outcome (search_rows image.now column start goal) (sizes image.now) }
 {
     let sizes = check_ends(image, start, goal)?;
-    if !is_column(sizes.k, column) {
+    if !is_one_of(sizes.k, column) {
         return Err(Refusal::WrongColumn);
     }
     Ok(sizes)
-}
-
-// Whether so many paths may be wanted: row 12.
-fn is_count(wanted: u32) -> bool
-    ensures { result ≡ (leb 1 wanted && leb wanted 256) }
-{
-    (1..=256).contains(&wanted)
 }
 
 // How many numbers a workspace must have for `wanted` paths in a network of n nodes.
@@ -63,7 +56,8 @@ pub fn workspace(n: usize, wanted: usize) -> usize
     (wanted + 1) * (n + 16) + 16 * n + 64
 }
 
-// The rows before 12, and rows 12 and 13 for a number of wanted paths and a workspace of `work` numbers.
+// The rows before 12, and rows 12 and 13 for a number of wanted paths and a workspace of `work` numbers. The
+// four numbers stay apart: they are as the C call hands them down, and nothing is known of them before this.
 pub fn check_ranking(
     image: &[u8],
     column: u32,
@@ -75,7 +69,7 @@ pub fn check_ranking(
     ensures { answer size_list result ≡ outcome (ranking_rows image.now column start goal wanted work) (sizes image.now) }
 {
     let sizes = check_search(image, column, start, goal)?;
-    if !is_count(wanted) {
+    if !is_one_of(256, wanted) {
         return Err(Refusal::WrongPathCount);
     }
     if work < workspace(sizes.n as usize, wanted as usize) {

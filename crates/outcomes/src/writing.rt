@@ -13,7 +13,8 @@ pub fn narrow(label: u64) -> u32
     if label == FAR { u32::MAX } else { label as u32 }
 }
 
-// Writes the labels of the nodes 1, 2 and so on, in 32 bits.
+// Writes the labels of the nodes 1, 2 and so on, in 32 bits. A zip with `exact[1..]` would first have to test
+// that there is a place 0.
 pub fn write_narrow(exact: &[u64], labels: &mut [u32])
     requires labels_long { length exact.now ≤ length labels.old + 1 }
     requires exact_narrow { (v : ℕ) → v < length exact.now → Narrow (get_or exact.now v 0) }
@@ -24,7 +25,8 @@ pub fn write_narrow(exact: &[u64], labels: &mut [u32])
     }
 }
 
-// Writes the first `count` nodes of a route.
+// Writes the first `count` nodes of a route. The number stands beside the route, since each of the three calls
+// holds it so, and would cut the same part.
 pub fn write_path(route: &[u16], count: usize, path: &mut [u16])
     requires { (count ≤ length route.now) × (count ≤ length path.old) }
     ensures { path.new ≡ take count route.now ++ drop count path.old }

@@ -15,15 +15,15 @@ pub returns-then-not-is_node : goal.returns-then-not-is_node
 returns-then-not-is_node c =
     sym (outcome_fault _ (no_goal (given_network c.in_ok-sizes.ensures) _ _ _ (sym c.if-not-is_node.ensures)))
 
-pub returns-then-not-is_column : goal.returns-then-not-is_column
-returns-then-not-is_column c =
-    sym (outcome_fault _ (no_column (given_network c.in_ok-sizes.ensures) _ _ _ (sym c.if-not-is_node.ensures) (sym c.if-not-is_column.ensures)))
+pub returns-then-not-is_one_of : goal.returns-then-not-is_one_of
+returns-then-not-is_one_of c =
+    sym (outcome_fault _ (no_column (given_network c.in_ok-sizes.ensures) _ _ _ (sym c.if-not-is_node.ensures) (sym c.if-not-is_one_of.ensures)))
 
 pub returns-then-room-sizes : goal.returns-then-room-sizes
 returns-then-room-sizes c =
-    sym (outcome_fault _ (no_room (given_network c.in_ok-sizes.ensures) _ _ _ (sym c.if-not-is_node.ensures) (sym c.if-not-is_column.ensures) c.if-room-sizes.true))
+    sym (outcome_fault _ (no_room (given_network c.in_ok-sizes.ensures) _ _ _ (sym c.if-not-is_node.ensures) (sym c.if-not-is_one_of.ensures) c.if-room-sizes.true))
 
 pub returns : goal.returns
 returns c =
     let known = given_network c.in_ok-sizes.ensures in
-    ap gives (sizes_of known) ∙ sym (outcome_sound _ (label_passes known _ _ _ (sym c.if-not-is_node.ensures) (sym c.if-not-is_column.ensures) c.if-room-sizes.false))
+    ap gives (sizes_of known) ∙ sym (outcome_sound _ (label_passes known _ _ _ (sym c.if-not-is_node.ensures) (sym c.if-not-is_one_of.ensures) c.if-room-sizes.false))

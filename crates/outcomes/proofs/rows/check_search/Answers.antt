@@ -11,14 +11,14 @@ pub returns-in_err-sizes : goal.returns-in_err-sizes
 unfolding search_rows
 returns-in_err-sizes c = ends_first _ _ _ c.from_residual.ensures.1 _ _ c.in_err-sizes.ensures _ _
 
-pub returns-then-not-is_column : goal.returns-then-not-is_column
+pub returns-then-not-is_one_of : goal.returns-then-not-is_one_of
 unfolding search_rows
-returns-then-not-is_column c =
+returns-then-not-is_one_of c =
     let p = given_sizes _ (λ e. (then_sound _ _ e).0) c.in_ok-sizes.ensures in
-    sym (outcome_fault _ (then_next _ p.0 ∙ wrong_column p.1 _ (sym c.if-not-is_column.ensures)))
+    sym (outcome_fault _ (then_next _ p.0 ∙ wrong_column p.1 _ (sym c.if-not-is_one_of.ensures)))
 
 pub returns : goal.returns
 unfolding search_rows
 returns c =
     let p = given_sizes _ (λ e. (then_sound _ _ e).0) c.in_ok-sizes.ensures in
-    ap gives (sizes_of p.1) ∙ sym (outcome_sound _ (then_next _ p.0 ∙ right_column p.1 _ (sym c.if-not-is_column.ensures)))
+    ap gives (sizes_of p.1) ∙ sym (outcome_sound _ (then_next _ p.0 ∙ right_column p.1 _ (sym c.if-not-is_one_of.ensures)))
