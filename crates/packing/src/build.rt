@@ -9,7 +9,7 @@ ghost use Rattle.packing.specs.Calls.{build_fault, build_outcome};
 ghost use Rattle.packing.specs.RoundTrip.{ReadsBack};
 
 use image::{
-    Refusal, Word, check_arcs, check_costs, cost_count, costs_start, image_length, in_range,
+    Refusal, Sizes, Word, check_arcs, check_costs, cost_count, costs_start, image_length, in_range,
     is_taken,
 };
 
@@ -55,10 +55,11 @@ fn check_lists(
 }
 
 // The header of 24 bytes.
-fn write_header(image: &mut [u8], edition: u32, n: u32, m: u32, k: u32)
-    requires { (24 ≤ length image.old) × (edition < 65536) × (n ≤ 200) × (m ≤ 1000) × (k ≤ 8) }
-    ensures { image.new ≡ header edition n m k ++ drop 24 image.old }
+fn write_header(image: &mut [u8], sizes: Sizes)
+    requires { (24 ≤ length image.old) × (sizes.edition < 65536) × (sizes.n ≤ 200) × (sizes.m ≤ 1000) × (sizes.k ≤ 8) }
+    ensures { image.new ≡ header sizes.edition sizes.n sizes.m sizes.k ++ drop 24 image.old }
 {
+    let Sizes { n, m, k, edition } = sizes;
     (edition as u16).write(image, 0);
     (n as u16).write(image, 2);
     (m as u16).write(image, 4);
@@ -94,7 +95,7 @@ pub fn build(
 {
     check_lists(edition, n, k, nodes, costs, image.len())?;
     let m = (nodes.len() / 2) as u32;
-    write_header(image, edition, n, m, k);
+    write_header(image, Sizes { n, m, k, edition });
     write_words(image, 24, nodes);
     write_words(image, costs_start(m) as usize, costs);
     Ok(image_length(m, k))
