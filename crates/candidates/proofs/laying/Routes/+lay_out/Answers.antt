@@ -9,13 +9,13 @@ use Rattle.candidates.specs.Routes.{route_at, Rooted}
 use Rattle.candidates.proofs.RootedLaws.{rooted_in, rooted_fits, parent_lower, leaves_early, taken, taken_start, taken_parent, taken_length, route_is}
 use Rattle.candidates.proofs.LayingLaws.{both_laid, start_laid, parent_laid}
 use Rattle.candidates.proofs.laying.Routes.+lay_out.Goals as goal
-use Rattle.candidates.proofs.laying.Routes.+lay_out.Goals.{then-parent-eq0, else-parent-eq0}
+use Rattle.candidates.proofs.laying.Routes.+lay_out.Goals.{in-None, in-Some}
 
 pub lay_out-requires : goal.lay_out-requires
 lay_out-requires t c =
     let root : Rooted c.args.self.now.entries.nodes c.args.self.now.entries.work.now c.args.place = rooted_in c.args.self.now c.args.place c.requires.inside in
-    let r : ℕ = c.parent-parent.result - 1 in
-    let z : (entry_at c.args.self.now.entries.nodes c.args.self.now.entries.work.now c.args.place).parent ≡ c.parent-parent.result - 1 + 1 = sym c.parent-parent.ensures ∙ (omega arith) in (
+    let r : ℕ = c.in-Some.parent in
+    let z : (entry_at c.args.self.now.entries.nodes c.args.self.now.entries.work.now c.args.place).parent ≡ c.in-Some.parent + 1 = c.in-Some.ensures in (
       omega (arith, c.decreases, parent_lower c.args.self.now.entries.nodes c.args.self.now.entries.work.now c.args.place root r z),
       (
         omega (arith, c.requires.inside, parent_lower c.args.self.now.entries.nodes c.args.self.now.entries.work.now c.args.place root r z),
@@ -32,14 +32,14 @@ returns t c =
     let same = c.shared-shared.ensures in
     let first : List ℕ = taken c.args.self.now.entries.nodes c.args.self.now.entries.work.now c.args.place root c.args.self.now.start in
     let k : ℕ = min c.shared-shared.result c.args.count in
-    let began : c.if-parent-eq0.path ≡ take k first ++ drop k c.args.path.now = elim c.if-parent-eq0.branch [
-      | then-parent-eq0 w ↦
-          let z = sym c.parent-parent.ensures ∙ w.if-parent-eq0.true in
+    let began : c.match-parent.path ≡ take k first ++ drop k c.args.path.now = elim c.match-parent.branch [
+      | in-None w ↦
+          let z = w.in-None.ensures in
           w.path-is ∙ start_laid c.args.self.now.start c.shared-shared.result c.args.count first c.args.path.now (taken_start c.args.self.now.entries.nodes c.args.self.now.entries.work.now c.args.place root c.args.self.now.start z) (same ∙ (rooted_fits c.args.self.now.entries.nodes c.args.self.now.entries.work.now c.args.place root).from_start z) c.requires.fits.0 (omega arith)
-      | else-parent-eq0 w ↦
-          let z : (entry_at c.args.self.now.entries.nodes c.args.self.now.entries.work.now c.args.place).parent ≡ c.parent-parent.result - 1 + 1 = sym c.parent-parent.ensures ∙ (omega (arith, w.if-parent-eq0.false)) in
-          w.path-is ∙ parent_laid c.shared-shared.result c.args.count w.min.result first (route_at c.args.self.now.start c.args.self.now.entries.nodes c.args.self.now.entries.work.now (c.parent-parent.result - 1)) c.args.path.now _ (taken_parent c.args.self.now.entries.nodes c.args.self.now.entries.work.now c.args.place root c.args.self.now.start (c.parent-parent.result - 1) z ∙ ap (λ (x : ℕ). take x (route_at c.args.self.now.start c.args.self.now.entries.nodes c.args.self.now.entries.work.now (c.parent-parent.result - 1))) (sym same)) w.min.ensures w.lay_out.ensures
+      | in-Some w ↦
+          let z : (entry_at c.args.self.now.entries.nodes c.args.self.now.entries.work.now c.args.place).parent ≡ w.in-Some.parent + 1 = w.in-Some.ensures in
+          w.path-is ∙ parent_laid c.shared-shared.result c.args.count w.min.result first (route_at c.args.self.now.start c.args.self.now.entries.nodes c.args.self.now.entries.work.now w.in-Some.parent) c.args.path.now _ (taken_parent c.args.self.now.entries.nodes c.args.self.now.entries.work.now c.args.place root c.args.self.now.start w.in-Some.parent z ∙ ap (λ (x : ℕ). take x (route_at c.args.self.now.start c.args.self.now.entries.nodes c.args.self.now.entries.work.now w.in-Some.parent)) (sym same)) w.min.ensures w.lay_out.ensures
     ] in
     c.lay_tail.ensures
-    ∙ both_laid c.shared-shared.result c.args.count first (entry_at c.args.self.now.entries.nodes c.args.self.now.entries.work.now c.args.place).tail c.args.path.now c.if-parent-eq0.path (taken_length c.args.self.now.entries.nodes c.args.self.now.entries.work.now c.args.place root c.args.self.now.start ∙ sym same) began
+    ∙ both_laid c.shared-shared.result c.args.count first (entry_at c.args.self.now.entries.nodes c.args.self.now.entries.work.now c.args.place).tail c.args.path.now c.match-parent.path (taken_length c.args.self.now.entries.nodes c.args.self.now.entries.work.now c.args.place root c.args.self.now.start ∙ sym same) began
     ∙ ap (λ (r : List ℕ). take c.args.count r ++ drop c.args.count c.args.path.now) (sym (route_is c.args.self.now.entries.nodes c.args.self.now.entries.work.now c.args.place root c.args.self.now.start))

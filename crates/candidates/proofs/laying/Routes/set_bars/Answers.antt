@@ -8,10 +8,6 @@ use Rattle.candidates.proofs.RootedLaws.{rooted_in, rooted_fits, parent_lower, l
 use Rattle.candidates.proofs.BarLaws.{own_marked, root_marked, parent_marked}
 use Rattle.candidates.proofs.laying.Routes.set_bars.Goals as goal
 
--- an entry with a parent
-child : (e : Entry) {parent : ℕ} → parent ≡ e.parent → (parent ≡ 0 → ⊥) → e.parent ≡ parent - 1 + 1
-child e z d = omega arith
-
 pub loop-place-init : goal.loop-place-init
 loop-place-init c = (omega arith, c.requires.in_tail.0, c.requires.in_tail.1, refl)
 
@@ -19,19 +15,19 @@ pub returns-then-at-shared : goal.returns-then-at-shared
 returns-then-at-shared c =
     own_marked _ _ _ _ c.args.at c.args.self.now.family (omega arith) c.args.value c.loop-place.flags c.shared-shared.ensures c.node.ensures c.if-at-shared.true ∙ c.loop-place.invariant.3
 
-pub returns-then-parent-eq0 : goal.returns-then-parent-eq0
-returns-then-parent-eq0 c =
-    root_marked _ _ _ _ c.args.at c.args.self.now.family (omega arith) c.args.value c.loop-place.flags c.shared-shared.ensures c.node.ensures (sym c.parent-parent.ensures ∙ c.if-parent-eq0.true) ∙ c.loop-place.invariant.3
+pub returns-in_default : goal.returns-in_default
+returns-in_default c =
+    root_marked _ _ _ _ c.args.at c.args.self.now.family (omega arith) c.args.value c.loop-place.flags c.shared-shared.ensures c.node.ensures (rw c.in_default.is at c.parent.ensures) ∙ c.loop-place.invariant.3
 
 pub loop-place-smaller : goal.loop-place-smaller
 loop-place-smaller c =
-    parent_lower _ _ _ (rooted_in c.args.self.now c.loop-place.p (omega arith)) (c.parent-parent.result - 1) (child (entry_in c.args.self.now.entries c.loop-place.p) c.parent-parent.ensures c.if-parent-eq0.false)
+    parent_lower _ _ _ (rooted_in c.args.self.now c.loop-place.p (omega arith)) c.in-Some.parent c.in-Some.ensures
 
 pub loop-place-preserved : goal.loop-place-preserved
 loop-place-preserved c =
     let rooted = rooted_in c.args.self.now c.loop-place.p (omega arith) in
-    let r = c.parent-parent.result - 1 in
-    let z = child (entry_in c.args.self.now.entries c.loop-place.p) c.parent-parent.ensures c.if-parent-eq0.false in (
+    let r = c.in-Some.parent in
+    let z = c.in-Some.ensures in (
       omega (arith, parent_lower _ _ _ rooted r z),
       omega (arith, leaves_late _ _ _ rooted r z),
       omega (arith, leaves_early _ _ _ rooted r z),
@@ -39,4 +35,4 @@ loop-place-preserved c =
     )
 
 pub bounds-flags-node : goal.bounds-flags-node
-bounds-flags-node c = omega (arith, c.node.ensures, (rooted_fits _ _ _ (rooted_in c.args.self.now c.loop-place.p (omega arith))).nodes (c.args.at - c.shared-shared.result) (omega arith), c.requires.inside.1)
+bounds-flags-node c = omega (arith, c.node.ensures, (rooted_fits _ _ _ (rooted_in c.args.self.now c.loop-place.p (omega arith))).nodes (c.args.at - c.shared-shared.result) (omega arith), c.requires.flags_long)
