@@ -11,7 +11,7 @@ ghost use Rattle.exits.specs.Walks.{Choice};
 
 use crate::query::{Detour, Query};
 use branching::{Step, Tail, first_path};
-use candidates::{Entries, Routes, insert};
+use candidates::{Entries, NewEntry, Routes, insert};
 use exits::least_exit;
 use sharpening::LONGEST;
 
@@ -91,17 +91,13 @@ fn enter(
     if place == slots {
         return count;
     }
-    insert(
-        work,
-        n,
-        slots,
-        count,
-        place,
+    let new = NewEntry {
         cost,
-        d as u32,
-        parent as u32,
-        &path[d..len],
-    )
+        shared: d as u32,
+        parent: parent as u32,
+        tail: &path[d..len],
+    };
+    insert(work, n, slots, count, place, &new)
 }
 
 // The same, but a branch is left out that has no path, or whose paths cost the limit at least, or more

@@ -1,7 +1,8 @@
 // The ranked list of paths: the first path of each branch is a candidate, and the first candidate is the
 // next path, whose branches are then looked into.
-// What is asked, the graph and its labels are one struct, `Query`. The workspace is lent to be changed, and what
-// it holds differs from call to call, so that `Filled` stays a clause: a struct would lend it once more.
+// What is asked, the graph and its labels are one struct, `Query`. The workspace and the number of its entries are none,
+// and `used`, `barred` and `path` neither: each contract compares them before and after the call (`Changed`, `Restored`),
+// and a fact about them now, which a struct could keep (`Filled`, `Deviation`), is a clause about the state before alone.
 #![tactic(auto)]
 
 mod branches;

@@ -16,8 +16,12 @@ pub struct Query<'a> {
     pub ghost posed: { Problem graph.nodes start goal (arcs_of graph) labels.now },
 }
 
+// `Entries` and `Routes` are made where they are read: a method that makes them would ask `Filled` and ensure what each of
+// their fields is, which each proof would have to put in; the fields written out give a proof both at once.
+
 // The first path of a branch leaves the path with the rank `parent` after d nodes, which cost `before`, or
-// is the first of all, if parent is 0. There are `count` entries, and those below `parent` are ranked.
+// is the first of all, if parent is 0. There are `count` entries, and those below `parent` are ranked: as it is the number of
+// ranked paths too, which is 0 there, it is no Option.
 #[derive(Clone, Copy)]
 pub struct Detour {
     pub count: usize,

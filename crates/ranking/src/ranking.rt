@@ -10,6 +10,8 @@ use crate::splitting::split;
 use candidates::reset;
 use labels::FAR;
 
+// No limit is FAR, which is more than any path costs: as an Option each test of a bound would look for it first.
+
 // Frees all slots, and puts in the first of all paths, if there is one, whatever it costs. Returns how
 // many entries there are then.
 pub fn begin(query: &Query<'_>, work: &mut [u32]) -> usize

@@ -80,8 +80,8 @@ fn set_bars(
     routes.set_bars(rank, d, flags, value);
 }
 
-// The part that leaves the path at the place `rank` after d nodes, which cost `before`: the nodes with which
-// ranked paths go on there are barred while it is looked into.
+// The part that leaves a ranked path where the detour says: the nodes with which ranked paths go on there are
+// barred while it is looked into.
 fn deviate(
     query: &Query<'_>,
     limit: u64,
@@ -89,27 +89,20 @@ fn deviate(
     barred: &mut [bool],
     path: &mut [u16],
     work: &mut [u32],
-    count: usize,
-    rank: usize,
-    d: usize,
-    before: u64,
+    detour: Detour,
 ) -> usize
-    requires filled { FilledFor query.now (rank + 1) work.old count }
-    requires along { AlongFor query.now (entries_for query.now work.old count) rank used.old barred.old path.old d before }
-    requires inside { d < size (get_or (entries_for query.now work.old count) rank none) }
-    ensures restored { Restored used.old path.old d used.new path.new }
+    requires ranked { 1 ≤ detour.parent }
+    requires filled { FilledFor query.now detour.parent work.old detour.count }
+    requires along { AlongFor query.now (entries_for query.now work.old detour.count) (detour.parent - 1) used.old barred.old path.old detour.d detour.before }
+    requires inside { detour.d < size (get_or (entries_for query.now work.old detour.count) (detour.parent - 1) none) }
+    ensures restored { Restored used.old path.old detour.d used.new path.new }
     ensures barred_same { barred.new ≡ barred.old }
-    ensures changed { ChangedFor query.now (rank + 1) work.old count work.new result }
-    ensures settled { SettledFor query.now limit (entries_for query.now work.old count) (rank + 1) (branch_of query.now.start (entries_for query.now work.old count) (taking_over d (rank + 1))) (entries_for query.now work.new result) }
+    ensures changed { ChangedFor query.now detour.parent work.old detour.count work.new result }
+    ensures settled { SettledFor query.now limit (entries_for query.now work.old detour.count) detour.parent (branch_of query.now.start (entries_for query.now work.old detour.count) (taking_over detour.d detour.parent)) (entries_for query.now work.new result) }
 {
-    set_bars(query, work, count, rank, d, barred, true);
-    let parent = rank + 1;
-    let detour = Detour {
-        count,
-        parent,
-        d,
-        before,
-    };
+    let rank = detour.parent - 1;
+    let d = detour.d;
+    set_bars(query, work, detour.count, rank, d, barred, true);
     let now = consider(query, limit, used, barred, path, work, detour);
     set_bars(query, work, now, rank, d, barred, false);
     now
@@ -142,11 +135,18 @@ fn deviations(
     let mut now = count;
     // what the path costs from its node d on
     let mut behind: u64 = 0;
-    // by number of nodes: d is no index of one slice, but where the path is left
+    // by number of nodes: path is lent to be changed in the loop, so that no iterator can hold it, and d goes on as the
+    // place where the path is left
     for d in (shared..len).rev() {
         behind += step_back(&query.graph, used, path, d);
         let before = cost - behind;
-        now = deviate(query, limit, used, barred, path, work, now, rank, d, before);
+        let detour = Detour {
+            count: now,
+            parent: rank + 1,
+            d,
+            before,
+        };
+        now = deviate(query, limit, used, barred, path, work, detour);
     }
     now
 }

@@ -11,19 +11,19 @@ use Rattle.candidates.proofs.insertion.insert.Goals as goal
 
 pub put-requires : goal.put-requires
 put-requires c =
-    let requires : (last : ℕ) → c.args.place ≤ last → last < c.args.slots → ((c.args.place ≤ last) × (last * (c.args.n + 16) + (c.args.n + 16) ≤ length c.args.work.now) × (order c.args.n c.args.work.now last * (c.args.n + 16) + (c.args.n + 16) ≤ length c.args.work.now)) × ((length c.args.tail.now ≤ c.args.n) × (c.args.n ≤ 200)) = λ last h b. let s = c.args.n + 16 in ((h, slot_in s last b c.requires.kept.room, slot_in s (order c.args.n c.args.work.now last) (c.requires.kept.within last b) c.requires.kept.room), (c.requires.inside.2, c.requires.kept.few)) in
+    let requires : (last : ℕ) → c.args.place ≤ last → last < c.args.slots → ((c.args.place ≤ last) × (last * (c.args.n + 16) + (c.args.n + 16) ≤ length c.args.work.now) × (order c.args.n c.args.work.now last * (c.args.n + 16) + (c.args.n + 16) ≤ length c.args.work.now)) × ((length c.args.new.now.tail.now ≤ c.args.n) × (c.args.n ≤ 200)) = λ last h b. let s = c.args.n + 16 in ((h, slot_in s last b c.requires.kept.room, slot_in s (order c.args.n c.args.work.now last) (c.requires.kept.within last b) c.requires.kept.room), (c.requires.tail_short, c.requires.kept.few)) in
     let both = requires (c.args.count - 1) (omega arith) (omega arith) in
     record { inside = both.0; tail_short = both.1 }
 
 pub returns-then-count-slots : goal.returns-then-count-slots
 returns-then-count-slots c =
-    let e = entry c.args.cost c.args.shared c.args.parent c.args.tail.now in
+    let e = entry c.args.new.now.cost c.args.new.now.shared c.args.new.now.parent c.args.new.now.tail.now in
     subst (λ (r : ℕ). Inserted c.args.n c.args.slots c.args.place e c.args.work.now c.args.count c.put.new.work r) (omega arith)
     (put_inserted c.requires.kept c.put.ensures (omega arith) (omega arith) (omega arith) (omega arith) c.put.auto.work)
 
 pub put-requires-2 : goal.put-requires-2
 put-requires-2 c =
-    let requires : (last : ℕ) → c.args.place ≤ last → last < c.args.slots → ((c.args.place ≤ last) × (last * (c.args.n + 16) + (c.args.n + 16) ≤ length c.args.work.now) × (order c.args.n c.args.work.now last * (c.args.n + 16) + (c.args.n + 16) ≤ length c.args.work.now)) × ((length c.args.tail.now ≤ c.args.n) × (c.args.n ≤ 200)) = λ last h b. let s = c.args.n + 16 in ((h, slot_in s last b c.requires.kept.room, slot_in s (order c.args.n c.args.work.now last) (c.requires.kept.within last b) c.requires.kept.room), (c.requires.inside.2, c.requires.kept.few)) in
+    let requires : (last : ℕ) → c.args.place ≤ last → last < c.args.slots → ((c.args.place ≤ last) × (last * (c.args.n + 16) + (c.args.n + 16) ≤ length c.args.work.now) × (order c.args.n c.args.work.now last * (c.args.n + 16) + (c.args.n + 16) ≤ length c.args.work.now)) × ((length c.args.new.now.tail.now ≤ c.args.n) × (c.args.n ≤ 200)) = λ last h b. let s = c.args.n + 16 in ((h, slot_in s last b c.requires.kept.room, slot_in s (order c.args.n c.args.work.now last) (c.requires.kept.within last b) c.requires.kept.room), (c.requires.tail_short, c.requires.kept.few)) in
     let both = requires c.args.count (omega arith) (omega (arith, c.requires.kept.upto)) in
     record { inside = both.0; tail_short = both.1 }
 

@@ -9,6 +9,6 @@ use Rattle.candidates.proofs.insertion.write.Goals as goal
 
 pub returns : goal.returns
 returns c =
-    let split : bit_and c.args.cost 4294967295 + 4294967296 * (c.args.cost / 4294967296) ≡ c.args.cost = omega (arith, and_mask c.args.cost 32) in
-    let both = stored_entry c.args.cost _ _ c.args.shared c.args.parent c.args.words.now c.args.tail.now _ _ split (omega (arith, c.requires)) c.store.ensures in
+    let split : bit_and c.args.new.now.cost 4294967295 + 4294967296 * (c.args.new.now.cost / 4294967296) ≡ c.args.new.now.cost = omega (arith, and_mask c.args.new.now.cost 32) in
+    let both = stored_entry c.args.new.now.cost _ _ c.args.new.now.shared c.args.new.now.parent c.args.words.now c.args.new.now.tail.now _ _ split (omega (arith, c.requires)) c.store.ensures in
     record { holds = both.0; length_noted = both.1 }

@@ -66,7 +66,7 @@ insert-requires c =
     let first = within_tail (c.first_path.ensures.first_within _ _ c.requires.deviation.begins c.requires.deviation.flagged) c.in-Some.is in
     let extent = extent_tail c.first_path.ensures.kept.reach c.in-Some.is in
     let count_is = length_entries q.graph.nodes c.args.work.now c.args.detour.count in
-    record { kept = c.requires.filled.kept; inside = (omega (arith, c.place_for-place.ensures.upper, count_is), omega (arith, c.place_for-place.ensures.upper, count_is, c.requires.filled.kept.upto), rest_short q.graph.holds q.posed c.requires.deviation c.first_path.new.path c.in-Some.field-0.len R.kept extent.0 extent.1 first.0.member.path) }
+    record { kept = c.requires.filled.kept; inside = (omega (arith, c.place_for-place.ensures.upper, count_is), omega (arith, c.place_for-place.ensures.upper, count_is, c.requires.filled.kept.upto)); tail_short = rest_short q.graph.holds q.posed c.requires.deviation c.first_path.new.path c.in-Some.field-0.len R.kept extent.0 extent.1 first.0.member.path }
 
 pub returns : goal.returns
 returns c =
@@ -96,20 +96,20 @@ slice_bounds-place_for-end-2 c =
     let extent = extent_tail c.first_path.ensures.kept.reach c.in-Some.is in
     sym (length-take-le c.in-Some.field-0.len c.first_path.new.path extent.1)
 
-pub overflow_cast-parent : goal.overflow_cast-parent
-overflow_cast-parent c =
+pub overflow_cast-new-2 : goal.overflow_cast-new-2
+overflow_cast-new-2 c =
     let q = c.args.query.now in
     let count_is = length_entries q.graph.nodes c.args.work.now c.args.detour.count in
     omega (arith, c.requires.deviation.fits.known, c.requires.filled.entered.border, count_is, c.requires.filled.kept.upto, c.requires.filled.few)
 
-pub slice_bounds-insert-count : goal.slice_bounds-insert-count
-slice_bounds-insert-count c =
+pub slice_bounds-new-count : goal.slice_bounds-new-count
+slice_bounds-new-count c =
     omega (arith, extent_tail c.first_path.ensures.kept.reach c.in-Some.is)
 
-pub slice_bounds-insert-start : goal.slice_bounds-insert-start
-slice_bounds-insert-start c =
+pub slice_bounds-new-start : goal.slice_bounds-new-start
+slice_bounds-new-start c =
     omega (arith, extent_tail c.first_path.ensures.kept.reach c.in-Some.is)
 
-pub slice_bounds-insert-end : goal.slice_bounds-insert-end
-slice_bounds-insert-end c =
+pub slice_bounds-new-end : goal.slice_bounds-new-end
+slice_bounds-new-end c =
     (extent_tail c.first_path.ensures.kept.reach c.in-Some.is).1

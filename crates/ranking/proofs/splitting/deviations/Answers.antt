@@ -2,6 +2,7 @@
 use Prim.Native.Nat.{◌+◌, ◌-◌}
 use native.Mathlib.Omega.{arith}
 use mathlib.Core.Path.{◌≡◌, refl, sym, ◌∙◌}
+use Rattle.candidates.proofs.EntryLaws.{length_entries}
 use Rattle.ranking.proofs.BackLaws.{back_some, back_linked, back_rest, back_le, along_back, going_start, going_filled, going_shared, going_more, going_next, going_end}
 use Rattle.ranking.proofs.splitting.deviations.Goals as goal
 
@@ -23,7 +24,8 @@ deviate-now-requires c =
     let more = going_more c.requires.filled c.loop-d.invariant c.requires.shared_is c.loop-d-test.true in
     let arc = c.step_back-behind.ensures.value (back_linked now_filled.entered place more) in
     let back_place = along_back now_filled.entered place more c.loop-d.invariant.rest refl arc (rw place.laid.flags_long at c.step_back-behind.ensures.one_less) in
-    record { filled = now_filled; along = back_place; inside = omega (arith, more, place.upper) }
+    let own : c.args.stem.rank + 1 - 1 ≡ c.args.stem.rank = omega arith in
+    rw own (record { ranked = omega arith; filled = now_filled; along = back_place; inside = omega (arith, more, place.upper) })
 
 pub loop-d-preserved : goal.loop-d-preserved
 loop-d-preserved c =
@@ -56,3 +58,7 @@ overflow_sub-before c =
     let arc = c.step_back-behind.ensures.value (back_linked now_filled.entered place more) in
     let rest_within = back_le now_filled.entered place more c.loop-d.invariant.rest refl arc in
     rest_within
+
+pub overflow_add-detour : goal.overflow_add-detour
+overflow_add-detour c =
+    omega (arith, c.requires.filled.entered.border, length_entries c.args.query.now.graph.nodes c.args.work.now c.args.count, c.requires.filled.kept.upto, c.requires.filled.few)

@@ -15,7 +15,7 @@ invariant_of-routes c = record { family = c.requires.filled.entered.family }
 pub set_bars-requires : goal.set_bars-requires
 set_bars-requires c =
     let F = c.requires.filled in
-    record { inside = (place_in c.args.rank F, omega (arith, c.requires.places)); in_tail = rw (entry_is c.args.rank F) c.requires.in_tail }
+    record { inside = place_in c.args.rank F; flags_long = omega (arith, c.requires.places); in_tail = rw (entry_is c.args.rank F) c.requires.in_tail }
 
 pub returns : goal.returns
 returns c =

@@ -1,5 +1,5 @@
 -- `laying::Routes::lay_out`: the parent's place is lower, and what is laid out for it is the first part. Assumes nothing.
-use Prim.Native.Nat.{ℕ, ◌+◌, ◌-◌, min}
+use Prim.Native.Nat.{ℕ, ◌+◌, min}
 use native.Mathlib.Omega.{arith}
 use mathlib.Core.Path.{◌≡◌, sym, ◌∙◌, ap}
 use mathlib.Core.List.{List, ◌++◌}

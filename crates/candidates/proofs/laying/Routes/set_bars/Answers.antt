@@ -1,9 +1,7 @@
 -- `laying::Routes::set_bars` goes from parent to parent, and the place falls. The loop: the flags that are still to be set make up those of the contract. Assumes nothing.
-use Prim.Native.Nat.{ℕ, ◌+◌, ◌-◌}
+use Prim.Native.Nat.{◌-◌}
 use native.Mathlib.Omega.{arith}
-use mathlib.Core.Path.{◌≡◌, refl, sym, ◌∙◌}
-use Rattle.candidates.specs.Slots.{Entry}
-use Rattle.candidates.specs.Views.{entry_in}
+use mathlib.Core.Path.{refl, ◌∙◌}
 use Rattle.candidates.proofs.RootedLaws.{rooted_in, rooted_fits, parent_lower, leaves_late, leaves_early}
 use Rattle.candidates.proofs.BarLaws.{own_marked, root_marked, parent_marked}
 use Rattle.candidates.proofs.laying.Routes.set_bars.Goals as goal
