@@ -10,7 +10,8 @@ ghost use Rattle.loading.specs.Selected.{Indices, at_places, selected, in_a_row}
 use crate::network::Network;
 use image::{Word, costs_start, read_words};
 
-// The tails and heads of the arcs at these indices, each in a slice of its own: the star keeps them apart.
+// The tails and heads of the arcs at these indices, each in a slice of its own: the star keeps them apart. By
+// place, here and in `pick_costs`: of what is written through `iter_mut().zip(..)` a proof knows nothing.
 pub fn read_arcs(network: &Network<'_>, kept: &[u16], tails: &mut [u16], heads: &mut [u16])
     requires indices { Indices network.now.sizes.m kept.now }
     requires tails_len { length tails.old ≡ length kept.now }

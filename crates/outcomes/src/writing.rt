@@ -13,8 +13,8 @@ pub fn narrow(label: u64) -> u32
     if label == FAR { u32::MAX } else { label as u32 }
 }
 
-// Writes the labels of the nodes 1, 2 and so on, in 32 bits. A zip with `exact[1..]` would first have to test
-// that there is a place 0.
+// Writes the labels of the nodes 1, 2 and so on, in 32 bits. By place: of what is written through
+// `iter_mut().zip(..)` a proof knows nothing.
 pub fn write_narrow(exact: &[u64], labels: &mut [u32])
     requires labels_long { length exact.now ≤ length labels.old + 1 }
     requires exact_narrow { (v : ℕ) → v < length exact.now → Narrow (get_or exact.now v 0) }
