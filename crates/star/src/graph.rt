@@ -24,16 +24,16 @@ impl<'a> Graph<'a> {
 
     // The tail of each arc.
     pub fn tails(&self) -> &'a [u16]
-        ensures value { result.now ≡ tails self.now }
-        ensures long { length result.now ≡ length self.now.weights.now }
+        ensures of_graph { result.now ≡ tails self.now }
+        ensures per_arc { length result.now ≡ length self.now.weights.now }
     {
         &self.star[..self.weights.len()]
     }
 
     // The head of each arc.
     pub fn heads(&self) -> &'a [u16]
-        ensures value { result.now ≡ heads self.now }
-        ensures long { length result.now ≡ length self.now.weights.now }
+        ensures of_graph { result.now ≡ heads self.now }
+        ensures per_arc { length result.now ≡ length self.now.weights.now }
     {
         let m = self.weights.len();
         &self.star[m..2 * m]
@@ -41,8 +41,8 @@ impl<'a> Graph<'a> {
 
     // The link from each arc to the next one into the same head.
     pub fn next_in(&self) -> &'a [u16]
-        ensures value { result.now ≡ next_in self.now }
-        ensures long { length result.now ≡ length self.now.weights.now }
+        ensures of_graph { result.now ≡ next_in self.now }
+        ensures per_arc { length result.now ≡ length self.now.weights.now }
     {
         let m = self.weights.len();
         &self.star[2 * m..3 * m]
@@ -50,8 +50,8 @@ impl<'a> Graph<'a> {
 
     // Where the arcs out of each node begin.
     pub fn first_out(&self) -> &'a [u16]
-        ensures value { result.now ≡ first_out self.now }
-        ensures long { length result.now ≡ self.now.nodes + 2 }
+        ensures of_graph { result.now ≡ first_out self.now }
+        ensures per_node_and_end { length result.now ≡ self.now.nodes + 2 }
     {
         let places = self.nodes + 1;
         let outs = 3 * self.weights.len();
@@ -60,8 +60,8 @@ impl<'a> Graph<'a> {
 
     // The link to the last arc into each node.
     pub fn first_in(&self) -> &'a [u16]
-        ensures value { result.now ≡ first_in self.now }
-        ensures long { length result.now ≡ self.now.nodes + 1 }
+        ensures of_graph { result.now ≡ first_in self.now }
+        ensures per_node { length result.now ≡ self.now.nodes + 1 }
     {
         let places = self.nodes + 1;
         let outs = 3 * self.weights.len();

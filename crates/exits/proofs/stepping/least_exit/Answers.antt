@@ -16,7 +16,7 @@ loop-i-preserved c =
     let g = c.args.graph.now in
     let number : ℕ → ℕ = via_arc (heads g) g.weights.now c.args.labels.now c.args.used.now c.args.barred.now in
     let from = out_start g c.args.v in
-    let same = c.heads-heads.ensures.value in
+    let same = c.heads-heads.ensures.of_graph in
     elim c.match-via_below.branch [
       | in-Some w ↦
           let new = rw same at w.in-Some.ensures.is in

@@ -22,8 +22,8 @@ loop-link-preserved c =
     let head_in : c.args.h < length c.loop-link.labels = omega arith in
     let same = c.loop-link.invariant.1 in
     let visited = subst (λ (ts : List ℕ). Visited (get_or ts (c.loop-link.link - 1) 0) (get_or g.weights.now (c.loop-link.link - 1) 0) (get_or c.args.labels.now c.args.h 0) c.args.barred.now c.loop-link.labels c.loop-link.queue c.visit.new.labels c.visit.new.queue)
-    c.tails-tails.ensures.value c.visit.ensures in
-    rw c.next_in-next_in.ensures.value (
+    c.tails-tails.ensures.of_graph c.visit.ensures in
+    rw c.next_in-next_in.ensures.of_graph (
       le_trans (arrays.next_in (c.loop-link.link - 1) arc_in) (le_of_lt arc_in),
       visited_long tail_in same visited,
       le_trans (visited_falls tail_in same visited) c.loop-link.invariant.2,

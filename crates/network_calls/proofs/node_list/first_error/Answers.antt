@@ -16,7 +16,7 @@ arc_between-found-requires c =
     let g = c.args.graph.now in
     let v = get_or c.args.nodes.now (c.loop-at.at - 1) 0 in
     let within = g.holds.star.within (v + 1) (omega (arith, c.loop-at.invariant.2)) in
-    rw (c.heads-heads.ensures.value, c.first_out-first_out.ensures.value) (omega (arith, g.holds.star.long, c.loop-at.invariant.2), omega (arith, within, g.holds.arcs.heads_long))
+    rw (c.heads-heads.ensures.of_graph, c.first_out-first_out.ensures.of_graph) (omega (arith, g.holds.star.long, c.loop-at.invariant.2), omega (arith, within, g.holds.arcs.heads_long))
 
 pub loop-i-init : goal.loop-i-init
 loop-i-init c = (omega arith, below_none _)
@@ -27,7 +27,7 @@ loop-i-preserved c = (omega arith, below_more _ c.loop-i.i c.loop-i.invariant.1 
 pub loop-at-preserved : goal.loop-at-preserved
 loop-at-preserved c =
     let g = c.args.graph.now in
-    let found = rw (c.heads-heads.ensures.value, c.first_out-first_out.ensures.value) at c.arc_between-found.ensures in
+    let found = rw (c.heads-heads.ensures.of_graph, c.first_out-first_out.ensures.of_graph) at c.arc_between-found.ensures in
     let e : c.loop-at.at + 1 - 1 ≡ c.loop-at.at = omega arith in
     let node = head_node g.holds.arcs (found_index found c.in-Some.is) in (
       omega arith,
@@ -41,7 +41,7 @@ returns c = record { after_first = c.requires.some_node; upto = omega arith; rig
 
 pub returns-in_default : goal.returns-in_default
 returns-in_default c =
-    let found = rw (c.heads-heads.ensures.value, c.first_out-first_out.ensures.value) at c.arc_between-found.ensures in
+    let found = rw (c.heads-heads.ensures.of_graph, c.first_out-first_out.ensures.of_graph) at c.arc_between-found.ensures in
     record { after_first = c.loop-at.invariant.0; upto = c.loop-at.invariant.1; right_before = c.loop-at.invariant.3; wrong_here = λ _ o. none_found found c.in_default.is c.args.graph.now.holds.star o.arc.0 o.arc.1 }
 
 pub returns-then-nodes-i : goal.returns-then-nodes-i
