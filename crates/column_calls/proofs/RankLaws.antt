@@ -6,7 +6,7 @@ use mathlib.Core.Path.{◌≡◌, refl, sym, ◌∙◌, ap, ap₂, subst}
 use mathlib.Core.Logic.{⊎_elim}
 use mathlib.Core.List.Memᴰ
 use mathlib.Core.List.{List, [], ◌∷◌, ◌++◌, map}
-use lib.ListN.{length, get_or, take, drop, replicate, length-take, length-drop, length-append, length-map}
+use lib.ListN.{length, get_or, take, drop, length-take, length-drop, length-append, length-map}
 use Rattle.terms.specs.Lists.{◌∈◌}
 use Rattle.terms.specs.Network.{Graph, Net, column}
 use Rattle.terms.specs.Paths.{Route, Path, cost}
@@ -34,7 +34,7 @@ use Rattle.outcomes.specs.Calls.{ranking_rows, room_row, path_row, rank_rows, ra
 use Rattle.loading.specs.Accepted.{InColumn, Ends}
 use Rattle.loading.specs.Loaded.{Loaded}
 use Rattle.loading.proofs.LoadLaws.{loaded_least}
-use Rattle.column_calls.specs.Slices.{ListSlices, ListedWork}
+use Rattle.column_calls.specs.Slices.{ListSlices}
 use Rattle.outcomes.proofs.CostLaws.{column_cost_le}
 use Rattle.outcomes.proofs.RowLaws.{SearchSound, RankingSound, ranking_sound, too_short, long_enough, roomy}
 use Rattle.outcomes.proofs.WorkLaws.{slots_fit}
@@ -95,16 +95,6 @@ module _ (b : List ℕ) (u s t K : ℕ) where
   unfolding rank_of
   few_listed = omega (arith, length-take K (ranked (net_of b).nodes (column (net_of b) u) s t))
 
-  -- nothing is written then
-  module _ (e : rank_of b u s t K ≡ []) where
-    pub no_rows : (old : List ℕ) → after sound (rank_rows_of b u s t K) old ≡ old
-    unfolding rank_rows_of rows_of after
-    no_rows old = rw e
-
-    pub no_costs : (old : List ℕ) → after sound (rank_costs_of b u s t K) old ≡ old
-    unfolding rank_costs_of after
-    no_costs old = rw e
-
   -- ---- row 15
   module _ (accepted : image_fault b ≡ sound) (c : InColumn b u) (ends : Ends (net_of b).nodes s t) where
     empty : (l : List Route) → length l ≡ 0 → l ≡ []
@@ -133,15 +123,6 @@ module _ (b : List ℕ) (u s t K : ℕ) where
     some_listed h =
         let p = first_path K (ranked (net_of b).nodes (column (net_of b) u) s t) h in
         some_path accepted c ends (ranked_path (net_of b).nodes (column (net_of b) u) s t p.1)
-
--- ---- the workspace
-pub work_unused : {r : ℕ} {work work' : List ℕ} → r ≡ 0 → ListedWork r work work' → work' ≡ work
-work_unused e (ListedWork.unused _ w) = w
-work_unused e (ListedWork.emptied h _) = absurd (omega arith)
-
-pub work_emptied : {r : ℕ} {work work' : List ℕ} → 1 ≤ r → ListedWork r work work' → work' ≡ replicate (length work) 0
-work_emptied h (ListedWork.unused e _) = absurd (omega arith)
-work_emptied h (ListedWork.emptied _ w) = w
 
 -- ---- a loaded column
 module _ {b : List ℕ} {u s t : ℕ} (accepted : image_fault b ≡ sound) (c : InColumn b u) (ends : Ends (net_of b).nodes s t) {star ws overall : List ℕ} (l : Loaded (net_of b) u t star ws overall) where

@@ -1,5 +1,5 @@
--- What is lent to a search for the first paths, and what becomes of the workspace. Assumes nothing.
-use Rattle.std.specs.Prelude.{ℕ, ◌+◌, ◌*◌, ◌≤◌, ◌≡◌, List, length, replicate}
+-- What is lent to a search for the first paths. Assumes nothing.
+use Rattle.std.specs.Prelude.{ℕ, ◌+◌, ◌*◌, ◌≤◌, List, length}
 
 -- slices long enough for K paths: K rows, K costs and the workspace's slots
 pub record ListSlices (n K : ℕ) (rows costs work : List ℕ) : Type 0 where
@@ -8,8 +8,3 @@ pub record ListSlices (n K : ℕ) (rows costs work : List ℕ) : Type 0 where
   pub rows_long : K * n ≤ length rows
   pub costs_long : K ≤ length costs
   pub slots_long : K * (n + 16) ≤ length work
-
--- the workspace after r paths were listed: untouched if there are none, all 0 otherwise
-pub data ListedWork (r : ℕ) (work work' : List ℕ) : Type 0 where
-  unused : r ≡ 0 → work' ≡ work → ListedWork r work work'
-  emptied : 1 ≤ r → work' ≡ replicate (length work) 0 → ListedWork r work work'

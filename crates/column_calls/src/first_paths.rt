@@ -1,18 +1,20 @@
 // The first paths of the ranking order in one column of an accepted image. What the three lent slices have room
 // for is asked of each function, here and in rank.rt: a struct over lent `&mut` slices would be taken apart again
 // before they are written.
-ghost use Rattle.std.specs.Prelude.{◌≡◌, map, ◌<◌, length, take, replicate};
+ghost use Rattle.std.specs.Prelude.{◌≡◌, [], ◌∷◌, map, ◌<◌, length, take, replicate};
 ghost use Rattle.terms.specs.Paths.{Route, Path, cost};
 ghost use Rattle.terms.specs.Ranking.{ranked};
 ghost use Rattle.star.specs.Graphs.{arcs_of};
 ghost use Rattle.listing.specs.Rows.{rows_of};
-ghost use Rattle.image.specs.Outcome.{sound, after};
+ghost use Rattle.image.specs.Outcome.{sound, outcome, after};
+ghost use Rattle.image.specs.Answers.{answer, one_number};
 ghost use Rattle.loading.specs.Networks.{net};
-ghost use Rattle.outcomes.specs.Calls.{rank_of, rank_rows_of, rank_costs_of};
-ghost use Rattle.column_calls.specs.Slices.{ListSlices, ListedWork};
+ghost use Rattle.outcomes.specs.Calls.{path_row, rank_of, rank_rows_of, rank_costs_of, cleared};
+ghost use Rattle.column_calls.specs.Slices.{ListSlices};
 
 use super::trip::Trip;
 use candidates::{Entries, Routes};
+use image::Refusal;
 use labels::FAR;
 use listing::{clear, write_rows};
 use ranking::{Query, rank_paths};
@@ -42,19 +44,19 @@ fn list_loaded(query: &Query<'_>, work: &mut [u32], rows: &mut [u16], costs: &mu
     count
 }
 
-// The same from the image on. Nothing is touched if there is no path.
+// Row 15, and the paths from the image on. Nothing is touched if there is no path.
 pub fn list(
     trip: &Trip<'_>,
     wanted: u32,
     rows: &mut [u16],
     costs: &mut [u32],
     work: &mut [u32],
-) -> usize
+) -> Result<u32, Refusal>
     requires { ListSlices (net trip.now.network).nodes wanted rows.old costs.old work.old }
-    ensures value { result ≡ length (rank_of trip.now.network.image.now trip.now.column trip.now.start trip.now.goal wanted) }
-    ensures rows_after { rows.new ≡ after sound (rank_rows_of trip.now.network.image.now trip.now.column trip.now.start trip.now.goal wanted) rows.old }
-    ensures costs_after { costs.new ≡ after sound (rank_costs_of trip.now.network.image.now trip.now.column trip.now.start trip.now.goal wanted) costs.old }
-    ensures listed_work { ListedWork result work.old work.new }
+    ensures result_value { answer one_number result ≡ outcome (path_row trip.now.network.image.now trip.now.column trip.now.start trip.now.goal) (length (rank_of trip.now.network.image.now trip.now.column trip.now.start trip.now.goal wanted) ∷ []) }
+    ensures rows_after { rows.new ≡ after (path_row trip.now.network.image.now trip.now.column trip.now.start trip.now.goal) (rank_rows_of trip.now.network.image.now trip.now.column trip.now.start trip.now.goal wanted) rows.old }
+    ensures costs_after { costs.new ≡ after (path_row trip.now.network.image.now trip.now.column trip.now.start trip.now.goal) (rank_costs_of trip.now.network.image.now trip.now.column trip.now.start trip.now.goal wanted) costs.old }
+    ensures work_after { work.new ≡ cleared (path_row trip.now.network.image.now trip.now.column trip.now.start trip.now.goal) work.old }
 {
     let mut star_room = [0u16; 3403];
     let mut weight_room = [0u32; 1000];
@@ -66,7 +68,7 @@ pub fn list(
     let labels = &mut label_room[..places];
     let graph = trip.load(star, weights, labels);
     if labels[trip.start as usize] == FAR {
-        return 0;
+        return Err(Refusal::NoPath);
     }
     let query = Query {
         graph,
@@ -75,5 +77,6 @@ pub fn list(
         goal: trip.goal as usize,
         slots: wanted as usize,
     };
-    list_loaded(&query, work, rows, costs)
+    let count = list_loaded(&query, work, rows, costs);
+    Ok(count as u32)
 }

@@ -1,12 +1,10 @@
 // Rank: the first paths of the ranking order.
-ghost use Rattle.std.specs.Prelude.{◌≡◌, [], ◌∷◌, length};
+ghost use Rattle.std.specs.Prelude.{◌≡◌, length};
 ghost use Rattle.image.specs.Outcome.{outcome, after};
 ghost use Rattle.image.specs.Calls.{sizes};
 ghost use Rattle.image.specs.Answers.{answer, one_number, size_list};
-ghost use Rattle.outcomes.specs.Calls.{path_row, rank_rows, rank_fault, rank_of, rank_rows_of, rank_costs_of, rank_outcome, cleared};
-ghost use Rattle.loading.specs.Networks.{net};
+ghost use Rattle.outcomes.specs.Calls.{rank_rows, rank_fault, rank_of, rank_rows_of, rank_costs_of, rank_outcome, cleared};
 ghost use Rattle.outcomes.specs.Demands.{Kept2};
-ghost use Rattle.column_calls.specs.Slices.{ListSlices};
 
 use super::first_paths::list;
 use super::trip::Trip;
@@ -34,27 +32,6 @@ fn check_rank(
         return Err(Refusal::SliceTooShort);
     }
     Ok(sizes)
-}
-
-// Row 15, and the paths. Whether there is one is decided before anything is written: then the number is 0.
-fn write_ranked(
-    trip: &Trip<'_>,
-    wanted: u32,
-    rows: &mut [u16],
-    costs: &mut [u32],
-    work: &mut [u32],
-) -> Result<u32, Refusal>
-    requires { ListSlices (net trip.now.network).nodes wanted rows.old costs.old work.old }
-    ensures result_value { answer one_number result ≡ outcome (path_row trip.now.network.image.now trip.now.column trip.now.start trip.now.goal) (length (rank_of trip.now.network.image.now trip.now.column trip.now.start trip.now.goal wanted) ∷ []) }
-    ensures rows_after { rows.new ≡ after (path_row trip.now.network.image.now trip.now.column trip.now.start trip.now.goal) (rank_rows_of trip.now.network.image.now trip.now.column trip.now.start trip.now.goal wanted) rows.old }
-    ensures costs_after { costs.new ≡ after (path_row trip.now.network.image.now trip.now.column trip.now.start trip.now.goal) (rank_costs_of trip.now.network.image.now trip.now.column trip.now.start trip.now.goal wanted) costs.old }
-    ensures work_after { work.new ≡ cleared (path_row trip.now.network.image.now trip.now.column trip.now.start trip.now.goal) work.old }
-{
-    let count = list(trip, wanted, rows, costs, work);
-    if count == 0 {
-        return Err(Refusal::NoPath);
-    }
-    Ok(count as u32)
 }
 
 // REFERENCE, section 4.5. The first four promises say what is given, which is the number of paths, and written;
@@ -91,5 +68,5 @@ pub fn rank(
         start,
         goal,
     };
-    write_ranked(&trip, wanted, rows, costs, work)
+    list(&trip, wanted, rows, costs, work)
 }

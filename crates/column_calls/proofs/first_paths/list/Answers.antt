@@ -1,10 +1,14 @@
 -- `first_paths::list`: a start whose label is the mark has no path; else the loaded column is what the ranking asks for. Assumes nothing.
+use Prim.Native.Nat.{ℕ}
 use native.Mathlib.Omega.{arith}
-use mathlib.Core.Path.{refl, sym, ◌∙◌, ap}
+use mathlib.Core.Path.{sym, ◌∙◌, ap}
+use mathlib.Core.List.{[], ◌∷◌}
 use lib.ListN.{length}
-use Rattle.column_calls.specs.Slices.{ListedWork}
-use Rattle.column_calls.proofs.RankLaws.{slices_for, none_reached, some_reached, no_rows, no_costs, light_paths, column_count, column_rows, column_costs}
-use Rattle.outcomes.proofs.WorkLaws.{rank_problem}
+use Rattle.image.specs.Outcome.{gives, after}
+use Rattle.image.proofs.OutcomeLaws.{outcome_fault, outcome_sound, after_fault}
+use Rattle.outcomes.specs.Calls.{rank_rows_of, rank_costs_of, cleared}
+use Rattle.column_calls.proofs.RankLaws.{slices_for, none_reached, some_reached, none_listed, some_listed, few_listed, light_paths, column_count, column_rows, column_costs}
+use Rattle.outcomes.proofs.WorkLaws.{rank_problem, cleared_is, cleared_not}
 use Rattle.loading.proofs.DecodeLaws.{few_arcs, few_nodes}
 use Rattle.loading.proofs.RoomLaws.{places_fit, star_fits, local_room}
 use Rattle.column_calls.proofs.first_paths.list.Goals as goal
@@ -13,10 +17,11 @@ pub returns-then-labels-trip : goal.returns-then-labels-trip
 returns-then-labels-trip c =
     let column_loaded = c.load-graph.ensures.loaded in
     let e = none_reached c.args.trip.now.network.accepted.passes c.args.trip.now.in_column c.args.trip.now.ends column_loaded c.args.wanted c.if-labels-trip.true in
-    record { value = sym (ap length e); rows_after = sym (no_rows c.args.trip.now.network.image.now c.args.trip.now.column c.args.trip.now.start c.args.trip.now.goal c.args.wanted e c.args.rows.now); costs_after = sym (no_costs c.args.trip.now.network.image.now c.args.trip.now.column c.args.trip.now.start c.args.trip.now.goal c.args.wanted e c.args.costs.now); listed_work = ListedWork.unused refl refl }
+    let none = (none_listed c.args.trip.now.network.image.now c.args.trip.now.column c.args.trip.now.start c.args.trip.now.goal c.args.wanted c.args.trip.now.network.accepted.passes c.args.trip.now.in_column c.args.trip.now.ends c.requires.wanted_from (ap length e)).0 in
+    record { result_value = sym (outcome_fault _ none); rows_after = sym (after_fault _ _ none); costs_after = sym (after_fault _ _ none); work_after = sym (cleared_not _ none) }
 
-pub list_loaded-requires : goal.list_loaded-requires
-list_loaded-requires c =
+pub list_loaded-count-requires : goal.list_loaded-count-requires
+list_loaded-count-requires c =
     let column_loaded = c.load-graph.ensures.loaded in
     record { list_slices = slices_for (c.load-graph.ensures.nodes ∙ c.args.trip.now.network.accepted.nodes_are) c.requires; costs_fit = light_paths c.args.trip.now.network.accepted.passes c.args.trip.now.in_column c.args.trip.now.ends column_loaded }
 
@@ -25,9 +30,18 @@ returns c =
     let column_loaded = c.load-graph.ensures.loaded in
     let L = column_loaded in
     let n = (c.load-graph.ensures.nodes ∙ c.args.trip.now.network.accepted.nodes_are) in
-    let count = column_count c.args.trip.now.network.accepted.passes c.args.trip.now.in_column c.args.trip.now.ends L n c.args.wanted _ c.list_loaded.ensures.value in
+    let count = column_count c.args.trip.now.network.accepted.passes c.args.trip.now.in_column c.args.trip.now.ends L n c.args.wanted _ c.list_loaded-count.ensures.value in
     let some = some_reached c.args.trip.now.network.accepted.passes c.args.trip.now.in_column c.args.trip.now.ends L c.requires.wanted_from c.if-labels-trip.false in
-    record { value = count; rows_after = column_rows c.args.trip.now.network.accepted.passes c.args.trip.now.in_column c.args.trip.now.ends L n c.args.wanted c.args.rows.now c.list_loaded.ensures.rows_after; costs_after = column_costs c.args.trip.now.network.accepted.passes c.args.trip.now.in_column c.args.trip.now.ends L n c.args.wanted c.args.costs.now c.list_loaded.ensures.costs_after; listed_work = ListedWork.emptied (omega (arith, count, some)) c.list_loaded.ensures.work_after }
+    let e = some_listed c.args.trip.now.network.image.now c.args.trip.now.column c.args.trip.now.start c.args.trip.now.goal c.args.wanted c.args.trip.now.network.accepted.passes c.args.trip.now.in_column c.args.trip.now.ends some in
+    record {
+      result_value = ap (λ (x : ℕ). gives (x ∷ [])) count ∙ sym (outcome_sound _ e);
+      rows_after = column_rows c.args.trip.now.network.accepted.passes c.args.trip.now.in_column c.args.trip.now.ends L n c.args.wanted c.args.rows.now c.list_loaded-count.ensures.rows_after ∙ ap (λ f. after f (rank_rows_of c.args.trip.now.network.image.now c.args.trip.now.column c.args.trip.now.start c.args.trip.now.goal c.args.wanted) c.args.rows.now) (sym e);
+      costs_after = column_costs c.args.trip.now.network.accepted.passes c.args.trip.now.in_column c.args.trip.now.ends L n c.args.wanted c.args.costs.now c.list_loaded-count.ensures.costs_after ∙ ap (λ f. after f (rank_costs_of c.args.trip.now.network.image.now c.args.trip.now.column c.args.trip.now.start c.args.trip.now.goal c.args.wanted) c.args.costs.now) (sym e);
+      work_after = c.list_loaded-count.ensures.work_after ∙ cleared_is c.args.work.now ∙ ap (λ f. cleared f c.args.work.now) (sym e);
+    }
+
+pub overflow_cast-result : goal.overflow_cast-result
+overflow_cast-result c = omega (arith, column_count c.args.trip.now.network.accepted.passes c.args.trip.now.in_column c.args.trip.now.ends c.load-graph.ensures.loaded (c.load-graph.ensures.nodes ∙ c.args.trip.now.network.accepted.nodes_are) c.args.wanted _ c.list_loaded-count.ensures.value, few_listed c.args.trip.now.network.image.now c.args.trip.now.column c.args.trip.now.start c.args.trip.now.goal c.args.wanted, c.requires.wanted_to)
 
 pub invariant_of-query : goal.invariant_of-query
 invariant_of-query c =

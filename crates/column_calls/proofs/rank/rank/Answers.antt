@@ -27,8 +27,8 @@ returns-in_err-sizes c =
     let f = then_fault _ (refuses_fault _ _ c.in_err-sizes.ensures) in
     record { result_value = handed_on _ _ _ c.from_residual.ensures.1 ∙ sym (outcome_fault _ f); rows_after = sym (after_fault _ _ f); costs_after = sym (after_fault _ _ f); work_after = sym (cleared_not _ f); kept2 = kept_2 c.args.image.now c.args.column c.args.start c.args.goal c.args.wanted (length c.args.rows.now) (length c.args.costs.now) (length c.args.work.now) }
 
-pub write_ranked-requires : goal.write_ranked-requires
-write_ranked-requires c =
+pub list-requires : goal.list-requires
+list-requires c =
     let e = (passes _ _ _ _ c.args.rows.now c.args.costs.now c.args.work.now c.in_ok-sizes.ensures).0 in
     rank_slices c.args.image.now c.args.column c.args.start c.args.goal c.args.wanted c.args.rows.now c.args.costs.now c.args.work.now e
 
@@ -42,7 +42,7 @@ pub returns : goal.returns
 unfolding rank_outcome rank_fault
 returns c =
     let e = sym (then_next (path_row c.args.image.now c.args.column c.args.start c.args.goal) (passes _ _ _ _ c.args.rows.now c.args.costs.now c.args.work.now c.in_ok-sizes.ensures).0) in
-    record { result_value = c.write_ranked.ensures.result_value ∙ ap (λ f. outcome f (length (rank_of c.args.image.now c.args.column c.args.start c.args.goal c.args.wanted) ∷ [])) e; rows_after = c.write_ranked.ensures.rows_after ∙ ap (λ f. after f (rank_rows_of c.args.image.now c.args.column c.args.start c.args.goal c.args.wanted) c.args.rows.now) e; costs_after = c.write_ranked.ensures.costs_after ∙ ap (λ f. after f (rank_costs_of c.args.image.now c.args.column c.args.start c.args.goal c.args.wanted) c.args.costs.now) e; work_after = c.write_ranked.ensures.work_after ∙ ap (λ f. cleared f c.args.work.now) e; kept2 = kept_2 c.args.image.now c.args.column c.args.start c.args.goal c.args.wanted (length c.args.rows.now) (length c.args.costs.now) (length c.args.work.now) }
+    record { result_value = c.list.ensures.result_value ∙ ap (λ f. outcome f (length (rank_of c.args.image.now c.args.column c.args.start c.args.goal c.args.wanted) ∷ [])) e; rows_after = c.list.ensures.rows_after ∙ ap (λ f. after f (rank_rows_of c.args.image.now c.args.column c.args.start c.args.goal c.args.wanted) c.args.rows.now) e; costs_after = c.list.ensures.costs_after ∙ ap (λ f. after f (rank_costs_of c.args.image.now c.args.column c.args.start c.args.goal c.args.wanted) c.args.costs.now) e; work_after = c.list.ensures.work_after ∙ ap (λ f. cleared f c.args.work.now) e; kept2 = kept_2 c.args.image.now c.args.column c.args.start c.args.goal c.args.wanted (length c.args.rows.now) (length c.args.costs.now) (length c.args.work.now) }
 
 pub invariant_of-trip : goal.invariant_of-trip
 invariant_of-trip c =
