@@ -7,8 +7,9 @@ ghost use Rattle.closures.specs.Map.{shut, turned, closed_roads};
 pub fn is_closed(words: &[u64], i: usize) -> bool
     ensures { result ≡ shut words.now i }
 {
-    let at = i / 64;
-    at < words.len() && (words[at] >> (i % 64)) % 2 == 1
+    words
+        .get(i / 64)
+        .is_some_and(|word| (word >> (i % 64)) % 2 == 1)
 }
 
 // The map with the bit of arc i turned over.
