@@ -16,7 +16,7 @@ use Rattle.choosing.proofs.answering.least_regret.Goals as goal
 pub lay_out-requires : goal.lay_out-requires
 lay_out-requires c =
     let rooted = c.search-found.ensures.decided.rooted in
-    record { inside = omega arith; fits = (len_some rooted c.length-length.ensures, omega (arith, c.length-length.ensures), omega (arith, len_upto rooted c.length-length.ensures, c.requires.route_long)) }
+    record { inside = omega arith; count_fits = (len_some rooted c.length-length.ensures, omega (arith, c.length-length.ensures), omega (arith, len_upto rooted c.length-length.ensures, c.requires.route_long)) }
 
 pub state-requires : goal.state-requires
 state-requires c =

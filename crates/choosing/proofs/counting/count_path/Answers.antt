@@ -16,8 +16,8 @@ slice_bounds-room-end c = path_room c.args.ranked.now c.args.rank c.requires.ins
 pub slice_bounds-path-end : goal.slice_bounds-path-end
 slice_bounds-path-end c = sym (part_long 200 _ (path_room c.args.ranked.now c.args.rank c.requires.inside c.length-len.ensures))
 
-pub lay_out-requires-clause-fits : goal.lay_out-requires-clause-fits
-lay_out-requires-clause-fits c =
+pub lay_out-requires-clause-count_fits : goal.lay_out-requires-clause-count_fits
+lay_out-requires-clause-count_fits c =
     let long = part_long 200 c.length-len.result (path_room c.args.ranked.now c.args.rank c.requires.inside c.length-len.ensures) in
     (len_some (rooted_in c.args.ranked.now c.args.rank c.requires.inside) c.length-len.ensures, omega (arith, c.length-len.ensures), omega (arith, long))
 

@@ -14,7 +14,7 @@ use Rattle.listing.proofs.rows.write_row.Goals as goal
 pub lay_out-requires : goal.lay_out-requires
 lay_out-requires c =
     let fits : Fits c.args.ranked.now.entries.nodes (entries c.args.ranked.now.entries.nodes c.args.ranked.now.entries.work.now (c.args.place + 1)) c.args.place (entry_at c.args.ranked.now.entries.nodes c.args.ranked.now.entries.work.now c.args.place) = rooted_fits c.args.ranked.now.entries.nodes c.args.ranked.now.entries.work.now c.args.place (rooted_in c.args.ranked.now c.args.place c.requires.0) in
-    record { inside = c.requires.0; fits = (omega (arith, fits.some), omega arith, omega (arith, fits.short)) }
+    record { inside = c.requires.0; count_fits = (omega (arith, fits.some), omega arith, omega (arith, fits.short)) }
 
 pub slice_bounds-fill-count : goal.slice_bounds-fill-count
 slice_bounds-fill-count c = omega (arith, (rooted_fits _ _ _ (rooted_in c.args.ranked.now c.args.place c.requires.0)).short)

@@ -27,7 +27,7 @@ lay_out-requires c =
     let F = c.requires.filled in
     let D = c.requires.due in
     let size_is = due_size q.graph.holds q.posed F D c.shared-shared.ensures c.tail_length.ensures in
-    record { inside = due_place q.graph.holds q.posed F D; fits = rw (due_entry q.graph.holds q.posed F D) (omega (arith, size_is, due_some q.graph.holds q.posed F D), omega (arith, size_is), omega (arith, size_is, due_short q.graph.holds q.posed F D, (blank_parts (graph_few q.graph)).path_long)) }
+    record { inside = due_place q.graph.holds q.posed F D; count_fits = rw (due_entry q.graph.holds q.posed F D) (omega (arith, size_is, due_some q.graph.holds q.posed F D), omega (arith, size_is), omega (arith, size_is, due_short q.graph.holds q.posed F D, (blank_parts (graph_few q.graph)).path_long)) }
 
 pub mark-requires : goal.mark-requires
 mark-requires c =

@@ -19,7 +19,7 @@ lay_out-requires t c =
       omega (arith, c.decreases, parent_lower c.args.self.now.entries.nodes c.args.self.now.entries.work.now c.args.place root r z),
       (
         omega (arith, c.requires.inside, parent_lower c.args.self.now.entries.nodes c.args.self.now.entries.work.now c.args.place root r z),
-        (omega (arith, c.requires.fits, c.shared-shared.ensures, (rooted_fits c.args.self.now.entries.nodes c.args.self.now.entries.work.now c.args.place root).some), omega (arith, c.shared-shared.ensures, leaves_early c.args.self.now.entries.nodes c.args.self.now.entries.work.now c.args.place root r z), omega (arith, c.requires.fits, c.min.ensures)),
+        (omega (arith, c.requires.count_fits, c.shared-shared.ensures, (rooted_fits c.args.self.now.entries.nodes c.args.self.now.entries.work.now c.args.place root).some), omega (arith, c.shared-shared.ensures, leaves_early c.args.self.now.entries.nodes c.args.self.now.entries.work.now c.args.place root r z), omega (arith, c.requires.count_fits, c.min.ensures)),
       ),
     )
 
@@ -35,7 +35,7 @@ returns t c =
     let began : c.match-parent.path ≡ take k first ++ drop k c.args.path.now = elim c.match-parent.branch [
       | in-None w ↦
           let z = w.in-None.ensures in
-          w.path-is ∙ start_laid c.args.self.now.start c.shared-shared.result c.args.count first c.args.path.now (taken_start c.args.self.now.entries.nodes c.args.self.now.entries.work.now c.args.place root c.args.self.now.start z) (same ∙ (rooted_fits c.args.self.now.entries.nodes c.args.self.now.entries.work.now c.args.place root).from_start z) c.requires.fits.0 (omega arith)
+          w.path-is ∙ start_laid c.args.self.now.start c.shared-shared.result c.args.count first c.args.path.now (taken_start c.args.self.now.entries.nodes c.args.self.now.entries.work.now c.args.place root c.args.self.now.start z) (same ∙ (rooted_fits c.args.self.now.entries.nodes c.args.self.now.entries.work.now c.args.place root).from_start z) c.requires.count_fits.0 (omega arith)
       | in-Some w ↦
           let z : (entry_at c.args.self.now.entries.nodes c.args.self.now.entries.work.now c.args.place).parent ≡ w.in-Some.parent + 1 = w.in-Some.ensures in
           w.path-is ∙ parent_laid c.shared-shared.result c.args.count w.min.result first (route_at c.args.self.now.start c.args.self.now.entries.nodes c.args.self.now.entries.work.now w.in-Some.parent) c.args.path.now _ (taken_parent c.args.self.now.entries.nodes c.args.self.now.entries.work.now c.args.place root c.args.self.now.start w.in-Some.parent z ∙ ap (λ (x : ℕ). take x (route_at c.args.self.now.start c.args.self.now.entries.nodes c.args.self.now.entries.work.now w.in-Some.parent)) (sym same)) w.min.ensures w.lay_out.ensures

@@ -16,7 +16,7 @@ use Rattle.candidates.proofs.laying.Routes.route_before.Goals as goal
 pub lay_out-requires : goal.lay_out-requires
 lay_out-requires c =
     let fits : Fits c.args.self.now.entries.nodes (entries c.args.self.now.entries.nodes c.args.self.now.entries.work.now (c.args.place + 1)) c.args.place (entry_at c.args.self.now.entries.nodes c.args.self.now.entries.work.now c.args.place) = rooted_fits c.args.self.now.entries.nodes c.args.self.now.entries.work.now c.args.place (rooted_in c.args.self.now c.args.place c.requires.0) in
-    record { inside = c.requires.0; fits = (omega (arith, fits.some), omega arith, omega (arith, fits.short)) }
+    record { inside = c.requires.0; count_fits = (omega (arith, fits.some), omega arith, omega (arith, fits.short)) }
 
 pub slice_bounds-laid-end : goal.slice_bounds-laid-end
 slice_bounds-laid-end c =
