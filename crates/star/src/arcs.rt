@@ -29,7 +29,7 @@ pub fn find_arc(tails: &[u16], heads: &[u16], range: Range<usize>, arc: (usize, 
         let middle = first + before;
         looks += 1;
         let record = (tails[middle] as usize, heads[middle] as usize);
-        // two tests: one `cmp` costs a quarter more in instructions
+        // two tests: one `cmp` costs a third more in instructions
         if record == arc {
             return Sought {
                 arc: Some(middle as u16),
