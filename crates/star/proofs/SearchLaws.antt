@@ -48,10 +48,6 @@ module _ (t h t' h' : ℕ) where
   pub below_of : t ≤ t' → (t ≡ t' → h < h') → below (t, h) (t', h') ≡ true
   below_of l e = ⊎_elim (λ q. below_level q ∙ lt-ltb h h' (e q)) (λ k. below_apart (λ q. omega arith) ∙ lt-ltb t t' k) (eq-or-lt_of_le l)
 
-  pub arc_apart : (t ≡ t' → ⊥) → is_arc (t, h) (t', h') ≡ false
-  unfolding is_arc
-  arc_apart n = rw (ne_eqb t t' n)
-
   pub arc_level : t ≡ t' → is_arc (t, h) (t', h') ≡ eqb h h'
   unfolding is_arc
   arc_level e = rw (eq-eqb t t' e)
