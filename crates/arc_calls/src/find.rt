@@ -1,4 +1,5 @@
 // Find: the arc between two nodes, among all records of an image.
+// Arrays have room for the largest network: the library allocates nothing, its memory is fixed.
 ghost use Rattle.std.specs.Prelude.{◌≡◌};
 ghost use Rattle.image.specs.Outcome.{sound};
 ghost use Rattle.image.specs.Layout.{net_of};

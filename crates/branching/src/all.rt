@@ -1,4 +1,5 @@
 // The first of all paths: that of the branch that holds them all.
+// Arrays have room for the largest network: the library allocates nothing, its memory is fixed.
 ghost use Rattle.std.specs.Prelude.{◌≡◌, [], ◌+◌, ◌≤◌, length};
 ghost use Rattle.labels.specs.Labels.{Least};
 ghost use Rattle.branching.specs.Branches.{everything};

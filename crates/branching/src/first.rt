@@ -2,6 +2,7 @@
 // the branch, or else along labels with the beginning barred, or else step by step.
 // A struct of path, used, barred and d with Begun as a ghost field proves and is no plainer: `Kept` compares used and the first d nodes of path before and after each call, which such a struct can't say, and each function takes it apart to walk.
 // Graph, goal and labels are no struct: one call of `first_path` walks along three kinds of labels, of which each has facts of its own (Consistent, Small, Least), and Ahead and the lengths are of slices that the call lends.
+// Arrays have room for the largest network: the library allocates nothing, its memory is fixed.
 ghost use Rattle.std.specs.Prelude.{◌≡◌, true, false, List, [], ◌∷◌, ◌++◌, ℕ, ◌+◌, ◌-◌, ◌≤◌, ◌<◌, length, take, get_or};
 ghost use Rattle.terms.specs.Paths.{Route};
 ghost use Rattle.branching.specs.Branches.{branch, In, First, Beginning};

@@ -1,4 +1,5 @@
 // Paths are counted in the ranking order, and the earliest with the least figure leads.
+// Arrays have room for the largest network: the library allocates nothing, its memory is fixed.
 ghost use Rattle.std.specs.Prelude.{◌≡◌, ◌<◌};
 ghost use Rattle.terms.specs.Paths.{Path};
 ghost use Rattle.candidates.specs.Views.{route_in};

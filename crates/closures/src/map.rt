@@ -1,4 +1,5 @@
 // The map of closed arcs: 64 arcs a word, arc 0 the lowest bit of the first.
+// Arrays have room for the largest network: the library allocates nothing, its memory is fixed.
 ghost use Rattle.std.specs.Prelude.{◌≡◌, ◌%◌, ◌^◌, ◌≤◌, ◌<◌, min};
 ghost use Rattle.std.specs.Int.Count.{ones};
 ghost use Rattle.closures.specs.Map.{shut, turned, closed_roads};

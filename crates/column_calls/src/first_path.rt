@@ -1,4 +1,5 @@
 // The first path of the ranking order in one column of an accepted image.
+// Arrays have room for the largest network: the library allocates nothing, its memory is fixed.
 ghost use Rattle.std.specs.Prelude.{◌≡◌, length};
 ghost use Rattle.terms.specs.Network.{column};
 ghost use Rattle.branching.specs.Branches.{everything};

@@ -1,4 +1,5 @@
 // Label: for each node the least cost to the goal.
+// Arrays have room for the largest network: the library allocates nothing, its memory is fixed.
 ghost use Rattle.std.specs.Prelude.{◌≡◌, ◌++◌, ◌+◌, ◌≤◌, ◌<◌, length, drop};
 ghost use Rattle.image.specs.Outcome.{after, outcome};
 ghost use Rattle.image.specs.Calls.{sizes};

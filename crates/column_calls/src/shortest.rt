@@ -1,4 +1,5 @@
 // Shortest: the first path of the ranking order.
+// Arrays have room for the largest network: the library allocates nothing, its memory is fixed.
 ghost use Rattle.std.specs.Prelude.{◌≡◌, ◌≤◌, length};
 ghost use Rattle.image.specs.Outcome.{outcome, after};
 ghost use Rattle.image.specs.Calls.{sizes};

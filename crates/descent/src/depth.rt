@@ -1,5 +1,6 @@
 // The search, depth first. That route, flags and path have a place for each node is asked of each function (Begun): a
 // struct over lent &mut slices is lent on whole at each step, and its contracts would still say of each what is kept.
+// Arrays have room for the largest network: the library allocates nothing, its memory is fixed.
 ghost use Rattle.std.specs.Prelude.{◌≡◌, List, map, ℕ, ◌+◌, ◌-◌, ◌≤◌, ◌<◌, length, get_or, take};
 ghost use Rattle.terms.specs.Lists.{largest, numbers};
 ghost use Rattle.terms.specs.Network.{Net};

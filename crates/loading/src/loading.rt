@@ -4,6 +4,7 @@
 // That the column and the goal are of the image and that the lent slices have room is asked of each function: a
 // goal comes without a start (Label has none), and a struct over lent `&mut` slices would be taken apart again
 // before the star is cut to its arcs and read as a graph.
+// Arrays have room for the largest network: the library allocates nothing, its memory is fixed.
 ghost use Rattle.std.specs.Prelude.{◌≡◌, [], ◌+◌, ◌*◌, ◌≤◌, ◌<◌, length, take};
 ghost use Rattle.closures.specs.Map.{without};
 ghost use Rattle.star.specs.Graphs.{arcs_of};

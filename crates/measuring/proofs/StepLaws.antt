@@ -1,6 +1,7 @@
 -- The arcs of a path: where they are found, and that their sum in a column is the path's cost there. Assumes nothing.
 use Prim.Native.Nat.{ℕ, suc, ◌+◌, ◌-◌, ◌≤◌, ◌<◌}
 use native.Mathlib.Omega.{arith}
+use native.Mathlib.Numerals.{add-one}
 use native.Mathlib.Nat.{eq-or-lt_of_le}
 use mathlib.Core.Path.{◌≡◌, refl, sym, ◌∙◌, ap, ap₂, subst}
 use mathlib.Core.Logic.{⊎_elim}
@@ -9,7 +10,7 @@ use mathlib.Core.List.{List, [], ◌∷◌}
 use lib.Dec.{eqb}
 use Rattle.std.specs.Prelude.{Option, unwrap_or}
 use lib.ListN.{length, get_or, set, take, drop, length-drop}
-use lib.Seq.{get_or-take, get_or-drop}
+use lib.Seq.{drop-cons, get_or-take, get_or-drop}
 use Rattle.std.proofs.lemmas.List.Elements.{All-from_get_or}
 use Rattle.std.proofs.lemmas.List.Sums.{sum_by-cons}
 use Rattle.terms.specs.Lists.{largest, index}
@@ -32,6 +33,11 @@ use Rattle.measuring.proofs.ColumnLaws.{length_columns, held_column, column_full
 pub excess_within : (m : ℕ) (costs bests arcs : List ℕ) (u : ℕ) → 1 ≤ u → u ≤ length bests → excess m costs bests arcs u ≤ largest (excesses m costs bests arcs)
 unfolding excesses
 excess_within m costs bests arcs u lo hi = largest_ge (Memᴰ.map (excess m costs bests arcs) (mem_numbers 1 (length bests) u lo (omega arith)))
+
+-- the sum from the arc at index i on is that arc's weight and the sum from the next one on
+pub sum_more : (ws arcs : List ℕ) (i : ℕ) → i < length arcs → sum_of ws (drop i arcs) ≡ get_or ws (get_or arcs i 0) 0 + sum_of ws (drop (i + 1) arcs)
+unfolding sum_of
+sum_more ws arcs i h = rw (add-one, drop-cons arcs i 0 h) (sum_by-cons (λ a. get_or ws a 0) (get_or arcs i 0) (drop (suc i) arcs))
 
 -- the sum of the arcs in column i + 1, less the column's best
 pub excess_is : (c : Columns) (bests arcs : List ℕ) (i : ℕ) {ws : List ℕ} {sum : ℕ} → ws ≡ costs_in c (i + 1) → sum ≡ sum_of ws arcs → sum - get_or bests i 0 ≡ excess c.arcs c.costs.now bests arcs (i + 1)

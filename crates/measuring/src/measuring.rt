@@ -1,4 +1,5 @@
 // The greatest regret of a path, and its worst column.
+// Arrays have room for the largest network: the library allocates nothing, its memory is fixed.
 ghost use Rattle.std.specs.Prelude.{◌≡◌, ℕ, ◌+◌, ◌-◌, ◌≤◌, length, get_or};
 ghost use Rattle.terms.specs.Network.{column};
 ghost use Rattle.terms.specs.Paths.{ByArcs, cost};

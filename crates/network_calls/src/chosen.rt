@@ -1,4 +1,5 @@
 // The path whose greatest regret is least, of an accepted image.
+// Arrays have room for the largest network: the library allocates nothing, its memory is fixed.
 ghost use Rattle.std.specs.Prelude.{◌≡◌, ◌+◌, ◌≤◌, length, replicate};
 ghost use Rattle.terms.specs.Robust.{robust};
 ghost use Rattle.closures.specs.Map.{without};

@@ -1,4 +1,5 @@
 // A node list held to the paths that are open in every column of an accepted image, and measured.
+// Arrays have room for the largest network: the library allocates nothing, its memory is fixed.
 ghost use Rattle.std.specs.Prelude.{◌≡◌, [], ◌∷◌, length};
 ghost use Rattle.terms.specs.Network.{common};
 ghost use Rattle.terms.specs.Paths.{OpenPath};

@@ -1,4 +1,5 @@
 // Each column's best: the least cost of a path that is open in it.
+// Arrays have room for the largest network: the library allocates nothing, its memory is fixed.
 ghost use Rattle.std.specs.Prelude.{◌≡◌, length, IfSome};
 ghost use Rattle.terms.specs.Network.{common};
 ghost use Rattle.terms.specs.Regret as terms;

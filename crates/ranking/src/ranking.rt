@@ -1,5 +1,6 @@
 // The ranked list: the first path of all is the first candidate, and each path that is ranked leaves
 // further candidates.
+// Arrays have room for the largest network: the library allocates nothing, its memory is fixed.
 ghost use Rattle.std.specs.Prelude.{◌≡◌, [], ◌+◌, ◌<◌};
 ghost use Rattle.labels.specs.Labels.{far};
 ghost use Rattle.ranking.specs.Queries.{entries_for, FilledFor, ChangedFor, SearchingFor, BeginsFor, RankedFor, StageFor, SpaceFor};

@@ -1,5 +1,6 @@
 // A path is ranked: the branch whose first path it is falls into parts, which leave the path after each
 // of its nodes from those on that it takes over, and these are looked into.
+// Arrays have room for the largest network: the library allocates nothing, its memory is fixed.
 ghost use Rattle.std.specs.Prelude.{◌≡◌, true, List, [], ℕ, ◌+◌, ◌-◌, ◌≤◌, ◌<◌, length, get_or};
 ghost use Rattle.terms.specs.Network.{linked, weight};
 ghost use Rattle.candidates.specs.Slots.{none};

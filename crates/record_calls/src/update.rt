@@ -1,4 +1,5 @@
 // Update: records of costs, written over the costs of an image.
+// Arrays have room for the largest network: the library allocates nothing, its memory is fixed.
 ghost use Rattle.std.specs.Prelude.{◌≡◌, cond, List, ◌++◌, ℕ, ◌+◌, ◌*◌, ◌≤◌, ◌<◌, leb, length, get_or, take, drop, set};
 ghost use Rattle.image.specs.Bytes.{bytes, encode};
 ghost use Rattle.image.specs.Outcome.{sound, outcome, after};

@@ -1,4 +1,5 @@
 // Rows 15 and 19, and the answer where neither applies.
+// Arrays have room for the largest network: the library allocates nothing, its memory is fixed.
 ghost use Rattle.std.specs.Prelude.{◌≡◌, ◌≤◌, length};
 ghost use Rattle.terms.specs.Network.{common};
 ghost use Rattle.image.specs.Outcome.{outcome, after};

@@ -1,5 +1,6 @@
 // What the search reads, from an accepted image: all arcs, all columns, and in each column the labels to the
 // goal.
+// Arrays have room for the largest network: the library allocates nothing, its memory is fixed.
 ghost use Rattle.std.specs.Prelude.{◌≡◌, ℕ, ◌+◌, ◌*◌, ◌≤◌, ◌<◌, length, get_or};
 ghost use Rattle.loading.specs.Accepted.{Node};
 ghost use Rattle.loading.specs.Networks.{net};

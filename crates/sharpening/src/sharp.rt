@@ -1,4 +1,5 @@
 // The labels at hand, sharpened for a branch.
+// Arrays have room for the largest network: the library allocates nothing, its memory is fixed.
 ghost use Rattle.std.specs.Prelude.{◌≡◌, true, false, List, ℕ, ◌+◌, ◌≤◌, ◌<◌, length, get_or};
 ghost use Rattle.terms.specs.Lists.{elem};
 ghost use Rattle.star.specs.Graphs.{arcs_of};

@@ -1,4 +1,5 @@
 // The sheet of an image.
+// Arrays have room for the largest network: the library allocates nothing, its memory is fixed.
 ghost use Rattle.std.specs.Prelude.{◌≡◌, length};
 ghost use Rattle.image.specs.Outcome.{after};
 ghost use Rattle.image.specs.Refusals.{number_of, place_of};

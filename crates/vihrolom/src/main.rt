@@ -3,6 +3,7 @@
 //
 // No image is longer than 36,024 bytes. Of a longer input the first 36,025 bytes are read, which
 // are refused like any image whose length isn't its total.
+// Arrays have room for the largest network: the library allocates nothing, its memory is fixed.
 #![tactic(auto)]
 
 use arrayvec::ArrayVec;

@@ -1,4 +1,5 @@
 // A full run: Robust on the image without the closed arcs.
+// Arrays have room for the largest network: the library allocates nothing, its memory is fixed.
 ghost use Rattle.std.specs.Prelude.{◌≡◌, length, replicate};
 ghost use Rattle.loading.specs.Networks.{net};
 ghost use Rattle.week_calls.specs.Weeks.{run_week};

@@ -1,4 +1,5 @@
 // Whether the current answer stands when an arc is closed.
+// Arrays have room for the largest network: the library allocates nothing, its memory is fixed.
 ghost use Rattle.std.specs.Prelude.{◌≡◌, ◌<◌, length, get_or};
 ghost use Rattle.terms.specs.Regret as terms;
 ghost use Rattle.closures.specs.Map.{without};

@@ -1,4 +1,5 @@
 // A week's state, and what a call gives.
+// Arrays have room for the largest network: the library allocates nothing, its memory is fixed.
 ghost use Rattle.std.specs.Prelude.{◌≡◌};
 ghost use Rattle.week_calls.specs.Weeks.{no_week};
 
