@@ -64,6 +64,7 @@ pub fn choose_left(
     let bests = &mut bests[..columns.count];
     let graph = columns.column(r as usize);
     label_nodes(&graph, goal as usize, labels);
+    // FAR and no None: see labels
     if labels[start as usize] == FAR {
         return Err(Refusal::NoPath);
     }
@@ -97,7 +98,8 @@ pub fn choose_left(
     Ok(choose_priced(&contest, work, path))
 }
 
-// The same of the whole image: the map that is handed down closes no arc.
+// The same of the whole image: the map that is handed down closes no arc. It stays beside `choose_left` since its
+// contract speaks of the whole network: a caller that hands down `&[]` would have to rewrite all three clauses itself.
 pub fn choose_whole(
     network: &Network<'_>,
     r: u32,

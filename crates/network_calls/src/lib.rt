@@ -2,6 +2,9 @@
 // path whose greatest regret is least. None asks anything of its caller.
 // That start and goal are two nodes stays a clause here, where column_calls has its Trip: Search and a week hold
 // them in structs of their own, and would make another one only to hand them on.
+// So does that the columns are those of the arcs open in every column (`common`), and that `bests` has a place for each
+// (`bests_long`): the columns are measuring's and shared, the bests are lent to be written, and a struct of both would
+// be taken apart again before each call of measuring.
 #![tactic(auto)]
 
 mod chosen;

@@ -43,7 +43,8 @@ pub fn measure_path(
     ensures { (result.figure ≡ terms.figure (net network.now) start goal nodes.now) × (result.worst ≡ terms.worst (net network.now) start goal nodes.now) }
 {
     price(network, &[], columns, None, start, goal, bests);
-    // no figure comes near to it
+    // FAR as the limit, which no figure reaches: one comparison in each column serves with a limit and without,
+    // where an Option would be tested besides
     let found = measure(columns, bests, nodes, FAR);
     Measure {
         figure: found.figure as u32,

@@ -5,32 +5,29 @@ ghost use Rattle.image.specs.Refusals.{verdict};
 ghost use Rattle.star.specs.Graphs.{arcs_of, tails, heads};
 ghost use Rattle.loading.specs.Accepted.{Node};
 ghost use Rattle.outcomes.specs.Calls.{list_row};
-ghost use Rattle.network_calls.specs.NodeLists.{FirstError};
+ghost use Rattle.network_calls.specs.NodeLists.{first_error};
 
 use image::Refusal;
 use star::{Graph, arc_between};
 
-// The first position after the first whose node repeats or has no arc from the node before; the
-// length if there is none.
-fn first_error(graph: &Graph<'_>, nodes: &[u16]) -> usize
+// The first position after the first whose node repeats or has no arc from the node before.
+fn first_error(graph: &Graph<'_>, nodes: &[u16]) -> Option<usize>
     requires some_node { 1 ≤ length nodes.now }
     requires first_node { get_or nodes.now 0 0 ≤ graph.now.nodes }
-    ensures { FirstError (tails graph.now) (heads graph.now) nodes.now result }
+    ensures { first_error (tails graph.now) (heads graph.now) nodes.now result }
 {
     let heads = graph.heads();
     let first_out = graph.first_out();
     for at in 1..nodes.len() {
         let found = arc_between(heads, first_out, nodes[at - 1] as usize, nodes[at]);
-        let Some(_) = found else {
-            return at;
-        };
-        for i in 0..at {
-            if nodes[i] == nodes[at] {
-                return at;
-            }
+        if found.is_none() {
+            return Some(at);
+        }
+        if nodes[..at].contains(&nodes[at]) {
+            return Some(at);
         }
     }
-    nodes.len()
+    None
 }
 
 // Whether a node list is a path from start to goal in a graph: row 14.
@@ -44,12 +41,12 @@ pub fn check_list(graph: &Graph<'_>, start: u32, goal: u32, nodes: &[u16]) -> Re
     if nodes[0] as u32 != start {
         return Err(Refusal::NotAPath(0));
     }
-    let at = first_error(graph, nodes);
-    if at < nodes.len() {
+    if let Some(at) = first_error(graph, nodes) {
         return Err(Refusal::NotAPath(at as u32));
     }
-    if nodes[at - 1] as u32 != goal {
-        return Err(Refusal::NotAPath(at as u32));
+    let end = nodes.len();
+    if u32::from(nodes[end - 1]) != goal {
+        return Err(Refusal::NotAPath(end as u32));
     }
     Ok(())
 }

@@ -36,9 +36,9 @@ pub fn own_bests(
     let star = &mut star_room[..3 * arcs + places + 1 + places];
     let weights = &mut weight_room[..arcs];
     let labels = &mut label_room[..places];
-    for u in 0..network.sizes.k {
-        load_left(network, closed, u + 1, goal, star, weights, labels);
-        bests[u as usize] = narrow(labels[start]) as u64;
+    for (u, best) in bests.iter_mut().enumerate() {
+        load_left(network, closed, u as u32 + 1, goal, star, weights, labels);
+        *best = u64::from(narrow(labels[start]));
     }
 }
 

@@ -85,6 +85,7 @@ pub fn decide(
     let columns = load_columns(network, &[], &mut star, &mut costs);
     let labels = &mut labels[..columns.nodes + 1];
     label_nodes(&columns.column(1), goal as usize, labels);
+    // FAR and no None: see labels
     if labels[start as usize] == FAR {
         return Err(Refusal::NoPath);
     }

@@ -20,16 +20,16 @@ rest closed image = without closed (net_of image)
 pub loop-u-preserved : goal.loop-u-preserved
 loop-u-preserved c =
     let inside : c.loop-u.u + 1 ≤ length (rest c.args.closed.now c.args.network.now.image.now).columns = omega (arith, c.loop-u-test.true, rest_columns c.args.network.now.accepted c.args.closed.now) in
-    let own : c.narrow.result ≡ label (rest c.args.closed.now c.args.network.now.image.now).nodes (column (rest c.args.closed.now c.args.network.now.image.now) (c.loop-u.u + 1)) c.args.goal c.args.start = let E = rest_ends c.args.network.now.accepted c.args.closed.now c.requires.ends in c.narrow.ensures ∙ own_label (rest_admitted c.args.network.now.accepted c.args.closed.now) c.load_left.ensures.1 (omega arith) inside E.start_in.from E.start_in.upto in
+    let own : c.from.result ≡ label (rest c.args.closed.now c.args.network.now.image.now).nodes (column (rest c.args.closed.now c.args.network.now.image.now) (c.loop-u.u + 1)) c.args.goal c.args.start = let E = rest_ends c.args.network.now.accepted c.args.closed.now c.requires.ends in c.from.ensures ∙ c.narrow.ensures ∙ own_label (rest_admitted c.args.network.now.accepted c.args.closed.now) c.load_left.ensures.1 (omega arith) inside E.start_in.from E.start_in.upto in
     let net = rest c.args.closed.now c.args.network.now.image.now in
     let room : c.loop-u.u + 1 ≤ length c.loop-u.bests = omega (arith, c.loop-u.invariant.4, c.requires.bests_len, c.loop-u-test.true) in
     let at : c.loop-u.u ≡ c.loop-u.u + 1 - 1 = omega arith in
-    let new : set c.loop-u.bests c.loop-u.u c.narrow.result ≡ set c.loop-u.bests (c.loop-u.u + 1 - 1) (label net.nodes (column net (c.loop-u.u + 1)) c.args.goal c.args.start) = ap₂ (λ (j y : ℕ). set c.loop-u.bests j y) at own in (
+    let new : set c.loop-u.bests c.loop-u.u c.from.result ≡ set c.loop-u.bests (c.loop-u.u + 1 - 1) (label net.nodes (column net (c.loop-u.u + 1)) c.args.goal c.args.start) = ap₂ (λ (j y : ℕ). set c.loop-u.bests j y) at own in (
       omega (arith, c.loop-u-test.true),
       c.load_left.auto.star ∙ c.loop-u.invariant.1,
       c.load_left.auto.weights ∙ c.loop-u.invariant.2,
       c.load_left.auto.overall ∙ c.loop-u.invariant.3,
-      length-set {A = ℕ} c.loop-u.bests c.loop-u.u c.narrow.result ∙ c.loop-u.invariant.4,
+      length-set {A = ℕ} c.loop-u.bests c.loop-u.u c.from.result ∙ c.loop-u.invariant.4,
       filled_more (λ v. label net.nodes (column net v) c.args.goal c.args.start) c.loop-u.bests (omega arith) room new c.loop-u.invariant.5,
     )
 
