@@ -48,6 +48,7 @@ fn answer(
     ensures path_after { path.new ≡ after (limit_of network.now.image.now task.start task.goal task.limit) (search_path network.now.image.now task.start task.goal) path.old }
 {
     let run = search_image(network, task, best);
+    // no `map_err(..)?`: a trial of it ended with its proof not closed
     let Ok(held) = run else {
         return Err(Refusal::TooManyArcs(task.limit));
     };
