@@ -1,13 +1,11 @@
 // The images of the cases of REFERENCE, section 8, and of those with closed arcs.
 use super::closing::CLOSED;
-use super::networks::{S_COSTS, S_NODES, lay_out_s, line_arcs, line_nodes};
+use super::networks::{S_COSTS, S_NODES, line_arcs, line_nodes, s_image};
 use super::plain_image::{Network, first_edition, second_edition};
 
 // Network S.
 pub fn network_s() -> [u8; 84] {
-    let mut image = [0u8; 84];
-    lay_out_s(&mut image);
-    image
+    s_image()
 }
 
 // Network S in edition 2.
@@ -17,9 +15,7 @@ pub fn second_s() -> [u8; 84] {
 
 // n = 4, m = 5, k = 2, in edition 2.
 fn closed_network(nodes: [u16; 10], costs: [u32; 10]) -> [u8; 84] {
-    let mut image = [0u8; 84];
-    Network::new(second_edition(4, 2), &nodes, &costs).encode(&mut image);
-    image
+    Network::new(second_edition(4, 2), &nodes, &costs).bytes()
 }
 
 // The arcs 1→2, 1→3, 1→4, 2→4 and 3→4, of which 1→4, the ferry, is closed in column 2. The paths 1 4,
@@ -58,35 +54,21 @@ pub fn detour() -> [u8; 84] {
 
 // n = 4, k = 1, arcs 1→3, 2→3, 2→4, 3→2, 3→4, all cost 0.
 pub fn zero_costs() -> [u8; 64] {
-    let mut image = [0u8; 64];
     let nodes = [1, 3, 2, 3, 2, 4, 3, 2, 3, 4];
-    Network::new(first_edition(4, 1), &nodes, &[0; 5]).encode(&mut image);
-    image
+    Network::new(first_edition(4, 1), &nodes, &[0; 5]).bytes()
 }
 
 // n = 2, m = 0, k = 1.
 pub fn no_arcs() -> [u8; 24] {
-    let mut image = [0u8; 24];
-    Network::new(first_edition(2, 1), &[], &[]).encode(&mut image);
-    image
-}
-
-fn lay_out_line(arcs: &mut [u16], image: &mut [u8]) {
-    line_arcs(arcs);
-    Network::new(first_edition(200, 1), arcs, &[1000000; 199]).encode(image);
+    Network::new(first_edition(2, 1), &[], &[]).bytes()
 }
 
 // 200 nodes in a line, arcs from each to the next, each cost 1,000,000.
 pub fn line() -> [u8; 1616] {
-    let mut arcs = [0u16; 398];
-    let mut image = [0u8; 1616];
-    lay_out_line(&mut arcs, &mut image);
-    image
+    Network::new(first_edition(200, 1), &line_arcs(), &[1000000; 199]).bytes()
 }
 
 // The line's one path.
 pub fn line_path() -> [u16; 200] {
-    let mut nodes = [0u16; 200];
-    line_nodes(&mut nodes);
-    nodes
+    line_nodes()
 }

@@ -8,6 +8,7 @@
 // 1,000 at every other; all other arcs cost 0. So the first 256 paths cost 0 to 255, and the path
 // that costs c takes the higher node at step 58 + b exactly if the number c has the bit b.
 use super::plain_image::{Network, first_edition};
+use std::array;
 
 // The node list, four arcs to a step: to the lower node and to the higher, and from each to the next
 // step.
@@ -26,7 +27,7 @@ fn arc_node(at: usize) -> usize {
 }
 
 // The cost of an arc in column 1: of the arc to the higher node.
-fn arc_cost(arc: usize) -> usize {
+fn arc_cost(arc: usize) -> u32 {
     let step = arc / 4;
     if arc % 4 != 1 {
         return 0;
@@ -34,12 +35,12 @@ fn arc_cost(arc: usize) -> usize {
     if step < 58 {
         return 1000;
     }
-    1 << (step - 58) % 8
+    1u32 << (step - 58) % 8
 }
 
-// The cost of an arc in the column 2 that Robust is tested with: of the arc to the higher node up to
+// The cost of an arc in the column 2 that Robust and Search are tested with: of the arc to the higher node up to
 // step 57, and of the arc to the lower node from step 58 on.
-fn other_cost(arc: usize) -> usize {
+fn other_cost(arc: usize) -> u32 {
     let step = arc / 4;
     let way = arc % 4;
     if step < 58 {
@@ -48,45 +49,29 @@ fn other_cost(arc: usize) -> usize {
     if way != 0 {
         return 0;
     }
-    1 << (step - 58) % 8
+    1u32 << (step - 58) % 8
 }
 
-// The costs of both columns, 264 each. In the column 2 that Rank is tested with every arc costs 1.
-fn cost(for_robust: bool, at: usize) -> usize {
-    if at < 264 {
-        return arc_cost(at);
-    }
-    if for_robust {
-        return other_cost(at - 264);
-    }
-    1
+// 264 arcs with these costs in two columns: 24 + 4 * 264 + 8 * 264 bytes.
+fn ladder(costs: [u32; 528]) -> [u8; 3192] {
+    let arcs: [u16; 528] = array::from_fn(|at| (arc_node(at) % 65536) as u16);
+    Network::new(first_edition(199, 2), &arcs, &costs).bytes()
 }
 
-fn lay_out_arcs(arcs: &mut [u16]) {
-    for (at, node) in arcs.iter_mut().enumerate() {
-        *node = (arc_node(at) % 65536) as u16;
-    }
+// The ladder that Rank is tested on: in column 2 every arc costs 1.
+pub fn rank_ladder() -> [u8; 3192] {
+    ladder(array::from_fn(|at| if at < 264 { arc_cost(at) } else { 1 }))
 }
 
-fn lay_out_costs(for_robust: bool, costs: &mut [u32]) {
-    for (at, place) in costs.iter_mut().enumerate() {
-        *place = (cost(for_robust, at) % 4294967296) as u32;
-    }
-}
-
-fn lay_out_ladder(for_robust: bool, arcs: &mut [u16], costs: &mut [u32], image: &mut [u8]) {
-    lay_out_arcs(arcs);
-    lay_out_costs(for_robust, costs);
-    Network::new(first_edition(199, 2), arcs, costs).encode(image);
-}
-
-// 264 arcs and two columns: 24 + 4 * 264 + 8 * 264 bytes.
-pub fn ladder(for_robust: bool) -> [u8; 3192] {
-    let mut arcs = [0u16; 528];
-    let mut costs = [0u32; 528];
-    let mut image = [0u8; 3192];
-    lay_out_ladder(for_robust, &mut arcs, &mut costs, &mut image);
-    image
+// The ladder that Robust and Search are tested on.
+pub fn robust_ladder() -> [u8; 3192] {
+    ladder(array::from_fn(|at| {
+        if at < 264 {
+            arc_cost(at)
+        } else {
+            other_cost(at - 264)
+        }
+    }))
 }
 
 // Whether path c of a column takes the higher node at a step. The bit of step 58 is the lowest in column 1,
@@ -113,8 +98,6 @@ fn path_node(column: u32, c: usize, place: usize) -> usize {
 
 // Rows of 199 places: the path `first` of a column, and those behind it. The tests have no path behind
 // path 255.
-pub fn lay_out_rows(column: u32, first: usize, rows: &mut [u16]) {
-    for (at, node) in rows.iter_mut().enumerate() {
-        *node = (path_node(column, first % 256 + at / 199, at % 199) % 65536) as u16;
-    }
+pub fn ladder_rows<const N: usize>(column: u32, first: usize) -> [u16; N] {
+    array::from_fn(|at| (path_node(column, first % 256 + at / 199, at % 199) % 65536) as u16)
 }
