@@ -28,9 +28,9 @@ pub fn check_list(network: Network, start: u16, goal: u16, nodes: &[u16]) -> Res
     if nodes.first().copied() != Some(start) {
         return Err(0);
     }
-    for i in 1..nodes.len() {
-        if nodes[..i].contains(&nodes[i]) || !has_arc(network, nodes[i - 1], nodes[i]) {
-            return Err(i);
+    for (i, &[from, to]) in nodes.array_windows::<2>().enumerate() {
+        if nodes.iter().take(i + 1).any(|&node| node == to) || !has_arc(network, from, to) {
+            return Err(i + 1);
         }
     }
     if nodes.last().copied() != Some(goal) {

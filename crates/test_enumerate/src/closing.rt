@@ -15,7 +15,8 @@ fn is_open(costs: Costs) -> bool {
     !costs.contains(&CLOSED)
 }
 
-// Puts the paths that are open in every column in front, and gives their number.
+// Puts the paths that are open in every column in front, and gives their number. std has no such method: a sort would
+// leave them in another order, by which the tests draw paths.
 pub fn open_everywhere(paths: &mut [Path]) -> usize {
     let mut count = 0;
     for i in 0..paths.len() {

@@ -12,7 +12,8 @@ pub type Costs = [u64; 8];
 // image's own mark, and above every cost, so that paths that are closed in a column come last in its order.
 pub const CLOSED: u64 = 4294967295;
 
-// What stands for column u.
+// What stands for column u. The tests name no column beyond these eight: each of the callers would take an Option apart
+// by the same 0.
 pub fn in_column(numbers: Costs, u: u32) -> u64 {
     match u {
         1..=8 => numbers[u as usize - 1],
@@ -24,23 +25,20 @@ pub fn in_column(numbers: Costs, u: u32) -> u64 {
 fn arc_cost(column: &[u32], arc: Option<usize>) -> u64
     ensures { result ≤ 4294967295 }
 {
-    match arc {
-        Some(at) if at < column.len() => u64::from(column[at]),
-        _ => 0,
-    }
+    u64::from(arc.and_then(|at| column.get(at)).copied().unwrap_or(0))
 }
 
-// The arcs of a path, by their index: for each node the arc to it from the node before, if there is one.
-fn path_arcs(arcs: &[u16], row: Row) -> [Option<usize>; 8] {
-    let mut used = [None; 8];
-    for i in 1..8usize {
-        used[i] = arc_index(arcs, row[i - 1], row[i]);
+// The arcs of a path, by their index: from each node but the last the arc to the next, if there is one.
+fn path_arcs(arcs: &[u16], row: Row) -> [Option<usize>; 7] {
+    let mut used = [None; 7];
+    for (arc, &[from, to]) in used.iter_mut().zip(row.array_windows::<2>()) {
+        *arc = arc_index(arcs, from, to);
     }
     used
 }
 
 // The sum over the arcs of a path, in one column, or the mark if one of them is closed there.
-fn sum(column: &[u32], used: &[Option<usize>; 8]) -> u64 {
+fn sum(column: &[u32], used: &[Option<usize>; 7]) -> u64 {
     let mut total = 0;
     for arc in used {
         let cost = arc_cost(column, *arc);

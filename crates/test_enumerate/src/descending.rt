@@ -16,14 +16,11 @@ pub struct Descent {
 
 // The smallest unused head above a node, of the arcs out of the route's last node.
 fn next_head(arcs: &[u16], row: Row, above: u16) -> Option<u16> {
-    let end = last(row);
-    let mut next = None;
-    for &[tail, head] in arcs.as_chunks::<2>().0 {
-        if tail == end && above < head && !row.contains(&head) {
-            next = Some(next.map_or(head, |other: u16| other.min(head)));
-        }
-    }
-    next
+    let end = last(row)?;
+    let ahead = arcs.as_chunks::<2>().0.iter().filter(|[tail, head]| *tail == end
+        && above < *head
+        && !row.contains(head));
+    ahead.map(|arc| arc[1]).min()
 }
 
 // The route without its last node.
@@ -35,28 +32,27 @@ fn shortened(mut row: Row) -> Row {
     row
 }
 
-// The route that comes up next behind those that begin with this route and a head up to `above`. It has no
-// nodes if all came up.
-fn next_route(arcs: &[u16], row: Row, above: u16) -> Row {
+// The route that comes up next behind those that begin with this route and a head up to `above`, if not all came up.
+fn next_route(arcs: &[u16], row: Row, above: u16) -> Option<Row> {
     let mut route = row;
     let mut behind = above;
     for _ in 0..9u32 {
         if let Some(head) = next_head(arcs, route, behind) {
-            return with(route, head);
+            return Some(with(route, head));
         }
-        behind = last(route);
+        behind = last(route)?;
         let shorter = shortened(route);
         route = shorter;
     }
-    route
+    None
 }
 
 // The route that comes up next behind this one: longer by a node, if the search goes on from it.
-fn following(arcs: &[u16], route: Row, goes_on: bool) -> Row {
+fn following(arcs: &[u16], route: Row, goes_on: bool) -> Option<Row> {
     if goes_on {
         return next_route(arcs, route, 0);
     }
-    next_route(arcs, shortened(route), last(route))
+    next_route(arcs, shortened(route), last(route)?)
 }
 
 // The cost so far with the last arc, and the label of its head, in each column.
@@ -106,20 +102,20 @@ pub fn search(network: Network, start: u16, goal: u16, table: &[Costs]) -> Desce
         best: None,
         tried: 0,
     };
-    let mut route = following(arcs, [start, 0, 0, 0, 0, 0, 0, 0], true);
+    let mut next = following(arcs, [start, 0, 0, 0, 0, 0, 0, 0], true);
     for tried in 1..=4000u32 {
-        let node = last(route);
-        if length(route) < 2 {
+        let Some(route) = next else {
             return held;
-        }
+        };
+        let node = last(route).unwrap_or(0);
         held.tried = tried;
         let sums = path_costs(network, route);
         let dropped = is_dropped(held, sums, labels_of(table, node), bests);
         if !dropped && node == goal {
             held = completed(held, route, regret(sums, bests).figure);
         }
-        let next = following(arcs, route, !dropped && node != goal);
-        route = next;
+        let after = following(arcs, route, !dropped && node != goal);
+        next = after;
     }
     held
 }

@@ -4,7 +4,8 @@ use super::costs::{CLOSED, Costs, in_column};
 use super::deviations::regret;
 use super::paths::{Path, Row};
 
-// The label of a node from which the goal cannot be reached: no path from it is open.
+// The label of a node from which the goal cannot be reached: no path from it is open. It is a number, as in Label's
+// list, to which the labels are held.
 pub const UNREACHED: u64 = 4294967295;
 
 // What the ranking order in column u goes by: the cost, and then the node list, in which the first differing

@@ -5,7 +5,8 @@ use super::costs::{Costs, path_costs};
 use arrayvec::ArrayVec;
 use test_fixtures::plain_image::Network;
 
-// The nodes of a path, filled up with 0.
+// The nodes of a path, filled up with 0: as an array they are copied, and compared as node lists are. An ArrayVec could
+// not be copied.
 pub type Row = [u16; 8];
 
 // The number of nodes.
@@ -15,12 +16,9 @@ pub fn length(row: Row) -> usize
     row.iter().position(|&node| node == 0).unwrap_or(8)
 }
 
-// The last node, or 0 if there is none.
-pub fn last(row: Row) -> u16 {
-    match length(row) {
-        0 => 0,
-        count => row[count - 1],
-    }
+// The last node, if there is one.
+pub fn last(row: Row) -> Option<u16> {
+    row[..length(row)].last().copied()
 }
 
 // The nodes with one more. Eight nodes are all that there are.
@@ -59,11 +57,11 @@ impl Paths {
     // goal goes no further.
     fn lengthen(&mut self, network: Network, goal: u16, row: Row) {
         let end = last(row);
-        if end == goal {
+        if end == Some(goal) {
             return;
         }
         for &[tail, head] in network.nodes.as_chunks::<2>().0 {
-            if tail == end && !row.contains(&head) {
+            if Some(tail) == end && !row.contains(&head) {
                 let _ = self.begun.try_push(with(row, head));
             }
         }
@@ -74,12 +72,13 @@ impl Paths {
         self.begun.clear();
         self.all.clear();
         let _ = self.begun.try_push([start, 0, 0, 0, 0, 0, 0, 0]);
+        // `lengthen` puts paths behind those that are read here, so the list cannot be lent to an iterator.
         for i in 0..3914usize {
             let Some(row) = self.begun.as_slice().get(i).copied() else {
                 return;
             };
             self.lengthen(network, goal, row);
-            if last(row) == goal {
+            if last(row) == Some(goal) {
                 let costs = path_costs(network, row);
                 let _ = self.all.try_push(Path { row, costs });
             }

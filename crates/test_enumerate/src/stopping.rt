@@ -25,16 +25,19 @@ fn least(paths: &[Path], bests: Costs) -> Option<Path> {
         .copied()
 }
 
-// J: the smallest j with j = N, or with the deviation in r of P(j+1) at least Bj.
+// Whether the deviation in r of P(j+1) is at least Bj.
+fn stops(r: u32, paths: &[Path], bests: Costs, j: usize) -> bool {
+    let Some((first, [next, ..])) = paths.split_at_checked(j) else {
+        return false;
+    };
+    let floor = deviation(r, next.costs, bests);
+    least(first, bests).is_some_and(|path| figure_of(&path, bests) <= floor)
+}
+
+// J: the smallest j with j = N, or at which it stops.
 fn needed(r: u32, paths: &[Path], bests: Costs) -> usize {
-    for j in 1..paths.len() {
-        let floor = deviation(r, paths[j].costs, bests);
-        let best = least(&paths[..j], bests);
-        if best.is_some_and(|path| figure_of(&path, bests) <= floor) {
-            return j;
-        }
-    }
-    paths.len()
+    let stop = (1..paths.len()).find(|&j| stops(r, paths, bests, j));
+    stop.unwrap_or(paths.len())
 }
 
 // An answer that counts these paths.
