@@ -9,23 +9,26 @@ use test_fixtures::networks::{S_COSTS, S_NODES, largest_nodes};
 use test_fixtures::plain_image::{Network, first_edition};
 use test_fixtures::report::{Call, Report};
 
-// Each row: tail and head on network S; 1 or 0, the index and the looks.
-const S_FOUND: [[u32; 5]; 9] = [
-    [2, 3, 1, 2, 1], // the middle record
-    [1, 2, 1, 0, 2],
-    [1, 3, 1, 1, 3],
-    [2, 4, 1, 3, 2],
-    [3, 4, 1, 4, 3],
-    [4, 1, 0, 0, 3], // behind the last record
-    [0, 0, 0, 0, 2], // before the first
-    [2, 1, 0, 0, 3],
-    [3, 2, 0, 0, 3],
+// A row of a table: tail and head; the index, if there is one, and the looks.
+type Row = (u32, u32, Option<u32>, u32);
+
+// On network S.
+const S_FOUND: [Row; 9] = [
+    (2, 3, Some(2), 1), // the middle record
+    (1, 2, Some(0), 2),
+    (1, 3, Some(1), 3),
+    (2, 4, Some(3), 2),
+    (3, 4, Some(4), 3),
+    (4, 1, None, 3), // behind the last record
+    (0, 0, None, 2), // before the first
+    (2, 1, None, 3),
+    (3, 2, None, 3),
 ];
 
 // Find on an image gives what the rows say.
-fn note_rows(mut report: Report, image: &[u8], rows: &[[u32; 5]]) -> Report {
-    for &[tail, head, is_found, index, looks] in rows {
-        let expected = found(is_found, index, looks);
+fn note_rows(mut report: Report, image: &[u8], rows: &[Row]) -> Report {
+    for &(tail, head, index, looks) in rows {
+        let expected = found(index, looks);
         report = report.note(Call::Find, find_agrees(image, tail, head, expected));
     }
     report
@@ -49,17 +52,16 @@ fn note_lines() -> Report {
 }
 
 // On the largest network: the last record, and what stands behind it, take 10 looks.
-const LARGEST_FOUND: [[u32; 5]; 4] = [
-    [200, 5, 1, 999, 10],
-    [200, 6, 0, 0, 10],
-    [100, 5, 1, 499, 1], // the middle record
-    [1, 2, 1, 0, 9],
+const LARGEST_FOUND: [Row; 4] = [
+    (200, 5, Some(999), 10),
+    (200, 6, None, 10),
+    (100, 5, Some(499), 1), // the middle record
+    (1, 2, Some(0), 9),
 ];
 
 // n = 200, m = 1,000, k = 1.
 fn note_largest() -> Report {
-    let mut nodes = [0u16; 2000];
-    largest_nodes(&mut nodes);
+    let nodes = largest_nodes();
     let network = Network::new(first_edition(200, 1), &nodes, &[7; 1000]);
     let image: ArrayVec<u8, 8024> = network.image();
     let report = note_network(Report::new(), network);

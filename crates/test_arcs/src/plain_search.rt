@@ -3,7 +3,8 @@
 use test_calls::answers::{Answer, found};
 use test_fixtures::plain_image::Network;
 
-// The number at a place of the node list, or 0 behind its end.
+// The number at a place of the node list, or 0 behind its end. The plain answers of test_images read arcs by the like:
+// each plain answer is written apart from all else.
 fn node_at(nodes: &[u16], at: usize) -> u32 {
     nodes.get(at).copied().map_or(0, u32::from)
 }
@@ -47,8 +48,5 @@ pub fn plain_find(network: Network, tail: u32, head: u32) -> Answer {
     let nodes = network.nodes;
     let looks = plain_looks(network, (tail, head));
     let at = (0..network.arc_count()).find(|&index| record_at(nodes, index) == (tail, head));
-    match at {
-        Some(index) => found(1, index, looks),
-        None => found(0, 0, looks),
-    }
+    found(at, looks)
 }

@@ -4,56 +4,37 @@ use image::{Refusal, Sizes};
 use network_calls::{Decision, Measure};
 use test_fixtures::plain_image::Header;
 
-// A refusal's number and place; or the number 0, the place 0 and the values that the call gave,
-// filled up with 0.
-#[derive(Clone, Copy, PartialEq, Eq)]
-pub struct Answer {
-    pub number: u32,
-    pub place: u32,
-    pub values: [u32; 6],
-}
+// The values that a call gave, filled up with 0, or a refusal's number and place.
+pub type Answer = Result<[u32; 6], (u32, u32)>;
 
 pub fn refusal(number: u32, place: u32) -> Answer {
-    Answer {
-        number,
-        place,
-        values: [0; 6],
-    }
-}
-
-// These values, filled up with 0.
-fn given(values: [u32; 6]) -> Answer {
-    Answer {
-        number: 0,
-        place: 0,
-        values,
-    }
+    Err((number, place))
 }
 
 // Build's result, a length in bytes, Rank's, a number of paths, or an event's, a number of closed roads.
 pub fn single(value: u32) -> Answer {
-    given([value, 0, 0, 0, 0, 0])
+    Ok([value, 0, 0, 0, 0, 0])
 }
 
 // Check's and Unpack's result: n, m, k and the edition.
 pub fn sizes(header: Header, m: u32) -> Answer {
-    given([header.n, m, header.k, header.edition, 0, 0])
+    Ok([header.n, m, header.k, header.edition, 0, 0])
 }
 
 // Shortest's result, a length and a cost, or Regret's, a figure and a worst column.
 pub fn pair(first: u32, second: u32) -> Answer {
-    given([first, second, 0, 0, 0, 0])
+    Ok([first, second, 0, 0, 0, 0])
 }
 
 // Robust's result where it is settled, or Search's: the length, the figure, the worst column, and the count of
 // paths or of arcs tried.
 pub fn settled(length: u32, figure: u32, worst: u32, count: u32) -> Answer {
-    given([length, figure, worst, count, 0, 0])
+    Ok([length, figure, worst, count, 0, 0])
 }
 
 // Robust's result where it is open: the same, a mark and the floor.
 pub fn left_open(length: u32, figure: u32, worst: u32, count: u32, floor: u32) -> Answer {
-    given([length, figure, worst, count, 1, floor])
+    Ok([length, figure, worst, count, 1, floor])
 }
 
 // Label's result, which has no values.
@@ -70,7 +51,8 @@ pub fn header_of(given: Sizes) -> Header {
     }
 }
 
-// The result of a call as an answer.
+// The result of a call as an answer. The replies of c_replies are the like for C: this is written apart from them, as
+// all that the tests hold the library to.
 pub trait Values {
     fn answer(self) -> Answer;
 }
@@ -114,17 +96,17 @@ impl Values for Decision {
     }
 }
 
-// Find's result: 1 or 0, the index, and the number of looks.
-pub fn found(is_found: u32, index: u32, looks: u32) -> Answer {
-    given([is_found, index, looks, 0, 0, 0])
+// Find's result: 1 and the index of the arc, or 0 and 0 if there is none, and the number of looks.
+pub fn found(index: Option<u32>, looks: u32) -> Answer {
+    match index {
+        Some(index) => Ok([1, index, looks, 0, 0, 0]),
+        None => Ok([0, 0, looks, 0, 0, 0]),
+    }
 }
 
 impl Values for arc_calls::Found {
     fn answer(self) -> Answer {
-        match self.index {
-            Some(index) => found(1, index, self.looks),
-            None => found(0, 0, self.looks),
-        }
+        found(self.index, self.looks)
     }
 }
 
@@ -134,11 +116,10 @@ impl Values for search_calls::Found {
     }
 }
 
-impl<T: Values> From<Result<T, Refusal>> for Answer {
-    fn from(given: Result<T, Refusal>) -> Answer {
-        match given {
-            Ok(result) => result.answer(),
-            Err(row) => refusal(row.number(), row.place()),
-        }
+// The answer of a call, from its result.
+pub fn answer_of<T: Values>(given: Result<T, Refusal>) -> Answer {
+    match given {
+        Ok(result) => result.answer(),
+        Err(row) => refusal(row.number(), row.place()),
     }
 }

@@ -1,25 +1,15 @@
 // The calls of the path layer, each held to the answer that it should give and to what the slice
 // that is lent to it should hold after it.
-use super::answers::{Answer, pair, refusal, written};
+use super::answers::{Answer, answer_of, pair, refusal, written};
+use column_calls::label::label;
+use column_calls::shortest::shortest;
+use network_calls::regret::regret;
 use test_fixtures::numbers::count;
 use test_fixtures::report::{Call, Report};
 use test_fixtures::slices::{Pattern, holds};
 
 // Places for 200 nodes, and some more.
 const PLACES: usize = 210;
-
-// Label into a slice that holds the pattern.
-fn label_into(
-    image: &[u8],
-    column: u32,
-    goal: u32,
-    labels: &mut [u32],
-    expected: Answer,
-    written: &[u32],
-) -> bool {
-    let answer = Answer::from(column_calls::label::label(image, column, goal, labels));
-    answer == expected && holds(labels, written)
-}
 
 // Whether Label into a slice of `room` places gives the answer, and writes these labels and no
 // others.
@@ -32,7 +22,9 @@ pub fn label_agrees(
     written: &[u32],
 ) -> bool {
     let mut places = [u32::PATTERN; PLACES];
-    room <= PLACES && label_into(image, column, goal, &mut places[..room], expected, written)
+    places.get_mut(..room).is_some_and(|labels| {
+        answer_of(label(image, column, goal, labels)) == expected && holds(labels, written)
+    })
 }
 
 // Label of a network with as many nodes as labels, into a slice that is exactly long enough, into a
@@ -51,20 +43,6 @@ pub fn note_label(report: Report, image: &[u8], column: u32, goal: u32, labels: 
         .note(Call::Label, shorter)
 }
 
-// Shortest into a slice that holds the pattern.
-fn shortest_into(
-    image: &[u8],
-    column: u32,
-    start: u32,
-    goal: u32,
-    path: &mut [u16],
-    expected: Answer,
-    written: &[u16],
-) -> bool {
-    let answer = Answer::from(column_calls::shortest::shortest(image, column, start, goal, path));
-    answer == expected && holds(path, written)
-}
-
 // Whether Shortest into a slice of `room` places gives the answer, and writes these nodes and no
 // others.
 pub fn shortest_agrees(
@@ -77,16 +55,9 @@ pub fn shortest_agrees(
     written: &[u16],
 ) -> bool {
     let mut places = [u16::PATTERN; PLACES];
-    room <= PLACES
-        && shortest_into(
-            image,
-            column,
-            start,
-            goal,
-            &mut places[..room],
-            expected,
-            written,
-        )
+    places.get_mut(..room).is_some_and(|path| {
+        answer_of(shortest(image, column, start, goal, path)) == expected && holds(path, written)
+    })
 }
 
 // Shortest of a network of n nodes, into a slice that is exactly long enough, into a longer one and
@@ -117,6 +88,5 @@ pub fn note_shortest(
 
 // Whether Regret gives the answer.
 pub fn regret_agrees(image: &[u8], start: u32, goal: u32, nodes: &[u16], expected: Answer) -> bool {
-    let answer = Answer::from(network_calls::regret::regret(image, start, goal, nodes));
-    answer == expected
+    answer_of(regret(image, start, goal, nodes)) == expected
 }

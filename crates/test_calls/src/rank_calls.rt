@@ -1,6 +1,6 @@
 // Rank, held to the answer that it should give and to what the slices that are lent to it should
 // hold after it.
-use super::answers::{Answer, refusal, single};
+use super::answers::{Answer, answer_of, refusal, single};
 use test_fixtures::numbers::{count, places};
 use test_fixtures::report::{Call, Report};
 use test_fixtures::slices::{Pattern, holds, is_filled};
@@ -21,7 +21,8 @@ pub struct Request {
     pub wanted: u32,
 }
 
-// How many places of each slice are lent.
+// How many places of each slice are lent: of that for rows of nodes, of that for costs and of the workspace. Robust has
+// one row, its path, and no costs.
 #[derive(Clone, Copy)]
 pub struct Rooms {
     pub rows: usize,
@@ -47,15 +48,10 @@ pub fn longer(given: Rooms) -> Rooms {
     }
 }
 
-// A place less, where there is one.
-pub fn less(room: usize) -> usize {
-    room.saturating_sub(1)
-}
-
-// What the workspace holds after a call with this number: nothing was written if it is a refusal,
+// What the workspace holds after a call with this answer: nothing was written if it is a refusal,
 // and all of it is 0 if not.
-pub fn work_after(number: u32) -> u32 {
-    if number == 0 { 0 } else { u32::PATTERN }
+pub fn work_after(answer: Answer) -> u32 {
+    if answer.is_ok() { 0 } else { u32::PATTERN }
 }
 
 // Whether Rank gives the answer, and writes these rows and costs and no others, with slices that
@@ -70,7 +66,7 @@ pub fn rank_into(
     written_rows: &[u16],
     written_costs: &[u32],
 ) -> bool {
-    let answer = Answer::from(column_calls::rank::rank(
+    let answer = answer_of(column_calls::rank::rank(
         image,
         request.column,
         request.start,
@@ -83,7 +79,7 @@ pub fn rank_into(
     answer == expected
         && holds(rows, written_rows)
         && holds(costs, written_costs)
-        && is_filled(work, work_after(expected.number))
+        && is_filled(work, work_after(expected))
 }
 
 // The same, with slices made for it: enough for networks of up to eight nodes.
@@ -98,46 +94,49 @@ pub fn rank_agrees(
     let mut rows = [u16::PATTERN; ROW_PLACES];
     let mut costs = [u32::PATTERN; COST_PLACES];
     let mut work = [u32::PATTERN; WORK_PLACES];
-    let row_room = lent.rows;
-    let cost_room = lent.costs;
-    let work_room = lent.work;
-    if ROW_PLACES < row_room || COST_PLACES < cost_room || WORK_PLACES < work_room {
-        return false;
+    match (
+        rows.get_mut(..lent.rows),
+        costs.get_mut(..lent.costs),
+        work.get_mut(..lent.work),
+    ) {
+        (Some(rows), Some(costs), Some(work)) => rank_into(
+            image,
+            request,
+            rows,
+            costs,
+            work,
+            expected,
+            written_rows,
+            written_costs,
+        ),
+        _ => false,
     }
-    rank_into(
-        image,
-        request,
-        &mut rows[..row_room],
-        &mut costs[..cost_room],
-        &mut work[..work_room],
-        expected,
-        written_rows,
-        written_costs,
-    )
 }
 
 // Rank with slices of which one is a place too short.
-pub fn note_short_ranks(report: Report, image: &[u8], request: Request, needed: Rooms) -> Report {
-    let short = refusal(13, 0);
+pub fn note_short_ranks(
+    mut report: Report,
+    image: &[u8],
+    request: Request,
+    needed: Rooms,
+) -> Report {
     let short_rows = Rooms {
-        rows: less(needed.rows),
+        rows: needed.rows.saturating_sub(1),
         ..needed
     };
     let short_costs = Rooms {
-        costs: less(needed.costs),
+        costs: needed.costs.saturating_sub(1),
         ..needed
     };
     let short_work = Rooms {
-        work: less(needed.work),
+        work: needed.work.saturating_sub(1),
         ..needed
     };
-    let by_rows = rank_agrees(image, request, short_rows, short, &[], &[]);
-    let by_costs = rank_agrees(image, request, short_costs, short, &[], &[]);
-    let by_work = rank_agrees(image, request, short_work, short, &[], &[]);
+    for lent in [short_rows, short_costs, short_work] {
+        let agrees = rank_agrees(image, request, lent, refusal(13, 0), &[], &[]);
+        report = report.note(Call::Rank, agrees);
+    }
     report
-        .note(Call::Rank, by_rows)
-        .note(Call::Rank, by_costs)
-        .note(Call::Rank, by_work)
 }
 
 // Rank of a network of n nodes with these rows and costs as its result, with slices that are exactly

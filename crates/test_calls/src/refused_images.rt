@@ -3,8 +3,8 @@ use super::answers::Answer;
 use super::find_calls::find_agrees;
 use super::path_calls::{label_agrees, regret_agrees, shortest_agrees};
 use super::rank_calls::{Request, Rooms, needed_rooms, rank_agrees};
-use super::robust_calls::{RouteRooms, needed_route_rooms, robust_agrees};
-use super::searches::{Quest, note_refused};
+use super::robust_calls::{needed_route_rooms, robust_agrees};
+use super::searches::{Quest, note_given};
 use test_fixtures::report::{Call, Report};
 
 // A request that network S admits.
@@ -27,29 +27,28 @@ fn nothing() -> Request {
     }
 }
 
+// No place of any slice.
+const NONE: Rooms = Rooms {
+    rows: 0,
+    costs: 0,
+    work: 0,
+};
+
 fn note_refused_ranks(report: Report, image: &[u8], expected: Answer) -> Report {
-    let empty = Rooms {
-        rows: 0,
-        costs: 0,
-        work: 0,
-    };
     let asked = rank_agrees(image, admitted(), needed_rooms(4, 5), expected, &[], &[]);
-    let not_asked = rank_agrees(image, nothing(), empty, expected, &[], &[]);
+    let not_asked = rank_agrees(image, nothing(), NONE, expected, &[], &[]);
     report.note(Call::Rank, asked).note(Call::Rank, not_asked)
 }
 
 fn note_refused_robusts(report: Report, image: &[u8], expected: Answer) -> Report {
-    let empty = RouteRooms { path: 0, work: 0 };
     let asked = robust_agrees(image, admitted(), needed_route_rooms(4, 5), expected, &[]);
-    let not_asked = robust_agrees(image, nothing(), empty, expected, &[]);
+    let not_asked = robust_agrees(image, nothing(), NONE, expected, &[]);
     report
         .note(Call::Robust, asked)
         .note(Call::Robust, not_asked)
 }
 
 fn note_refused_searches(report: Report, image: &[u8], expected: Answer) -> Report {
-    let number = expected.number;
-    let place = expected.place;
     let asked = Quest {
         start: 1,
         goal: 4,
@@ -60,8 +59,8 @@ fn note_refused_searches(report: Report, image: &[u8], expected: Answer) -> Repo
         goal: 0,
         limit: 0,
     };
-    let noted = note_refused(report, image, asked, 12, number, place);
-    note_refused(noted, image, not_asked, 0, number, place)
+    let noted = note_given(report, image, asked, 12, expected, &[]);
+    note_given(noted, image, not_asked, 0, expected, &[])
 }
 
 // Every call of the path layer refuses the image with this answer and writes nothing, whatever else

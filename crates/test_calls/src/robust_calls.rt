@@ -1,7 +1,10 @@
 // Robust, held to the answer that it should give and to what the slices that are lent to it should
 // hold after it.
-use super::answers::{Answer, refusal};
-use super::rank_calls::{Request, WORK_PLACES, less, needed_rooms, work_after};
+use super::answers::{Answer, answer_of, refusal};
+use super::rank_calls::{Request, Rooms, WORK_PLACES, longer, needed_rooms, work_after};
+use image::Refusal;
+use network_calls::Decision;
+use network_calls::robust::robust;
 use test_fixtures::numbers::count;
 use test_fixtures::report::{Call, Report};
 use test_fixtures::slices::{Pattern, holds, is_filled};
@@ -9,40 +12,29 @@ use test_fixtures::slices::{Pattern, holds, is_filled};
 // Places for a path of eight nodes, and some more.
 const PATH_PLACES: usize = 20;
 
-// How many places of each slice are lent.
-#[derive(Clone, Copy)]
-pub struct RouteRooms {
-    pub path: usize,
-    pub work: usize,
-}
-
 // What Robust needs in a network of n nodes: a place for each, and Rank's workspace.
-pub fn needed_route_rooms(n: u32, wanted: u32) -> RouteRooms {
-    RouteRooms {
-        path: count(n as usize) as usize,
+pub fn needed_route_rooms(n: u32, wanted: u32) -> Rooms {
+    Rooms {
+        rows: count(n as usize) as usize,
+        costs: 0,
         work: needed_rooms(n, wanted).work,
     }
 }
 
-// The same, and 9 places more of each.
-pub fn longer_rooms(given: RouteRooms) -> RouteRooms {
-    RouteRooms {
-        path: count(given.path) as usize + 9,
-        work: count(given.work) as usize + 9,
-    }
-}
-
-// Robust's answer to a request.
-pub fn robust_answer(image: &[u8], request: Request, path: &mut [u16], work: &mut [u32]) -> Answer {
-    Answer::from(network_calls::robust::robust(
-        image,
-        request.column,
-        request.start,
-        request.goal,
-        request.wanted,
-        path,
-        work,
-    ))
+// Robust's result for a request.
+pub fn robust_of(
+    image: &[u8],
+    request: Request,
+    path: &mut [u16],
+    work: &mut [u32],
+) -> Result<Decision, Refusal> {
+    let Request {
+        column,
+        start,
+        goal,
+        wanted,
+    } = request;
+    robust(image, column, start, goal, wanted, path, work)
 }
 
 // Whether Robust gives the answer, and writes these nodes and no others, with slices that hold the
@@ -55,56 +47,46 @@ pub fn robust_into(
     expected: Answer,
     written: &[u16],
 ) -> bool {
-    let answer = robust_answer(image, request, path, work);
-    answer == expected && holds(path, written) && is_filled(work, work_after(expected.number))
+    let answer = answer_of(robust_of(image, request, path, work));
+    answer == expected && holds(path, written) && is_filled(work, work_after(expected))
 }
 
 // The same, with slices made for it: enough for networks of up to eight nodes.
 pub fn robust_agrees(
     image: &[u8],
     request: Request,
-    lent: RouteRooms,
+    lent: Rooms,
     expected: Answer,
     written: &[u16],
 ) -> bool {
     let mut path = [u16::PATTERN; PATH_PLACES];
     let mut work = [u32::PATTERN; WORK_PLACES];
-    let path_room = lent.path;
-    let work_room = lent.work;
-    if PATH_PLACES < path_room || WORK_PLACES < work_room {
-        return false;
+    match (path.get_mut(..lent.rows), work.get_mut(..lent.work)) {
+        (Some(path), Some(work)) => robust_into(image, request, path, work, expected, written),
+        _ => false,
     }
-    robust_into(
-        image,
-        request,
-        &mut path[..path_room],
-        &mut work[..work_room],
-        expected,
-        written,
-    )
 }
 
 // Robust with slices of which one is a place too short.
 pub fn note_short_robusts(
-    report: Report,
+    mut report: Report,
     image: &[u8],
     request: Request,
-    needed: RouteRooms,
+    needed: Rooms,
 ) -> Report {
-    let short = refusal(13, 0);
-    let short_path = RouteRooms {
-        path: less(needed.path),
+    let short_path = Rooms {
+        rows: needed.rows.saturating_sub(1),
         ..needed
     };
-    let short_work = RouteRooms {
-        work: less(needed.work),
+    let short_work = Rooms {
+        work: needed.work.saturating_sub(1),
         ..needed
     };
-    let by_path = robust_agrees(image, request, short_path, short, &[]);
-    let by_work = robust_agrees(image, request, short_work, short, &[]);
+    for lent in [short_path, short_work] {
+        let agrees = robust_agrees(image, request, lent, refusal(13, 0), &[]);
+        report = report.note(Call::Robust, agrees);
+    }
     report
-        .note(Call::Robust, by_path)
-        .note(Call::Robust, by_work)
 }
 
 // Robust of a network of n nodes with this answer and these nodes as its result, with slices that are
@@ -119,7 +101,7 @@ pub fn note_robust(
 ) -> Report {
     let needed = needed_route_rooms(n, request.wanted);
     let exact = robust_agrees(image, request, needed, found, nodes);
-    let more = robust_agrees(image, request, longer_rooms(needed), found, nodes);
+    let more = robust_agrees(image, request, longer(needed), found, nodes);
     note_short_robusts(
         report.note(Call::Robust, exact).note(Call::Robust, more),
         image,

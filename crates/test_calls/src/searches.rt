@@ -1,6 +1,6 @@
 // Search, held to the answer that it should give and to what the slice that is lent to it should hold after
 // it.
-use super::answers::{Answer, refusal, settled};
+use super::answers::{Answer, answer_of, refusal, settled};
 use search_calls::search::search;
 use test_fixtures::numbers::count;
 use test_fixtures::report::{Call, Report};
@@ -17,18 +17,6 @@ pub struct Quest {
     pub limit: u32,
 }
 
-// Search into a slice that holds the pattern.
-fn search_into(
-    image: &[u8],
-    quest: Quest,
-    path: &mut [u16],
-    expected: Answer,
-    written: &[u16],
-) -> bool {
-    let answer = Answer::from(search(image, quest.start, quest.goal, quest.limit, path));
-    answer == expected && holds(path, written)
-}
-
 // Whether Search into a slice of `room` places gives the answer, and writes these nodes and no others.
 pub fn search_agrees(
     image: &[u8],
@@ -38,11 +26,14 @@ pub fn search_agrees(
     written: &[u16],
 ) -> bool {
     let mut places = [u16::PATTERN; PLACES];
-    room <= PLACES && search_into(image, quest, &mut places[..room], expected, written)
+    let Quest { start, goal, limit } = quest;
+    places.get_mut(..room).is_some_and(|path| {
+        answer_of(search(image, start, goal, limit, path)) == expected && holds(path, written)
+    })
 }
 
 // Search with a limit gives the answer.
-fn note_given(
+pub fn note_given(
     report: Report,
     image: &[u8],
     quest: Quest,

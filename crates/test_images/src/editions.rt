@@ -1,7 +1,7 @@
 // The editions: which of them are accepted, and what may stand in the place of a cost in each. Tried
 // with network S, as it is and with arcs closed in columns, and with the smallest and largest networks.
 use super::image_calls::note_refused_image;
-use super::image_changes::{change_s, note_changed_bytes, note_changed_rows, note_lengths};
+use super::image_changes::{changed_s, note_changed_bytes, note_changed_rows, note_lengths};
 use super::image_networks::{note_largest, note_network};
 use super::image_refusals::{all_refuse, build_refuses};
 use std::io;
@@ -20,9 +20,7 @@ fn second_s(costs: &[u32]) -> Network<'_> {
 }
 
 fn s_image(costs: &[u32]) -> [u8; 84] {
-    let mut image = [0u8; 84];
-    second_s(costs).encode(&mut image);
-    image
+    second_s(costs).bytes()
 }
 
 // All calls of the image layer on network S in edition 2, with these costs.
@@ -75,15 +73,13 @@ const CHANGED_FIELDS: [[u16; 7]; 24] = [
 ];
 
 // Row 1 before row 2: 23 bytes of an image of edition 3.
-fn note_cut(report: Report, image: &mut [u8; 84]) -> Report {
-    change_s(3, [2, 1, 2, 1], image);
+fn note_cut(report: Report) -> Report {
+    let image = changed_s(3, [2, 1, 2, 1]);
     note_refused_image(report, &image[..23], refusal(1, 0))
 }
 
 fn changed_fields(rt: &impl Print) -> io::Result<()> {
-    let mut image = [0u8; 84];
-    let report = note_changed_rows(&CHANGED_FIELDS, &mut image);
-    note_cut(report, &mut image).print(rt, "changed editions")
+    note_cut(note_changed_rows(&CHANGED_FIELDS)).print(rt, "changed editions")
 }
 
 // Numbers that are no edition, some of which have 1 or 2 as their low bytes.
@@ -204,8 +200,7 @@ fn refused_lists(rt: &impl Print) -> io::Result<()> {
 
 // The image of network S with closed arcs, cut short or made longer.
 fn other_lengths(rt: &impl Print) -> io::Result<()> {
-    let mut image = [0u8; 120];
-    second_s(&CLOSED_COSTS).encode(&mut image);
+    let image: [u8; 120] = second_s(&CLOSED_COSTS).bytes();
     note_lengths(&image).print(rt, "other lengths in edition 2")
 }
 

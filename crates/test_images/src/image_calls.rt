@@ -4,7 +4,7 @@ use super::plain_answers::check_answer;
 use image::check::check;
 use packing::build::build;
 use packing::unpack::unpack;
-use test_calls::answers::{Answer, header_of, single};
+use test_calls::answers::{Answer, answer_of, header_of, single};
 use test_calls::refused_images::note_refused_paths;
 use test_fixtures::numbers::{count, product};
 use test_fixtures::plain_image::{Header, Network};
@@ -20,23 +20,18 @@ const COST_PLACES: usize = 8020;
 
 // Whether Check gives the answer.
 pub fn check_agrees(image: &[u8], expected: Answer) -> bool {
-    Answer::from(check(image)) == expected
+    answer_of(check(image)) == expected
 }
 
 // Whether Build into a slice of `room` bytes that hold the pattern gives the answer, and writes these bytes and
 // no others.
 pub fn build_agrees(network: Network, room: usize, expected: Answer, written: &[u8]) -> bool {
     let mut places = [u8::PATTERN; IMAGE_PLACES];
-    match places.get_mut(..room) {
-        Some(image) => build_into(network, image, expected, written),
-        None => false,
-    }
-}
-
-fn build_into(network: Network, image: &mut [u8], expected: Answer, written: &[u8]) -> bool {
     let Header { edition, n, k } = network.header;
-    let answer = Answer::from(build(edition, n, k, network.nodes, network.costs, image));
-    answer == expected && holds(image, written)
+    places.get_mut(..room).is_some_and(|image| {
+        let answer = answer_of(build(edition, n, k, network.nodes, network.costs, image));
+        answer == expected && holds(image, written)
+    })
 }
 
 // Unpack into slices that hold the pattern.
@@ -48,7 +43,7 @@ fn unpack_into(
     written_nodes: &[u16],
     written_costs: &[u32],
 ) -> bool {
-    let answer = Answer::from(unpack(image, nodes, costs));
+    let answer = answer_of(unpack(image, nodes, costs));
     answer == expected && holds(nodes, written_nodes) && holds(costs, written_costs)
 }
 
@@ -64,28 +59,28 @@ pub fn unpack_agrees(
 ) -> bool {
     let mut node_places = [u16::PATTERN; NODE_PLACES];
     let mut cost_places = [u32::PATTERN; COST_PLACES];
-    node_room <= NODE_PLACES
-        && cost_room <= COST_PLACES
-        && unpack_into(
-            image,
-            &mut node_places[..node_room],
-            &mut cost_places[..cost_room],
-            expected,
-            nodes,
-            costs,
-        )
+    match (
+        node_places.get_mut(..node_room),
+        cost_places.get_mut(..cost_room),
+    ) {
+        (Some(lent_nodes), Some(lent_costs)) => {
+            unpack_into(image, lent_nodes, lent_costs, expected, nodes, costs)
+        }
+        _ => false,
+    }
 }
 
 // Whether Build gives an image back from the lists of a header with m arcs, at the front of two slices.
 fn build_back(image: &[u8], header: Header, m: u32, nodes: &[u16], costs: &[u32]) -> bool {
     let node_count = 2 * (m as usize);
     let cost_count = product(m, header.k) as usize;
-    if nodes.len() < node_count || costs.len() < cost_count {
-        return false;
+    match (nodes.get(..node_count), costs.get(..cost_count)) {
+        (Some(nodes), Some(costs)) => {
+            let network = Network::new(header, nodes, costs);
+            build_agrees(network, image.len(), single(count(image.len())), image)
+        }
+        _ => false,
     }
-    let network = Network::new(header, &nodes[..node_count], &costs[..cost_count]);
-    let bytes = single(count(image.len()));
-    build_agrees(network, image.len(), bytes, image)
 }
 
 // Unpack into slices, and Build from what it wrote.
@@ -119,7 +114,7 @@ pub fn note_refused_image(mut report: Report, image: &[u8], expected: Answer) ->
 // An image is refused as the plain check says, or else Unpack and Build give it back.
 pub fn note_image(mut report: Report, image: &[u8]) -> Report {
     let expected = check_answer(image);
-    if expected.number != 0 {
+    if expected.is_err() {
         return note_refused_image(report, image, expected);
     }
     report = report.note(Call::Check, check_agrees(image, expected));

@@ -4,7 +4,7 @@ use super::image_calls::{note_image, note_refused_image};
 use std::io;
 use test_calls::answers::refusal;
 use test_fixtures::case_images::network_s;
-use test_fixtures::networks::lay_out_s;
+use test_fixtures::networks::s_image;
 use test_fixtures::report::Report;
 
 // Each row: the edition of network S's image; an offset and a number of two bytes that is put there,
@@ -61,31 +61,31 @@ fn put16(image: &mut [u8], at: u16, number: u16) {
 }
 
 // Network S's image of an edition, with two numbers of two bytes changed: offset and number of each.
-pub fn change_s(edition: u16, changes: [u16; 4], image: &mut [u8]) {
-    lay_out_s(image);
-    put16(image, 0, edition);
-    put16(image, changes[0], changes[1]);
-    put16(image, changes[2], changes[3]);
+pub fn changed_s(edition: u16, changes: [u16; 4]) -> [u8; 84] {
+    let mut image = network_s();
+    put16(&mut image, 0, edition);
+    put16(&mut image, changes[0], changes[1]);
+    put16(&mut image, changes[2], changes[3]);
+    image
 }
 
-fn note_changed_fields(report: Report, row: [u16; 7], image: &mut [u8]) -> Report {
+fn note_changed_fields(report: Report, row: [u16; 7]) -> Report {
     let [edition, at, content, next_at, next_content, number, place] = row;
-    change_s(edition, [at, content, next_at, next_content], image);
-    note_refused_image(report, image, refusal(u32::from(number), u32::from(place)))
+    let image = changed_s(edition, [at, content, next_at, next_content]);
+    note_refused_image(report, &image, refusal(u32::from(number), u32::from(place)))
 }
 
 // Each row of a table of changed fields.
-pub fn note_changed_rows(rows: &[[u16; 7]], image: &mut [u8]) -> Report {
+pub fn note_changed_rows(rows: &[[u16; 7]]) -> Report {
     let mut report = Report::new();
     for row in rows {
-        report = note_changed_fields(report, *row, image);
+        report = note_changed_fields(report, *row);
     }
     report
 }
 
 fn changed_fields(rt: &impl Print) -> io::Result<()> {
-    let mut image = [0u8; 84];
-    note_changed_rows(&CHANGED_FIELDS, &mut image).print(rt, "changed fields")
+    note_changed_rows(&CHANGED_FIELDS).print(rt, "changed fields")
 }
 
 // The first `length` bytes of the image, or the image with zeros behind it; but not the image
@@ -108,9 +108,7 @@ pub fn note_lengths(image: &[u8]) -> Report {
 }
 
 fn other_lengths(rt: &impl Print) -> io::Result<()> {
-    let mut image = [0u8; 120];
-    lay_out_s(&mut image);
-    note_lengths(&image).print(rt, "other lengths")
+    note_lengths(&s_image::<120>()).print(rt, "other lengths")
 }
 
 // The byte at an offset changed to each other value.

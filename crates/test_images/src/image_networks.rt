@@ -85,8 +85,7 @@ pub fn note_largest(edition: u32, cost: u32) -> Report {
         n: 200,
         k: 8,
     };
-    let mut nodes = [0u16; 2000];
-    largest_nodes(&mut nodes);
+    let nodes = largest_nodes();
     let costs = [cost; 8000];
     let network = Network::new(header, &nodes, &costs);
     let image: ArrayVec<u8, 36024> = network.image();

@@ -19,6 +19,20 @@ mod rank_refusals;
 mod robust_refusals;
 
 use std::io;
+use test_fixtures::report::Report;
+
+// What `note` comes to after each row of a table.
+fn note_rows<const N: usize, Note>(rows: &[[u32; N]], note: Note) -> Report
+where
+    Note: Fn(Report, [u32; N]) -> Report,
+    requires note_is_callable { Note.IsAlwaysCallable note }
+{
+    let mut report = Report::new();
+    for row in rows {
+        report = note(report, *row);
+    }
+    report
+}
 
 fn main(rt: HostRuntime) -> io::Result<()> {
     image_networks::run(&rt)?;

@@ -1,6 +1,7 @@
 // The refusal table on the numbers and slices that the path layer's calls are given with network S.
 // Their node lists stand with the cases of test_routes, and the images that they refuse with those of
 // Check.
+use super::note_rows;
 use std::io;
 use test_calls::answers::refusal;
 use test_calls::path_calls::{label_agrees, regret_agrees, shortest_agrees};
@@ -8,7 +9,7 @@ use test_fixtures::case_images::network_s;
 use test_fixtures::report::{Call, Report};
 
 // Each row: column, start, goal and the places of the lent slice; and the numbers of the refusals
-// by Label, Shortest and Regret, or 0 where the call is left out.
+// by Label, Shortest and Regret, or 0 where the call is left out: a table of numbers, which no `Some` makes wider.
 const REFUSED_NUMBERS: [[u32; 7]; 21] = [
     [1, 1, 0, 9, 10, 10, 10], // goal
     [1, 1, 5, 9, 10, 10, 10],
@@ -59,14 +60,10 @@ fn note_row(mut report: Report, image: &[u8], row: [u32; 7]) -> Report {
     report
 }
 
-fn refused_numbers(image: &[u8], rows: &[[u32; 7]]) -> Report {
-    let mut report = Report::new();
-    for row in rows {
-        report = note_row(report, image, *row);
-    }
-    report
-}
-
 pub fn run(rt: &impl Print) -> io::Result<()> {
-    refused_numbers(&network_s(), &REFUSED_NUMBERS).print(rt, "refused numbers")
+    note_rows(
+        &REFUSED_NUMBERS,
+        |report, row| note_row(report, &network_s(), row),
+    )
+    .print(rt, "refused numbers")
 }

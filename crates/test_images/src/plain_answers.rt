@@ -27,30 +27,25 @@ fn arc_at(nodes: &[u16], arc: u32) -> (u32, u32) {
     (node_at(nodes, at), node_at(nodes, at + 1))
 }
 
-// The first of rows 6, 7 and 8 that applies to an arc, or 0.
-fn arc_row(n: u32, nodes: &[u16], arc: u32) -> u32 {
+// The first of rows 6, 7 and 8 that applies to an arc, if one does.
+fn arc_row(n: u32, nodes: &[u16], arc: u32) -> Option<u32> {
     let (tail, head) = arc_at(nodes, arc);
     if tail == 0 || n < tail || head == 0 || n < head {
-        return 6;
+        return Some(6);
     }
     if tail == head {
-        return 7;
+        return Some(7);
     }
     if 0 < arc && (tail, head) <= arc_at(nodes, arc - 1) {
-        return 8;
+        return Some(8);
     }
-    0
+    None
 }
 
 // The refusal for the first arc in error.
 fn arcs_fault(network: Network) -> Option<Answer> {
-    for arc in 0..network.arc_count() {
-        let row = arc_row(network.header.n, network.nodes, arc);
-        if row != 0 {
-            return Some(refusal(row, arc));
-        }
-    }
-    None
+    let Network { header, nodes, .. } = network;
+    (0..network.arc_count()).find_map(|arc| Some(refusal(arc_row(header.n, nodes, arc)?, arc)))
 }
 
 // Row 9 for a number: in edition 2 the mark may stand in the place of a cost.
@@ -70,10 +65,8 @@ fn costs_fault(network: Network) -> Option<Answer> {
 
 // The refusal of two lists by rows 6 to 9, or else the answer given.
 fn lists_answer(network: Network, otherwise: Answer) -> Answer {
-    match arcs_fault(network) {
-        Some(answer) => answer,
-        None => costs_fault(network).unwrap_or(otherwise),
-    }
+    let fault = arcs_fault(network).or_else(|| costs_fault(network));
+    fault.unwrap_or(otherwise)
 }
 
 // Build's answer with a slice of `room` bytes.
@@ -110,34 +103,33 @@ fn field_is_wrong(image: &[u8], m: u32, k: u32) -> bool
         || number32(image, 20) != 0
 }
 
-// The number of the first of rows 1 to 5 that applies to an image, or 0.
-fn header_row(image: &[u8]) -> u32 {
+// The number of the first of rows 1 to 5 that applies to an image, if one does.
+fn header_row(image: &[u8]) -> Option<u32> {
     if image.len() < 24 {
-        return 1;
+        return Some(1);
     }
     if edition_is_wrong(u32::from(number16(image, 0))) {
-        return 2;
+        return Some(2);
     }
     let n = u32::from(number16(image, 2));
     let m = u32::from(number16(image, 4));
     let k = u32::from(number16(image, 6));
     if size_out_of_range(n, m, k) {
-        return 3;
+        return Some(3);
     }
     if field_is_wrong(image, m, k) {
-        return 4;
+        return Some(4);
     }
     if image.len() != number32(image, 16) as usize {
-        return 5;
+        return Some(5);
     }
-    0
+    None
 }
 
 // Check's answer, with slices for the image's lists. Where they are too short, which they are not
 // after rows 1 to 5, the answer is none that a call gives.
 fn check_with(image: &[u8], nodes: &mut [u16], costs: &mut [u32]) -> Answer {
-    let row = header_row(image);
-    if row != 0 {
+    if let Some(row) = header_row(image) {
         return refusal(row, 0);
     }
     let header = Header {

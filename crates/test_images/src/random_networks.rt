@@ -7,8 +7,8 @@ use arrayvec::ArrayVec;
 use std::io;
 use test_fixtures::closing::CLOSED;
 use test_fixtures::networks::{SmallNetwork, draw_network, number_at};
-use test_fixtures::plain_image::{Header, Network};
-use test_fixtures::random::Random;
+use test_fixtures::plain_image::Network;
+use test_fixtures::random::note_networks;
 use test_fixtures::report::{Call, Report};
 
 // The calls on a sound network.
@@ -22,7 +22,7 @@ fn note_lists(report: Report, network: Network) -> Report {
     let image: ArrayVec<u8, 2040> = network.image();
     let room = image.len();
     let expected = build_answer(network, room);
-    let written = if expected.number == 0 {
+    let written = if expected.is_ok() {
         image.as_slice()
     } else {
         &[]
@@ -55,63 +55,79 @@ fn put<T: Copy>(list: &mut [T], place: u32, content: T) {
     }
 }
 
-// Changes by 0 a node number, to 0 to 9, by 1 a cost, by 2 both and by more nothing.
-fn change_lists(network: &mut SmallNetwork, change: u32, place: u32, number: u32) {
-    if change == 0 || change == 2 {
-        put(network.nodes.as_mut_slice(), place, (number % 10) as u16);
-    }
-    if change == 1 || change == 2 {
-        let cost = limit_cost(network.header.edition, number);
-        put(network.costs.as_mut_slice(), place, cost);
-    }
-}
-
-// A size or an edition, or where it is changed another one of 0 to 9.
-fn size_after(changed: bool, size: u32, number: u32) -> u32 {
-    if changed { number % 10 } else { size }
+// What is changed of a network: a node number, a cost, both, k, n or the edition.
+#[derive(Clone, Copy, PartialEq, Eq)]
+enum Change {
+    Node,
+    Cost,
+    NodeAndCost,
+    Columns,
+    Nodes,
+    Edition,
 }
 
 // Which change: one of five in edition 1, and one of six in edition 2.
-fn change_of(edition: u32, number: u32) -> u32 {
-    if edition == 1 { number % 5 } else { number % 6 }
+fn change_of(edition: u32, number: u32) -> Change {
+    let changes = if edition == 1 { 5 } else { 6 };
+    match number % changes {
+        0 => Change::Node,
+        1 => Change::Cost,
+        2 => Change::NodeAndCost,
+        3 => Change::Columns,
+        4 => Change::Nodes,
+        _ => Change::Edition,
+    }
 }
 
-// The calls after one change, as the drawn numbers have it: by 0 to 2 of the lists, by 3 of k, by 4 of n
-// and by 5 of the edition.
+// Another node number, 0 to 9, at a place.
+fn change_node(network: &mut SmallNetwork, place: u32, number: u32) {
+    put(network.nodes.as_mut_slice(), place, (number % 10) as u16);
+}
+
+fn change_cost(network: &mut SmallNetwork, place: u32, number: u32) {
+    let cost = limit_cost(network.header.edition, number);
+    put(network.costs.as_mut_slice(), place, cost);
+}
+
+// The calls after one change, as the drawn numbers have it. A size or an edition is changed to another one of 0 to 9.
 fn note_changed(report: Report, mut network: SmallNetwork, numbers: &[u32]) -> Report {
-    let Header { edition, n, k } = network.header;
-    let change = change_of(edition, number_at(numbers, 4));
     let place = number_at(numbers, 5);
     let number = number_at(numbers, 6);
-    change_lists(&mut network, change, place, number);
-    network.header = Header {
-        edition: size_after(change == 5, edition, number),
-        n: size_after(change == 4, n, number),
-        k: size_after(change == 3, k, number),
-    };
+    match change_of(network.header.edition, number_at(numbers, 4)) {
+        Change::Node => change_node(&mut network, place, number),
+        Change::Cost => change_cost(&mut network, place, number),
+        Change::NodeAndCost => {
+            change_node(&mut network, place, number);
+            change_cost(&mut network, place, number);
+        }
+        Change::Columns => network.header.k = number % 10,
+        Change::Nodes => network.header.n = number % 10,
+        Change::Edition => network.header.edition = number % 10,
+    }
     note_lists(report, network.lent())
 }
 
-// 3,000 networks of an edition, as they are drawn or changed.
-fn networks(edition: u32, changed: bool) -> Report {
-    let mut random = Random { state: 1 };
-    let mut numbers = [0u32; 520];
-    let mut report = Report::new();
-    for _ in 0..3000u32 {
-        random.fill(&mut numbers);
-        let network = draw_network(edition, &numbers);
-        report = if changed {
-            note_changed(report, network, &numbers)
-        } else {
-            note_sound(report, network.lent())
-        };
-    }
-    report
+// 3,000 networks of an edition.
+fn networks<Note>(edition: u32, note: Note) -> Report
+where
+    Note: Fn(Report, SmallNetwork, &[u32]) -> Report,
+    requires note_is_callable { Note.IsAlwaysCallable note }
+{
+    let draw = |numbers: &[u32], _: u32| draw_network(edition, numbers);
+    note_networks(1, &mut [0; 520], 3000, draw, note)
+}
+
+// Networks of an edition as they are drawn.
+fn sound(edition: u32) -> Report {
+    networks(
+        edition,
+        |report, network, _| note_sound(report, network.lent()),
+    )
 }
 
 pub fn run(rt: &impl Print) -> io::Result<()> {
-    networks(1, false).print(rt, "random networks")?;
-    networks(1, true).print(rt, "changed networks")?;
-    networks(2, false).print(rt, "random networks of edition 2")?;
-    networks(2, true).print(rt, "changed networks of edition 2")
+    sound(1).print(rt, "random networks")?;
+    networks(1, note_changed).print(rt, "changed networks")?;
+    sound(2).print(rt, "random networks of edition 2")?;
+    networks(2, note_changed).print(rt, "changed networks of edition 2")
 }

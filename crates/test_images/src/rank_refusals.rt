@@ -1,4 +1,5 @@
 // The refusal table on the numbers and slices that Rank is given with network S.
+use super::note_rows;
 use std::io;
 use test_calls::answers::refusal;
 use test_calls::rank_calls::{Request, Rooms, rank_agrees};
@@ -67,14 +68,10 @@ fn note_row(report: Report, image: &[u8], row: [u32; 8]) -> Report {
     report.note(Call::Rank, agrees)
 }
 
-fn refused_numbers(image: &[u8], rows: &[[u32; 8]]) -> Report {
-    let mut report = Report::new();
-    for row in rows {
-        report = note_row(report, image, *row);
-    }
-    report
-}
-
 pub fn run(rt: &impl Print) -> io::Result<()> {
-    refused_numbers(&network_s(), &REFUSED_NUMBERS).print(rt, "refused numbers")
+    note_rows(
+        &REFUSED_NUMBERS,
+        |report, row| note_row(report, &network_s(), row),
+    )
+    .print(rt, "refused numbers")
 }

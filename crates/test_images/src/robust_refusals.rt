@@ -1,8 +1,9 @@
 // The refusal table on the numbers and slices that Robust is given with network S.
+use super::note_rows;
 use std::io;
 use test_calls::answers::refusal;
-use test_calls::rank_calls::Request;
-use test_calls::robust_calls::{RouteRooms, robust_agrees};
+use test_calls::rank_calls::{Request, Rooms};
+use test_calls::robust_calls::robust_agrees;
 use test_fixtures::case_images::network_s;
 use test_fixtures::report::{Call, Report};
 
@@ -57,22 +58,19 @@ fn note_row(report: Report, image: &[u8], row: [u32; 7]) -> Report {
         goal,
         wanted,
     };
-    let lent = RouteRooms {
-        path: path as usize,
+    let lent = Rooms {
+        rows: path as usize,
+        costs: 0,
         work: work as usize,
     };
     let agrees = robust_agrees(image, request, lent, refusal(number, 0), &[]);
     report.note(Call::Robust, agrees)
 }
 
-fn refused_numbers(image: &[u8], rows: &[[u32; 7]]) -> Report {
-    let mut report = Report::new();
-    for row in rows {
-        report = note_row(report, image, *row);
-    }
-    report
-}
-
 pub fn run(rt: &impl Print) -> io::Result<()> {
-    refused_numbers(&network_s(), &REFUSED_NUMBERS).print(rt, "refused numbers")
+    note_rows(
+        &REFUSED_NUMBERS,
+        |report, row| note_row(report, &network_s(), row),
+    )
+    .print(rt, "refused numbers")
 }

@@ -25,7 +25,8 @@ pub fn ranked(
     note_rank(report, image, 4, request, rows, costs)
 }
 
-// Rank refuses with 15 and writes nothing.
+// Rank refuses with 15 and writes nothing. Robust's cases have the like of this and of the line's: the two calls are
+// lent other slices, so one function for both would have the call itself as its argument, and be longer.
 pub fn no_path(report: Report, image: &[u8], n: u32, column: u32, start: u32, goal: u32) -> Report {
     let request = Request {
         column,
@@ -72,46 +73,40 @@ fn note_zero_costs(mut report: Report, image: &[u8]) -> Report {
     ranked(report, image, 1, 1, &rows[..4], &[0])
 }
 
-// Rank on the line with K = 2, which needs 400 places for rows, 2 for costs and 3,912 for work. The
-// one path is all nodes.
+// Rank on the line, whose one path is all nodes. K = 256 needs 51,200 places for rows, 256 for costs and 58,776 for work.
 fn rank_line(image: &[u8], wanted: u32, lent: Rooms, nodes: &[u16]) -> bool {
     let mut rows = [u16::PATTERN; 51200];
     let mut costs = [u32::PATTERN; 256];
     let mut work = [u32::PATTERN; 58776];
-    let row_room = lent.rows;
-    let cost_room = lent.costs;
-    let work_room = lent.work;
-    if 51200 < row_room || 256 < cost_room || 58776 < work_room {
-        return false;
-    }
     let request = Request {
         column: 1,
         start: 1,
         goal: 200,
         wanted,
     };
-    rank_into(
-        image,
-        request,
-        &mut rows[..row_room],
-        &mut costs[..cost_room],
-        &mut work[..work_room],
-        single(1),
-        nodes,
-        &[199000000],
-    )
+    match (
+        rows.get_mut(..lent.rows),
+        costs.get_mut(..lent.costs),
+        work.get_mut(..lent.work),
+    ) {
+        (Some(rows), Some(costs), Some(work)) => rank_into(
+            image,
+            request,
+            rows,
+            costs,
+            work,
+            single(1),
+            nodes,
+            &[199000000],
+        ),
+        _ => false,
+    }
 }
 
-fn note_line(report: Report, image: &[u8], wanted: u32, nodes: &[u16]) -> Report {
-    report.note(
-        Call::Rank,
-        rank_line(image, wanted, needed_rooms(200, wanted), nodes),
-    )
-}
-
-fn note_lines(mut report: Report, image: &[u8], nodes: &[u16]) -> Report {
+fn note_line(mut report: Report, image: &[u8], nodes: &[u16]) -> Report {
     for wanted in [1, 2, 256] {
-        report = note_line(report, image, wanted, nodes);
+        let agrees = rank_line(image, wanted, needed_rooms(200, wanted), nodes);
+        report = report.note(Call::Rank, agrees);
     }
     report
 }
@@ -122,6 +117,6 @@ pub fn run(rt: &impl Print) -> io::Result<()> {
         note_s,
         note_zero_costs,
         |report, image| no_path(report, image, 2, 1, 1, 2),
-        note_lines,
+        note_line,
     )
 }

@@ -2,22 +2,17 @@
 //
 // In column 2 every arc costs 1, so all paths cost 132, and the first are those that differ at the
 // end: path c takes the higher node at step 65 - b exactly if c has the bit b.
-use std::io;
+use std::{array, io};
 use test_calls::answers::single;
 use test_calls::rank_calls::{Request, rank_into};
-use test_fixtures::ladder::{ladder, lay_out_rows};
+use test_fixtures::ladder::{ladder_rows, rank_ladder};
+use test_fixtures::numbers::count;
 use test_fixtures::report::{Call, Report};
 use test_fixtures::slices::Pattern;
 
 // What path c costs.
-fn path_cost(column: u32, c: usize) -> usize {
-    if column == 1 { c } else { 132 }
-}
-
-fn expect_costs(column: u32, costs: &mut [u32]) {
-    for (c, cost) in costs.iter_mut().enumerate() {
-        *cost = (path_cost(column, c) % 4294967296) as u32;
-    }
+fn path_cost(column: u32, c: usize) -> u32 {
+    if column == 1 { count(c) } else { 132 }
 }
 
 // Rank in a column, with slices as long as K = 256 needs: 256 rows of 199 places, 256 costs and
@@ -45,10 +40,8 @@ fn rank_column(image: &[u8], column: u32, rows: &[u16], costs: &[u32]) -> bool {
 }
 
 fn note_column(report: Report, image: &[u8], column: u32) -> Report {
-    let mut rows = [0u16; 50944];
-    let mut costs = [0u32; 256];
-    lay_out_rows(column, 0, &mut rows);
-    expect_costs(column, &mut costs);
+    let rows: [u16; 50944] = ladder_rows(column, 0);
+    let costs: [u32; 256] = array::from_fn(|c| path_cost(column, c));
     report.note(Call::Rank, rank_column(image, column, &rows, &costs))
 }
 
@@ -58,5 +51,5 @@ fn note_columns(mut report: Report, image: &[u8]) -> Report {
 }
 
 pub fn run(rt: &impl Print) -> io::Result<()> {
-    note_columns(Report::new(), &ladder(false)).print(rt, "ladder of 199 nodes")
+    note_columns(Report::new(), &rank_ladder()).print(rt, "ladder of 199 nodes")
 }

@@ -33,8 +33,7 @@ fn expect_costs(u: u32, paths: &[Path], costs: &mut [u32]) {
 }
 
 // Slices that are exactly long enough in even columns, and longer in odd ones.
-fn lent(n: u32, request: Request) -> Rooms {
-    let needed = needed_rooms(n, request.wanted);
+pub fn lent(needed: Rooms, request: Request) -> Rooms {
     if request.column % 2 == 0 {
         return needed;
     }
@@ -53,7 +52,14 @@ fn rank_is(
     expect_rows(n as usize, paths, rows);
     expect_costs(request.column, paths, costs);
     let found = single(count(costs.len()));
-    rank_agrees(image, request, lent(n, request), found, rows, costs)
+    rank_agrees(
+        image,
+        request,
+        lent(needed_rooms(n, request.wanted), request),
+        found,
+        rows,
+        costs,
+    )
 }
 
 // The same, with lists made for what it should write.
@@ -80,7 +86,14 @@ fn rank_gives(image: &[u8], n: u32, request: Request, given: u32, paths: &[Path]
 fn rank_holds(image: &[u8], n: u32, request: Request, paths: &mut [Path]) -> bool {
     let open = test_enumerate::open_count(request.column, paths);
     if open == 0 {
-        return rank_agrees(image, request, lent(n, request), refusal(15, 0), &[], &[]);
+        return rank_agrees(
+            image,
+            request,
+            lent(needed_rooms(n, request.wanted), request),
+            refusal(15, 0),
+            &[],
+            &[],
+        );
     }
     let given = request.wanted.min(count(open));
     test_enumerate::rank(request.column, paths);

@@ -3,10 +3,8 @@
 use super::cases;
 use std::io;
 use test_calls::answers::{Answer, left_open, refusal, settled};
-use test_calls::rank_calls::Request;
-use test_calls::robust_calls::{
-    RouteRooms, needed_route_rooms, note_robust, robust_agrees, robust_into,
-};
+use test_calls::rank_calls::{Request, Rooms};
+use test_calls::robust_calls::{needed_route_rooms, note_robust, robust_agrees, robust_into};
 use test_fixtures::report::{Call, Report};
 use test_fixtures::slices::Pattern;
 
@@ -71,38 +69,27 @@ fn note_zero_costs(mut report: Report, image: &[u8]) -> Report {
 }
 
 // Robust on the line, whose one path is all nodes. K = 256 needs 58,776 numbers of work.
-fn robust_line(image: &[u8], wanted: u32, lent: RouteRooms, nodes: &[u16]) -> bool {
+fn robust_line(image: &[u8], wanted: u32, lent: Rooms, nodes: &[u16]) -> bool {
     let mut path = [u16::PATTERN; 200];
     let mut work = [u32::PATTERN; 58776];
-    let path_room = lent.path;
-    let work_room = lent.work;
-    if 200 < path_room || 58776 < work_room {
-        return false;
-    }
     let request = Request {
         column: 1,
         start: 1,
         goal: 200,
         wanted,
     };
-    robust_into(
-        image,
-        request,
-        &mut path[..path_room],
-        &mut work[..work_room],
-        settled(200, 0, 1, 1),
-        nodes,
-    )
+    match (path.get_mut(..lent.rows), work.get_mut(..lent.work)) {
+        (Some(path), Some(work)) => {
+            robust_into(image, request, path, work, settled(200, 0, 1, 1), nodes)
+        }
+        _ => false,
+    }
 }
 
-fn note_line(report: Report, image: &[u8], wanted: u32, nodes: &[u16]) -> Report {
-    let needed = needed_route_rooms(200, wanted);
-    report.note(Call::Robust, robust_line(image, wanted, needed, nodes))
-}
-
-fn note_lines(mut report: Report, image: &[u8], nodes: &[u16]) -> Report {
+fn note_line(mut report: Report, image: &[u8], nodes: &[u16]) -> Report {
     for wanted in [1, 2, 256] {
-        report = note_line(report, image, wanted, nodes);
+        let agrees = robust_line(image, wanted, needed_route_rooms(200, wanted), nodes);
+        report = report.note(Call::Robust, agrees);
     }
     report
 }
@@ -113,6 +100,6 @@ pub fn run(rt: &impl Print) -> io::Result<()> {
         note_s,
         note_zero_costs,
         |report, image| no_path(report, image, 2, 1, 1, 2),
-        note_lines,
+        note_line,
     )
 }

@@ -13,7 +13,7 @@ use std::io;
 use test_calls::answers::{Answer, left_open, settled};
 use test_calls::rank_calls::Request;
 use test_calls::robust_calls::{needed_route_rooms, robust_into};
-use test_fixtures::ladder::{ladder, lay_out_rows};
+use test_fixtures::ladder::{ladder_rows, robust_ladder};
 use test_fixtures::report::{Call, Report};
 use test_fixtures::slices::Pattern;
 
@@ -21,24 +21,16 @@ use test_fixtures::slices::Pattern;
 fn robust_column(image: &[u8], column: u32, wanted: u32, expected: Answer, nodes: &[u16]) -> bool {
     let mut path = [u16::PATTERN; 199];
     let mut work = [u32::PATTERN; 58503];
-    let work_room = needed_route_rooms(199, wanted).work;
-    if 58503 < work_room {
+    let Some(work) = work.get_mut(..needed_route_rooms(199, wanted).work) else {
         return false;
-    }
+    };
     let request = Request {
         column,
         start: 1,
         goal: 199,
         wanted,
     };
-    robust_into(
-        image,
-        request,
-        &mut path,
-        &mut work[..work_room],
-        expected,
-        nodes,
-    )
+    robust_into(image, request, &mut path, work, expected, nodes)
 }
 
 // Robust by a column gives the path with the number c.
@@ -50,8 +42,7 @@ fn chosen(
     expected: Answer,
     c: usize,
 ) -> Report {
-    let mut nodes = [0u16; 133];
-    lay_out_rows(1, c, &mut nodes);
+    let nodes: [u16; 133] = ladder_rows(1, c);
     report.note(
         Call::Robust,
         robust_column(image, column, wanted, expected, &nodes),
@@ -71,5 +62,5 @@ fn note_ladder(mut report: Report, image: &[u8]) -> Report {
 }
 
 pub fn run(rt: &impl Print) -> io::Result<()> {
-    note_ladder(Report::new(), &ladder(true)).print(rt, "ladder of 199 nodes")
+    note_ladder(Report::new(), &robust_ladder()).print(rt, "ladder of 199 nodes")
 }

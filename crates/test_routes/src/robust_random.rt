@@ -1,21 +1,11 @@
 // Random networks: Robust, held to the plain enumeration of all paths.
+use super::rank_random::lent;
 use test_calls::answers::{Answer, left_open, refusal, settled};
 use test_calls::rank_calls::Request;
-use test_calls::robust_calls::{
-    RouteRooms, longer_rooms, needed_route_rooms, note_short_robusts, robust_agrees,
-};
+use test_calls::robust_calls::{needed_route_rooms, note_short_robusts, robust_agrees};
 use test_enumerate::{Choice, Costs, Path};
 use test_fixtures::numbers::{count, narrow};
 use test_fixtures::report::{Call, Report};
-
-// Slices that are exactly long enough in even columns, and longer in odd ones.
-fn lent(n: u32, request: Request) -> RouteRooms {
-    let needed = needed_route_rooms(n, request.wanted);
-    if request.column % 2 == 0 {
-        return needed;
-    }
-    longer_rooms(needed)
-}
 
 // The answer that the enumeration gives, as Robust's, for a route of so many nodes.
 fn answer_of(choice: Choice, nodes: usize) -> Answer {
@@ -38,7 +28,13 @@ fn robust_gives(image: &[u8], n: u32, request: Request, bests: Costs, paths: &[P
     let row = choice.route;
     let length = test_enumerate::length(row);
     let found = answer_of(choice, length);
-    robust_agrees(image, request, lent(n, request), found, &row[..length])
+    robust_agrees(
+        image,
+        request,
+        lent(needed_route_rooms(n, request.wanted), request),
+        found,
+        &row[..length],
+    )
 }
 
 // Robust where these are the paths that are open in every column. Its answer says nothing of a path
@@ -57,7 +53,13 @@ fn robust_ranked(image: &[u8], n: u32, request: Request, bests: Costs, paths: &m
 fn robust_holds(image: &[u8], n: u32, request: Request, bests: Costs, paths: &mut [Path]) -> bool {
     let open = test_enumerate::open_everywhere(paths);
     if open == 0 {
-        return robust_agrees(image, request, lent(n, request), refusal(15, 0), &[]);
+        return robust_agrees(
+            image,
+            request,
+            lent(needed_route_rooms(n, request.wanted), request),
+            refusal(15, 0),
+            &[],
+        );
     }
     match paths.get_mut(..open) {
         Some(listed) => robust_ranked(image, n, request, bests, listed),

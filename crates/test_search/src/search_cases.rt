@@ -4,10 +4,11 @@ use test_calls::searches::{Choice, Quest, note_no_path, note_refused, note_searc
 use test_fixtures::case_images::{
     apart, detour, ferry, line, line_path, network_s, no_arcs, second_s, zero_costs,
 };
-use test_fixtures::ladder::{ladder, lay_out_rows};
+use test_fixtures::ladder::{ladder_rows, robust_ladder};
 use test_fixtures::report::Report;
 
-// Search from start to goal finds this path, and tries so many arcs.
+// Search from start to goal finds this path, and tries so many arcs. `ends` are the start and the goal, `values` the
+// figure, the worst column and the arcs tried: arrays, as each case is a line of a table.
 fn finds(
     report: Report,
     image: &[u8],
@@ -119,9 +120,8 @@ fn of_line(rt: &impl Print) -> io::Result<()> {
 // that takes 128 or more in a column is dropped: at 127 nodes of the steps 58 to 64 all four arcs are tried, at
 // the 128 of step 65 the two arcs to the lower and the higher node, and two arcs to the goal.
 fn of_ladder(rt: &impl Print) -> io::Result<()> {
-    let mut nodes = [0u16; 133];
-    lay_out_rows(1, 128, &mut nodes);
-    let image = ladder(true);
+    let nodes: [u16; 133] = ladder_rows(1, 128);
+    let image = robust_ladder();
     finds(Report::new(), &image, 199, [1, 199], &nodes, [128, 1, 940]).print(
         rt,
         "ladder of 199 nodes",

@@ -1,27 +1,25 @@
-// Random networks of 2 to 8 nodes: Descent from every node to one.
+// Random networks of 2 to 8 nodes: Search from every node to one.
 use arrayvec::ArrayVec;
 use std::io;
 use test_calls::rank_calls::{Request, WORK_PLACES, needed_rooms};
-use test_calls::robust_calls::robust_answer;
+use test_calls::robust_calls::robust_of;
 use test_calls::searches::{Choice, Quest, note_no_path, note_search};
 use test_enumerate::{Costs, Descent, Path, Paths};
 use test_fixtures::networks::{draw_network, number_at};
 use test_fixtures::numbers::{count, narrow, node};
 use test_fixtures::plain_image::{Header, Network};
-use test_fixtures::random::Random;
+use test_fixtures::random::note_networks;
 use test_fixtures::report::{Call, Report};
 
 // Whether Robust shows this figure, if it is settled.
 fn robust_shows(image: &[u8], n: u32, request: Request, figure: u32) -> bool {
     let mut path = [0u16; 8];
     let mut work = [0u32; WORK_PLACES];
-    let room = needed_rooms(n, request.wanted).work;
-    if WORK_PLACES < room {
+    let Some(lent) = work.get_mut(..needed_rooms(n, request.wanted).work) else {
         return false;
-    }
-    let answer = robust_answer(image, request, &mut path, &mut work[..room]);
-    let is_open = answer.values[4];
-    answer.number == 0 && (is_open == 1 || answer.values[1] == figure)
+    };
+    let answer = robust_of(image, request, &mut path, lent);
+    answer.is_ok_and(|given| given.floor.is_some() || given.figure == figure)
 }
 
 // Robust in the column that a count names, of k, which are at most 8.
@@ -35,8 +33,8 @@ fn request_of(quest: Quest, k: u32, tried: u32) -> Request {
     }
 }
 
-// Search where these are the paths that are open in every column, and the path of them that comes first in node
-// order of all with the least figure. The rule finds that path, and Search finds it with the rule's count.
+// Search where this path comes first in node order of all with the least figure that are open in every column. The rule
+// finds that path, and Search finds it with the rule's count.
 fn note_found(
     mut report: Report,
     header: Header,
@@ -123,20 +121,22 @@ fn note_goal(report: Report, network: Network, goal: u32, image: &[u8]) -> Repor
     }
 }
 
+// Search to the goal that is drawn with a network.
+fn note_drawn(report: Report, network: Network, numbers: &[u32]) -> Report {
+    let image: ArrayVec<u8, 2040> = network.image();
+    let goal = number_at(numbers, 4) % network.header.n.max(1) % 8 + 1;
+    note_goal(report, network, goal, image.as_slice())
+}
+
 // 2,000 networks of an edition, each with a goal.
 fn networks(edition: u32) -> Report {
-    let mut random = Random { state: 6 };
-    let mut numbers = [0u32; 520];
-    let mut report = Report::new();
-    for _ in 0..2000u32 {
-        random.fill(&mut numbers);
-        let small = draw_network(edition, &numbers);
-        let network = small.lent();
-        let image: ArrayVec<u8, 2040> = network.image();
-        let goal = number_at(&numbers, 4) % network.header.n.max(1) % 8 + 1;
-        report = note_goal(report, network, goal, image.as_slice());
-    }
-    report
+    note_networks(
+        6,
+        &mut [0; 520],
+        2000,
+        |numbers, _| draw_network(edition, numbers),
+        |report, small, numbers| note_drawn(report, small.lent(), numbers),
+    )
 }
 
 pub fn run(rt: &impl Print) -> io::Result<()> {

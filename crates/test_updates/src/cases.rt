@@ -36,13 +36,12 @@ fn note_lists(mut report: Report, header: Header) -> Report {
 
 // Image and list in error at once: byte `at` of network S's image has been given a content.
 fn note_wrong(report: Report, at: usize, content: u8, list: &[u32], number: u32) -> Report {
-    if 84 <= at {
-        return report.note(Call::Update, false);
-    }
     let mut image = network_s();
-    image[at] = content;
+    if let Some(byte) = image.get_mut(at) {
+        *byte = content;
+    }
     let after = image;
-    let agrees = update_gives(&mut image, list, [number, 0], &after);
+    let agrees = update_gives(&mut image, list, Some((number, 0)), &after);
     report.note(Call::Update, agrees)
 }
 

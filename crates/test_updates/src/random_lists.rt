@@ -7,7 +7,7 @@ use arrayvec::ArrayVec;
 use std::io;
 use test_fixtures::networks::{draw_network, number_at};
 use test_fixtures::plain_image::Network;
-use test_fixtures::random::Random;
+use test_fixtures::random::note_networks;
 use test_fixtures::report::{Call, Report};
 
 // The mark in edition 2, else 0.
@@ -59,24 +59,26 @@ fn length_of(number: u32) -> usize
 
 fn draw_records(network: Network, numbers: &[u32]) -> ArrayVec<u32, 160> {
     let mut records = ArrayVec::new();
-    for at in 0..length_of(number_at(numbers, 299)) {
-        let number = number_at(numbers, 300 + at);
+    let length = length_of(number_at(numbers, 299));
+    for (at, &number) in numbers.iter().skip(300).take(length).enumerate() {
         let _ = records.try_push(record_number(network, at, number));
     }
     records
 }
 
+fn note_list(report: Report, network: Network, numbers: &[u32]) -> Report {
+    let records = draw_records(network, numbers);
+    report.note(Call::Update, update_agrees(network, records.as_slice()))
+}
+
 // Networks of the editions 1 and 2 in turn.
 pub fn run(rt: &impl Print) -> io::Result<()> {
-    let mut random = Random { state: 1 };
-    let mut numbers = [0u32; 520];
-    let mut report = Report::new();
-    for i in 0..2000u32 {
-        random.fill(&mut numbers);
-        let small = draw_network(1 + i % 2, &numbers);
-        let network = small.lent();
-        let records = draw_records(network, &numbers);
-        report = report.note(Call::Update, update_agrees(network, records.as_slice()));
-    }
+    let report = note_networks(
+        1,
+        &mut [0; 520],
+        2000,
+        |numbers, i| draw_network(1 + i % 2, numbers),
+        |report, small, numbers| note_list(report, small.lent(), numbers),
+    );
     report.print(rt, "random lists")
 }
