@@ -11,7 +11,8 @@ use week_calls::Week;
 
 // An event and what it comes to: the arc, whether it is closed, what the event does, and the number of closed roads.
 // Behind these stands the state after it: the first word of the map, the six numbers from `state` to `floor`, and the
-// first four places of the route.
+// first four places of the route. It is a tuple, and a state that no event made is a line whose first four places are
+// not read: a struct of an event and a state would name nine numbers in each of the 23 lines below.
 type Line = (u32, bool, Call, u32, u64, [u32; 6], [u16; 4]);
 
 // In column 2 the first path is settled, and its own count is 1.

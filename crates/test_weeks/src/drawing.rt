@@ -2,10 +2,9 @@
 ghost use Rattle.std.specs.Prelude.{◌≤◌};
 
 use super::held::Asked;
-use test_calls::rank_calls::{Request, less};
-use test_calls::robust_calls::{longer_rooms, needed_route_rooms};
+use test_calls::rank_calls::{Request, longer};
+use test_calls::robust_calls::needed_route_rooms;
 use test_fixtures::networks::number_at;
-use test_fixtures::numbers::count;
 use test_fixtures::plain_image::{Header, Network};
 
 // The index of the first number that a list of events is drawn from.
@@ -44,7 +43,7 @@ impl Drawn<'_> {
         let numbers = self.numbers;
         let Header { n, k, .. } = self.network.header;
         let start = below(number_at(numbers, 520), n);
-        let step = below(number_at(numbers, 521), count(less(n as usize)));
+        let step = below(number_at(numbers, 521), n.saturating_sub(1));
         let goal = below(start + 1 + step, n);
         Request {
             column: 1 + below(number_at(numbers, 522), k),
@@ -58,7 +57,7 @@ impl Drawn<'_> {
     pub fn room_for(self, request: Request, is_longer: bool) -> usize {
         let needed = needed_route_rooms(self.network.header.n, request.wanted);
         if is_longer {
-            return longer_rooms(needed).work;
+            return longer(needed).work;
         }
         needed.work
     }
@@ -80,7 +79,8 @@ impl Drawn<'_> {
     }
 }
 
-// The request made wrong, in the ways 0 to 5, and else as it is.
+// The request made wrong, in the ways 0 to 5, and else as it is. A way is the drawn number: an enum of twelve would be made
+// of it by a `match` before the three that ask it here, each of which has some of the ways together.
 fn wrong_request(header: Header, request: Request, way: u32) -> Request {
     let mut wrong = request;
     match way {
@@ -98,7 +98,7 @@ fn wrong_request(header: Header, request: Request, way: u32) -> Request {
 // The workspace made too short, in the ways 6 and 7.
 fn wrong_room(room: usize, way: u32) -> usize {
     match way {
-        6 => less(room),
+        6 => room.saturating_sub(1),
         7 => 0,
         _ => room,
     }

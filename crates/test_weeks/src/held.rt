@@ -1,6 +1,6 @@
 // Fresh and Event, held to the state and the answer that they should give, and the workspace to what it should hold
 // after them.
-use test_calls::answers::Answer;
+use test_calls::answers::{Answer, answer_of};
 use test_calls::rank_calls::{Request, WORK_PLACES, work_after};
 use test_fixtures::slices::{Pattern, is_filled};
 use week_calls::event::event;
@@ -17,7 +17,7 @@ pub struct Asked {
 }
 
 fn same_weekly(given: Weekly, expected: Week, answer: Answer) -> bool {
-    Answer::from(given.tally) == answer && given.week == expected
+    answer_of(given.tally) == answer && given.week == expected
 }
 
 // Event with a workspace that holds the pattern. After a result the workspace is 0.
@@ -41,7 +41,7 @@ fn event_into(
         asked.close,
         work,
     );
-    same_weekly(given, expected, answer) && is_filled(work, work_after(answer.number))
+    same_weekly(given, expected, answer) && is_filled(work, work_after(answer))
 }
 
 // Whether Event gives the state and the answer, with a workspace made for it.
@@ -53,10 +53,9 @@ pub fn event_agrees(
     answer: Answer,
 ) -> bool {
     let mut work = [u32::PATTERN; WORK_PLACES];
-    match work.get_mut(..asked.room) {
-        Some(work) => event_into(image, asked, week, work, expected, answer),
-        None => false,
-    }
+    work.get_mut(..asked.room).is_some_and(|work| event_into(
+        image, asked, week, work, expected, answer,
+    ))
 }
 
 fn fresh_into(
@@ -74,7 +73,7 @@ fn fresh_into(
         request.wanted,
         work,
     );
-    same_weekly(given, expected, answer) && is_filled(work, work_after(answer.number))
+    same_weekly(given, expected, answer) && is_filled(work, work_after(answer))
 }
 
 // Whether Fresh gives the state and the answer, with a workspace of `room` places.
@@ -86,8 +85,6 @@ pub fn fresh_agrees(
     answer: Answer,
 ) -> bool {
     let mut work = [u32::PATTERN; WORK_PLACES];
-    match work.get_mut(..room) {
-        Some(work) => fresh_into(image, request, work, expected, answer),
-        None => false,
-    }
+    work.get_mut(..room)
+        .is_some_and(|work| fresh_into(image, request, work, expected, answer))
 }

@@ -2,8 +2,6 @@
 // rising order, and then opened, in falling order. All arcs cost 1, and node 200 has the last five, 995 to 999, to the
 // nodes 1 to 5. So the way from 200 to 1 is arc 995 until that is closed; then there is none, as all arcs into 1 that
 // are left are those from 200.
-ghost use Rattle.std.specs.Prelude.{◌≤◌};
-
 use super::held::{Asked, event_agrees, fresh_agrees};
 use super::left::numbered;
 use super::map::turned;
@@ -88,21 +86,9 @@ fn line_of(arc: u32, close: bool) -> Call {
     }
 }
 
-// The arc of the event at an index, 0 to 1999.
-fn arc_at(i: u32) -> u32
-    ensures { result ≤ 1999 }
-{
-    if i < 1000 {
-        return i;
-    }
-    1999 - i % 2000
-}
-
-fn next(run: Run, image: &[u8], i: u32) -> Run {
+fn next(run: Run, image: &[u8], arc: u32, close: bool) -> Run {
     let week = run.week;
-    let arc = arc_at(i);
-    let close = i < 1000;
-    let roads = if close { arc + 1 } else { arc };
+    let roads = arc.wrapping_add(u32::from(close));
     let words = week.closed;
     let after = week_after(turned(words, arc as usize), arc, close);
     let agrees = event_agrees(image, asked(arc, close), week, after, single(roads));
@@ -140,15 +126,17 @@ fn note_events(image: &[u8]) -> Report {
         report: begun,
         week,
     };
-    for i in 0..2000u32 {
-        run = next(run, image, i);
+    for arc in 0..1000u32 {
+        run = next(run, image, arc, true);
+    }
+    for arc in (0..1000u32).rev() {
+        run = next(run, image, arc, false);
     }
     run.report
 }
 
 pub fn run(rt: &impl Print) -> io::Result<()> {
-    let mut arcs = [0u16; 2000];
-    largest_nodes(&mut arcs);
+    let arcs = largest_nodes();
     let network = Network::new(first_edition(200, 1), &arcs, &[1; 1000]);
     let image: ArrayVec<u8, 8024> = network.image();
     note_events(image.as_slice()).print(rt, "largest network")

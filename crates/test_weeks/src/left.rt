@@ -13,13 +13,9 @@ use week_calls::Week;
 
 // A network of up to 56 arcs without those that a map closes.
 fn left_lists(network: Network, words: [u64; 16]) -> SmallNetwork {
-    let mut is_left = [true; 56];
-    for (arc, left) in is_left.iter_mut().enumerate() {
-        *left = !is_closed(words, arc);
-    }
     let mut small = SmallNetwork::new(network.header);
-    for (arc, left) in network.nodes.chunks_exact(2).zip(&is_left) {
-        if *left {
+    for (i, arc) in network.nodes.chunks_exact(2).enumerate() {
+        if !is_closed(words, i) {
             let _ = small.nodes.try_extend_from_slice(arc);
         }
     }
@@ -28,8 +24,8 @@ fn left_lists(network: Network, words: [u64; 16]) -> SmallNetwork {
         return small;
     }
     for column in network.costs.chunks_exact(m) {
-        for (cost, left) in column.iter().zip(&is_left) {
-            if *left {
+        for (i, cost) in column.iter().enumerate() {
+            if !is_closed(words, i) {
                 let _ = small.costs.try_push(*cost);
             }
         }

@@ -3,8 +3,10 @@ use super::drawing::{Drawn, EVENTS, below};
 use super::left::left_week;
 use super::map::{is_closed, turned};
 use super::step::note_event;
+use std::array;
 use test_calls::rank_calls::Request;
 use test_fixtures::networks::number_at;
+use test_fixtures::numbers::count;
 use test_fixtures::report::Report;
 use week_calls::Week;
 
@@ -64,21 +66,15 @@ fn with_bits_beyond(words: [u64; 16], m: usize) -> [u64; 16] {
 // The route with an arc's nodes at its last two places.
 fn with_last(route: [u16; 200], arcs: &[u16], arc: usize) -> [u16; 200] {
     let mut next = route;
-    if arcs.len() / 2 <= arc {
-        return next;
+    if let Some(ends) = arcs.as_chunks::<2>().0.get(arc) {
+        next[198..].copy_from_slice(ends);
     }
-    next[198] = arcs[2 * arc];
-    next[199] = arcs[2 * arc + 1];
     next
 }
 
 // A route of nodes that this network need not have.
 fn other_route(numbers: &[u32]) -> [u16; 200] {
-    let mut route = [0u16; 200];
-    for (i, node) in route.iter_mut().enumerate() {
-        *node = (number_at(numbers, 8 + i) / 64 % 9) as u16;
-    }
-    route
+    array::from_fn(|i| (number_at(numbers, 8 + count(i) as usize) / 64 % 9) as u16)
 }
 
 // A state with another length and route, read as settled.

@@ -1,5 +1,4 @@
 // The map of closed arcs, read and written by halving and doubling.
-
 use test_fixtures::numbers::count;
 
 // The places of the map.
@@ -23,7 +22,7 @@ pub fn closed_count(words: [u64; 16], m: usize) -> u32 {
     count(closed)
 }
 
-// Two to the power of a place.
+// Two to the power of a place, by doubling: std's shift is what the library goes by.
 fn power(place: usize) -> u64 {
     let mut value = 1u64;
     for _ in 0..place {

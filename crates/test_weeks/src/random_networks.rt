@@ -5,38 +5,46 @@ use super::made_states::note_made_states;
 use super::random_weeks::note_week;
 use arrayvec::ArrayVec;
 use std::io;
-use test_fixtures::networks::draw_network;
-use test_fixtures::random::Random;
+use test_fixtures::networks::{SmallNetwork, draw_network};
+use test_fixtures::random::note_networks;
 use test_fixtures::report::Report;
 
-// Has the network drawn with more arcs, and fewer of them closed in columns, so that there are paths; but one pair of
-// four stays as it was drawn.
-fn make_denser(numbers: &mut [u32; 620], i: u32) {
-    if i / 2 % 4 != 0 {
-        numbers[2] = 2 + numbers[2] % 3;
-        numbers[7] %= 16;
+// A network drawn with more arcs, and fewer of them closed in columns, so that there are paths; but one pair of four is
+// as the numbers have it.
+fn draw_denser(numbers: &[u32], i: u32) -> SmallNetwork {
+    let mut denser = [0u32; 520];
+    for (place, number) in denser.iter_mut().zip(numbers) {
+        *place = *number;
     }
+    if i / 2 % 4 != 0 {
+        denser[2] = 2 + denser[2] % 3;
+        denser[7] %= 16;
+    }
+    draw_network(1 + i % 2, &denser)
 }
 
 // What `note` comes to after so many networks, of the editions 1 and 2 in turn.
-fn networks(note: impl Fn(Report, Drawn<'_>) -> Report, count: u32) -> Report {
-    let mut random = Random { state: 1 };
-    let mut numbers = [0u32; 620];
-    let mut report = Report::new();
-    for i in 0..count {
-        random.fill(&mut numbers);
-        make_denser(&mut numbers, i);
-        let small = draw_network(1 + i % 2, &numbers);
-        let network = small.lent();
-        let image: ArrayVec<u8, 2040> = network.image();
-        let drawn = Drawn {
-            network,
-            image: image.as_slice(),
-            numbers: &numbers,
-        };
-        report = note(report, drawn);
-    }
-    report
+fn networks<Note>(note: Note, count: u32) -> Report
+where
+    Note: Fn(Report, Drawn<'_>) -> Report,
+    requires note_is_callable { Note.IsAlwaysCallable note }
+{
+    note_networks(
+        1,
+        &mut [0; 620],
+        count,
+        draw_denser,
+        |report, small, numbers| {
+            let network = small.lent();
+            let image: ArrayVec<u8, 2040> = network.image();
+            let drawn = Drawn {
+                network,
+                image: image.as_slice(),
+                numbers,
+            };
+            note(report, drawn)
+        },
+    )
 }
 
 pub fn run(rt: &impl Print) -> io::Result<()> {

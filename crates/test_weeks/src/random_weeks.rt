@@ -1,7 +1,6 @@
 // A week on a random network: a fresh one, and a list of up to 30 events, some of which are refused.
 use super::drawing::{Drawn, EVENTS};
 use super::step::{begin, next, note_refused_fresh};
-use test_calls::rank_calls::less;
 use test_fixtures::networks::number_at;
 use test_fixtures::report::Report;
 
@@ -10,10 +9,9 @@ pub fn note_week(report: Report, drawn: Drawn) -> Report {
     let room = drawn.room_for(request, drawn.network.header.n % 2 == 1);
     let mut run = begin(report, drawn, request, room);
     let events = number_at(drawn.numbers, 524) / 64 % 31;
-    for i in 0..events {
-        let number = number_at(drawn.numbers, EVENTS + i as usize);
+    for &number in drawn.numbers.iter().skip(EVENTS).take(events as usize) {
         run = next(run, drawn, request, drawn.event(request, number));
     }
-    let short = less(drawn.room_for(request, false));
+    let short = drawn.room_for(request, false).saturating_sub(1);
     note_refused_fresh(run.report, drawn, request, short)
 }

@@ -87,7 +87,7 @@ fn note_refused_fresh(report: Report, image: &[u8], row: [u32; 8], expected: Ans
 fn note_row(mut report: Report, image: &[u8], row: [u32; 8], expected: Answer) -> Report {
     report = note_refused_event(report, image, row, true, expected);
     report = note_refused_event(report, image, row, false, expected);
-    if expected.number == 20 {
+    if matches!(expected, Err((20, _))) {
         return report;
     }
     note_refused_fresh(report, image, row, expected)
@@ -106,11 +106,10 @@ fn note_table(image: &[u8]) -> Report {
 
 // Byte `at` of the image has been given a content: the image's rows stand before all others.
 fn note_wrong(report: Report, at: usize, content: u8, expected: Answer) -> Report {
-    if 84 <= at {
-        return report.note(Call::Refused, false);
-    }
     let mut image = network_s();
-    image[at] = content;
+    if let Some(byte) = image.get_mut(at) {
+        *byte = content;
+    }
     let noted = note_row(report, &image, [1, 1, 4, 5, 248, 0, 0, 0], expected);
     note_row(noted, &image, [0, 0, 0, 0, 0, 4294967295, 0, 0], expected)
 }

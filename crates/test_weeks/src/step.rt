@@ -21,15 +21,7 @@ pub struct Run {
 const OTHER_COUNT: u32 = 4123456789;
 
 fn with_count(week: Week, count: u32) -> Week {
-    let mut next = week;
-    next.count = count;
-    next
-}
-
-fn with_map(week: Week, words: [u64; 16]) -> Week {
-    let mut next = week;
-    next.closed = words;
-    next
+    Week { count, ..week }
 }
 
 // The state after an event that comes to this.
@@ -37,22 +29,22 @@ fn week_after(kind: Call, network: Network, asked: Asked, week: Week) -> Week {
     let words = week.closed;
     let turned_words = turned(words, asked.arc as usize);
     match kind {
-        Call::Stands => with_map(week, turned_words),
+        Call::Stands => Week {
+            closed: turned_words,
+            ..week
+        },
         Call::Runs => left_week(network, asked.request, turned_words),
         _ => week,
     }
 }
 
 // The answer beside the state: the refusal, or the number of closed roads.
-fn answer_of(number: u32, m: u32, arc: u32, after: Week) -> Answer {
-    if number == 20 {
-        return refusal(20, arc);
+fn answer_to(fault: Option<u32>, m: u32, arc: u32, after: Week) -> Answer {
+    match fault {
+        Some(20) => refusal(20, arc),
+        Some(number) => refusal(number, 0),
+        None => single(closed_count(after.closed, m as usize)),
     }
-    if number != 0 {
-        return refusal(number, 0);
-    }
-    let words = after.closed;
-    single(closed_count(words, m as usize))
 }
 
 // What a state with another count becomes: a full run counts anew, and all else leaves the count.
@@ -70,7 +62,7 @@ pub fn note_event(report: Report, drawn: Drawn, asked: Asked, week: Week) -> Run
     let m = network.arc_count();
     let kind = verdict(network, asked, week);
     let after = week_after(kind, network, asked, week);
-    let answer = answer_of(event_fault(network, asked), m, asked.arc, after);
+    let answer = answer_to(event_fault(network, asked), m, asked.arc, after);
     let agrees = event_agrees(image, asked, week, after, answer);
     let other = with_count(week, OTHER_COUNT);
     let other_agrees = event_agrees(image, asked, other, counted_after(kind, after), answer);
@@ -118,8 +110,10 @@ pub fn begin(report: Report, drawn: Drawn, request: Request, room: usize) -> Run
 
 // A fresh week that is refused: the state holds nothing.
 pub fn note_refused_fresh(report: Report, drawn: Drawn, request: Request, room: usize) -> Report {
-    let number = question_fault(drawn.network.header, request, room);
+    let fault = question_fault(drawn.network.header, request, room);
     let nothing = numbered([0; 16], 0);
-    let agrees = fresh_agrees(drawn.image, request, room, nothing, refusal(number, 0));
+    let agrees = fault.is_some_and(|number| {
+        fresh_agrees(drawn.image, request, room, nothing, refusal(number, 0))
+    });
     report.note(Call::Fresh, agrees)
 }

@@ -2,7 +2,7 @@
 use super::held::Asked;
 use super::left::left_bests;
 use super::map::{is_closed, turned};
-use test_calls::rank_calls::{Request, less};
+use test_calls::rank_calls::Request;
 use test_calls::robust_calls::needed_route_rooms;
 use test_fixtures::plain_image::{Header, Network};
 use test_fixtures::report::Call;
@@ -12,48 +12,47 @@ fn is_outside(number: u32, last: u32) -> bool {
     number < 1 || last < number
 }
 
-// The number of Robust's refusal on an accepted image, 0 if there is none up to 13.
-pub fn question_fault(header: Header, request: Request, room: usize) -> u32 {
+// The number of Robust's refusal on an accepted image, if there is one up to 13.
+pub fn question_fault(header: Header, request: Request, room: usize) -> Option<u32> {
     if is_outside(request.start, header.n) || is_outside(request.goal, header.n) {
-        return 10;
+        return Some(10);
     }
     if request.start == request.goal {
-        return 10;
+        return Some(10);
     }
     if is_outside(request.column, header.k) {
-        return 11;
+        return Some(11);
     }
     if is_outside(request.wanted, 256) {
-        return 12;
+        return Some(12);
     }
     if room < needed_route_rooms(header.n, request.wanted).work {
-        return 13;
+        return Some(13);
     }
-    0
+    None
 }
 
 // The number of an event's refusal: also 20, if there is no such arc.
-pub fn event_fault(network: Network, asked: Asked) -> u32 {
-    let number = question_fault(network.header, asked.request, asked.room);
-    if number == 0 && network.arc_count() <= asked.arc {
-        return 20;
+pub fn event_fault(network: Network, asked: Asked) -> Option<u32> {
+    let fault = question_fault(network.header, asked.request, asked.room);
+    if fault.is_none() && network.arc_count() <= asked.arc {
+        return Some(20);
     }
-    number
+    fault
 }
 
 // Whether a list has these two nodes one behind the other, among the first `count`.
-fn goes_by(nodes: &[u16], count: u32, tail: u16, head: u16) -> bool {
-    let mut pairs = nodes.windows(2).take(less(count as usize));
-    pairs.any(|pair| pair == [tail, head].as_slice())
+fn goes_by(nodes: &[u16], count: u32, arc: [u16; 2]) -> bool {
+    let mut pairs = nodes.windows(2).take((count as usize).saturating_sub(1));
+    pairs.any(|pair| pair == arc.as_slice())
 }
 
 // Whether a state's route, which has 200 places, goes by an arc.
 fn is_touched(arcs: &[u16], arc: usize, week: Week) -> bool {
-    let route = week.route;
-    if arcs.len() / 2 <= arc {
-        return false;
+    match arcs.as_chunks::<2>().0.get(arc) {
+        Some(ends) => goes_by(&week.route, week.length, *ends),
+        None => false,
     }
-    goes_by(&route, week.length, arcs[2 * arc], arcs[2 * arc + 1])
 }
 
 // Whether the answer stands when an arc is closed: it is settled, its route is not touched, and no column's best
@@ -67,13 +66,13 @@ fn stands(network: Network, asked: Asked, week: Week) -> bool {
     let words = week.closed;
     let before = left_bests(network, request, words);
     let after = left_bests(network, request, turned(words, arc));
-    let mut pairs = before.iter().zip(&after).take(network.header.k as usize);
-    pairs.all(|(a, b)| a == b)
+    let k = network.header.k as usize;
+    before.get(..k) == after.get(..k)
 }
 
 // What an event comes to, as the report's line for it.
 pub fn verdict(network: Network, asked: Asked, week: Week) -> Call {
-    if event_fault(network, asked) != 0 {
+    if event_fault(network, asked).is_some() {
         return Call::Refused;
     }
     let words = week.closed;
