@@ -32,7 +32,8 @@ pub fn settled(length: u32, figure: u32, worst: u32, count: u32) -> Answer {
     Ok([length, figure, worst, count, 0, 0])
 }
 
-// Robust's result where it is open: the same, a mark and the floor.
+// Robust's result where it is open: the same, a 1 and the floor. The 1 tells a floor of 0 from none, as the values are
+// numbers.
 pub fn left_open(length: u32, figure: u32, worst: u32, count: u32, floor: u32) -> Answer {
     Ok([length, figure, worst, count, 1, floor])
 }

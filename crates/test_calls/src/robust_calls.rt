@@ -67,7 +67,7 @@ pub fn robust_agrees(
     }
 }
 
-// Robust with slices of which one is a place too short.
+// Robust with slices of which one is a place too short. Rank has the like for other slices.
 pub fn note_short_robusts(
     mut report: Report,
     image: &[u8],

@@ -1,5 +1,5 @@
 // Networks of edition 2, in which an arc may be closed in a column: all calls of the path layer.
-use super::path_cases::{list_refused, regret_is};
+use super::path_cases::{UNREACHED, list_refused, regret_is};
 use super::rank_cases::ranked;
 use super::robust_cases::chosen;
 use super::{path_cases, rank_cases, robust_cases};
@@ -10,9 +10,6 @@ use test_calls::rank_calls::Request;
 use test_calls::robust_calls::note_robust;
 use test_fixtures::case_images::{apart, cut_off, detour, ferry, second_s};
 use test_fixtures::report::Report;
-
-// The label of a node that cannot reach the goal.
-const UNREACHED: u32 = 4294967295;
 
 // Network S with no arc closed: all answers are those of edition 1.
 fn open_everywhere() -> Report {

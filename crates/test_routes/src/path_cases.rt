@@ -1,13 +1,14 @@
 // The cases of Label, Shortest and Regret (REFERENCE, section 8): network S, the network of zero costs,
 // the network without arcs and the line of 200 nodes.
 use super::cases;
-use std::io;
+use std::{array, io};
 use test_calls::answers::{pair, refusal};
 use test_calls::path_calls::{note_label, note_shortest, regret_agrees, shortest_agrees};
+use test_fixtures::numbers::count;
 use test_fixtures::report::{Call, Report};
 
 // The label of a node that cannot reach the goal.
-const UNREACHED: u32 = 4294967295;
+pub const UNREACHED: u32 = 4294967295;
 
 // Regret of a path gives this figure and worst column.
 pub fn regret_is(
@@ -107,11 +108,7 @@ fn note_no_arcs(mut report: Report, image: &[u8]) -> Report {
 
 // The labels of the line's nodes to the last of 200.
 fn line_labels() -> [u32; 200] {
-    let mut labels = [0u32; 200];
-    for (i, label) in labels.iter_mut().enumerate() {
-        *label = 1000000 * (199 - i as u32);
-    }
-    labels
+    array::from_fn(|i| 1000000 * 199u32.saturating_sub(count(i)))
 }
 
 fn note_line(mut report: Report, image: &[u8], nodes: &[u16]) -> Report {

@@ -1,4 +1,5 @@
 // Node lists for Regret: paths, damaged paths and drawn nodes, held to the plain enumeration.
+use std::array;
 use test_calls::answers::{Answer, pair, refusal};
 use test_calls::path_calls::regret_agrees;
 use test_enumerate::{Costs, Path, Row};
@@ -64,10 +65,7 @@ fn drawn_node(n: u32, number: u32) -> u16 {
 
 // A row of nodes from 0 to n + 1, by the numbers from an index on, with the start in front.
 fn drawn_row(n: u32, start: u32, numbers: &[u32], from: u32) -> Row {
-    let mut row = [0u16; 8];
-    for (i, place) in row.iter_mut().enumerate() {
-        *place = drawn_node(n, number_at(numbers, from as usize + i));
-    }
+    let mut row: Row = array::from_fn(|i| drawn_node(n, number_at(numbers, from as usize + i % 8)));
     row[0] = node(start);
     row
 }
@@ -78,7 +76,8 @@ fn changed_row(mut row: Row, place: usize, other: u16) -> Row {
     row
 }
 
-// The list of a row's first `length` nodes.
+// The list of a row's first `length` nodes. The row is an array, as the plain enumeration has paths; an ArrayVec of the
+// list would be made of it and be made a row again.
 #[derive(Clone, Copy)]
 struct List {
     row: Row,

@@ -18,7 +18,7 @@ fn node_at(n: usize, paths: &[Path], at: usize) -> u16 {
     }
 }
 
-// Fills a list with the rows that Rank writes.
+// Fills a list with the rows that Rank writes: as many as Rank gives, so the list is lent and no array.
 fn expect_rows(n: usize, paths: &[Path], rows: &mut [u16]) {
     for (at, node) in rows.iter_mut().enumerate() {
         *node = node_at(n, paths, at);

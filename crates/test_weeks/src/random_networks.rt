@@ -4,8 +4,8 @@ use super::drawing::Drawn;
 use super::made_states::note_made_states;
 use super::random_weeks::note_week;
 use arrayvec::ArrayVec;
-use std::io;
-use test_fixtures::networks::{SmallNetwork, draw_network};
+use std::{array, io};
+use test_fixtures::networks::{SmallNetwork, draw_network, number_at};
 use test_fixtures::random::note_networks;
 use test_fixtures::report::Report;
 
@@ -37,10 +37,12 @@ where
         |report, small, numbers| {
             let network = small.lent();
             let image: ArrayVec<u8, 2040> = network.image();
+            // What Drawn refers to is all made here, and so lives equally long.
+            let numbers: [u32; 620] = array::from_fn(|i| number_at(numbers, i));
             let drawn = Drawn {
                 network,
                 image: image.as_slice(),
-                numbers,
+                numbers: &numbers,
             };
             note(report, drawn)
         },
