@@ -22,9 +22,9 @@ use std::io;
 use test_fixtures::report::Report;
 
 // What `note` comes to after each row of a table.
-fn note_rows<const N: usize, Note>(rows: &[[u32; N]], note: Note) -> Report
+fn note_rows<Row: Copy, Note>(rows: &[Row], note: Note) -> Report
 where
-    Note: Fn(Report, [u32; N]) -> Report,
+    Note: Fn(Report, Row) -> Report,
     requires note_is_callable { Note.IsAlwaysCallable note }
 {
     let mut report = Report::new();
