@@ -129,7 +129,10 @@ fn note_made(report: Report, drawn: Drawn, request: Request, at: usize, kind: Ma
         numbers,
         ..
     } = drawn;
-    let words = drawn_map(network.arc_count(), number_at(numbers, at + 40));
+    let words = drawn_map(
+        network.arc_count(),
+        number_at(numbers, count(at) as usize + 40),
+    );
     let asked = drawn.event(request, number_at(numbers, at));
     let week = left_week(network, request, words);
     let number = number_at(numbers, 525);

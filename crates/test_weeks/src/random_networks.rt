@@ -23,34 +23,44 @@ fn draw_denser(numbers: &[u32], i: u32) -> SmallNetwork {
     draw_network(1 + i % 2, &denser)
 }
 
-// What `note` comes to after so many networks, of the editions 1 and 2 in turn.
-fn networks<Note>(note: Note, count: u32) -> Report
-where
-    Note: Fn(Report, Drawn<'_>) -> Report,
-    requires note_is_callable { Note.IsAlwaysCallable note }
-{
+// What is made of a network: an enum, as a closure that hands on to another is not known to be callable.
+#[derive(Clone, Copy)]
+enum Kind {
+    Week,
+    AllRoads,
+    MadeStates,
+}
+
+fn note_kind(kind: Kind, report: Report, small: SmallNetwork, numbers: &[u32]) -> Report {
+    let network = small.lent();
+    let image: ArrayVec<u8, 2040> = network.image();
+    // What Drawn refers to is all made here, and so lives equally long.
+    let numbers: [u32; 620] = array::from_fn(|i| number_at(numbers, i));
+    let drawn = Drawn {
+        network,
+        image: image.as_slice(),
+        numbers: &numbers,
+    };
+    match kind {
+        Kind::Week => note_week(report, drawn),
+        Kind::AllRoads => note_all_roads(report, drawn),
+        Kind::MadeStates => note_made_states(report, drawn),
+    }
+}
+
+// So many networks, of the editions 1 and 2 in turn.
+fn networks(kind: Kind, count: u32) -> Report {
     note_networks(
         1,
         &mut [0; 620],
         count,
         draw_denser,
-        |report, small, numbers| {
-            let network = small.lent();
-            let image: ArrayVec<u8, 2040> = network.image();
-            // What Drawn refers to is all made here, and so lives equally long.
-            let numbers: [u32; 620] = array::from_fn(|i| number_at(numbers, i));
-            let drawn = Drawn {
-                network,
-                image: image.as_slice(),
-                numbers: &numbers,
-            };
-            note(report, drawn)
-        },
+        |report, small, numbers| note_kind(kind, report, small, numbers),
     )
 }
 
 pub fn run(rt: &impl Print) -> io::Result<()> {
-    networks(note_week, 2400).print(rt, "random weeks")?;
-    networks(note_all_roads, 240).print(rt, "all roads closed and reopened")?;
-    networks(note_made_states, 2000).print(rt, "states made otherwise")
+    networks(Kind::Week, 2400).print(rt, "random weeks")?;
+    networks(Kind::AllRoads, 240).print(rt, "all roads closed and reopened")?;
+    networks(Kind::MadeStates, 2000).print(rt, "states made otherwise")
 }
