@@ -14,7 +14,8 @@ use image::check::check;
 use loading::{Network, number_arcs, read_arcs};
 use star::{Sought, find_arc};
 
-// What Find gives: the arc's index, if there is one, and at how many records it looked.
+// What Find gives: the arc's index, if there is one, and at how many records it looked. It is star's `Sought` in the 32
+// bits of C, made in one place alone.
 #[derive(Clone, Copy, Debug, PartialEq, Eq)]
 pub struct Found {
     pub index: Option<u32>,

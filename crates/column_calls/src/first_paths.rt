@@ -1,5 +1,5 @@
 // The first paths of the ranking order in one column of an accepted image. What the three lent slices have room
-// for is asked of each function, here and in rank.rt: a struct over lent `&mut` slices would be taken apart again
+// for is asked of each function: a struct over lent `&mut` slices would be taken apart again
 // before they are written.
 // Arrays have room for the largest network: the library allocates nothing, its memory is fixed.
 ghost use Rattle.std.specs.Prelude.{◌≡◌, [], ◌∷◌, map, ◌<◌, length, take, replicate};

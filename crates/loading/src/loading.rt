@@ -3,7 +3,8 @@
 // image stands a map of closed arcs, which may be empty.
 // That the column and the goal are of the image and that the lent slices have room is asked of each function: a
 // goal comes without a start (Label has none), and a struct over lent `&mut` slices would be taken apart again
-// before the star is cut to its arcs and read as a graph.
+// before the star is cut to its arcs and read as a graph. That the indices read rise and are the image's (`Indices`) is
+// asked of each reader as well: the slice that has them is still written while arcs are selected.
 // Arrays have room for the largest network: the library allocates nothing, its memory is fixed.
 ghost use Rattle.std.specs.Prelude.{◌≡◌, [], ◌+◌, ◌*◌, ◌≤◌, ◌<◌, length, take};
 ghost use Rattle.closures.specs.Map.{without};

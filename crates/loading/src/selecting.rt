@@ -52,7 +52,8 @@ fn select_left(closed: &[u64], kept: &mut [u16]) -> usize
     number_left(closed, kept)
 }
 
-// Of these indices those whose cost is not the mark, moved to the front. Returns how many.
+// Of these indices those whose cost is not the mark, moved to the front. Returns how many. m stands beside the bytes,
+// here and in reading.rt, since the contracts speak of the first m costs (`decode 4 m`).
 fn drop_marked(costs: &[u8], m: usize, kept: &mut [u16]) -> usize
     requires costs_long { 4 * m ≤ length costs.now }
     requires few_costs { m ≤ 1000 }

@@ -4,7 +4,8 @@
 // them in structs of their own, and would make another one only to hand them on.
 // So does that the columns are those of the arcs open in every column (`common`), and that `bests` has a place for each
 // (`bests_long`): the columns are measuring's and shared, the bests are lent to be written, and a struct of both would
-// be taken apart again before each call of measuring.
+// be taken apart again before each call of measuring. Column, start, goal and K go on as the four numbers that C hands
+// down: one call asks with them, and a week's `Question` is the week's own.
 #![tactic(auto)]
 
 mod chosen;

@@ -20,7 +20,8 @@ use labels::FAR;
 use loading::Network;
 use measuring::{Columns, measure};
 
-// A path's greatest regret, and the lowest-numbered column that has it.
+// A path's greatest regret, and the lowest-numbered column that has it: measuring's, in the 32 bits of C. It is made in
+// one place, where the figure is known to fit; a `From` could not ask that.
 #[derive(Clone, Copy, Debug, PartialEq, Eq)]
 pub struct Measure {
     pub figure: u32,

@@ -18,6 +18,7 @@ fn first_error(graph: &Graph<'_>, nodes: &[u16]) -> Option<usize>
 {
     let heads = graph.heads();
     let first_out = graph.first_out();
+    // by place: the place is the answer, and the nodes before it are searched
     for at in 1..nodes.len() {
         let found = arc_between(heads, first_out, nodes[at - 1] as usize, nodes[at]);
         if found.is_none() {
@@ -35,10 +36,7 @@ pub fn check_list(graph: &Graph<'_>, start: u32, goal: u32, nodes: &[u16]) -> Re
     requires { Node graph.now.nodes start }
     ensures { verdict result ≡ list_row (fault (arcs_of graph.now) start goal nodes.now) }
 {
-    if nodes.len() == 0 {
-        return Err(Refusal::NotAPath(0));
-    }
-    if nodes[0] as u32 != start {
+    if nodes.len() == 0 || u32::from(nodes[0]) != start {
         return Err(Refusal::NotAPath(0));
     }
     if let Some(at) = first_error(graph, nodes) {

@@ -25,8 +25,8 @@ pub fn write_narrow(exact: &[u64], labels: &mut [u32])
     }
 }
 
-// Writes the first `count` nodes of a route. The number stands beside the route, since each of the three calls
-// holds it so, and would cut the same part.
+// Writes the first `count` nodes of a route. The number stands beside the route, as it does in the
+// arrays of 200 places that hold one.
 pub fn write_path(route: &[u16], count: usize, path: &mut [u16])
     requires { (count ≤ length route.now) × (count ≤ length path.old) }
     ensures { path.new ≡ take count route.now ++ drop count path.old }

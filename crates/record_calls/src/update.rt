@@ -78,7 +78,8 @@ fn write_records(image: &mut [u8], sizes: Sizes, records: &[u32])
 }
 
 // The image's own rows, and among them row 4 for the length of the list, which is due only if no row up to 4 of
-// the image is. Refusals are compared by their rows' numbers: by their own order their places would count too.
+// the image is. Which rows these are is said by their numbers, as in `both_fault` and in the table. A
+// record stays four numbers in a row, since C lends the list so.
 fn check_both(image: &[u8], records: &[u32]) -> Result<Sizes, Refusal>
     ensures answer { answer size_list result ≡ outcome (both_fault image.now records.now) (sizes image.now) }
     ensures bytes { AllBytes image.now }

@@ -24,8 +24,7 @@ fn label_columns(network: &Network<'_>, goal: usize, labels: &mut [u64])
     let places = network.sizes.n as usize + 1;
     let star = &mut star_room[..3 * arcs + places + 1 + places];
     let weights = &mut weight_room[..arcs];
-    // by number and no chunks: the column that is read is counted from 1 in 32 bits, and the rows are lent as the law of
-    // `LabelRows` has them, from place u * places
+    // by number: of what is written through `chunks_exact_mut` a proof knows the length alone
     for u in 0..network.sizes.k {
         let from = u as usize * places;
         let to = from + places;

@@ -34,7 +34,7 @@ fn touched(network: &Network<'_>, arc: usize, route: &[u16]) -> bool
     requires { arc < network.now.sizes.m }
     ensures { result ≡ standing.touches (get_or (net network.now).arcs arc (0, 0)) route.now }
 {
-    // one arc by its place, where loading reads all of them in a loop over the bytes
+    // the one arc that is read by itself: loading reads at the indices of a slice, and would want one made for it
     let tail = u16::read(network.image, 24 + 4 * arc);
     let head = u16::read(network.image, 26 + 4 * arc);
     touches(tail, head, route)

@@ -6,8 +6,8 @@ ghost use Rattle.week_calls.specs.Weeks.{no_week};
 use image::Refusal;
 
 // The state beside an image: the map of closed arcs, and the current answer with its route. `state` is 1 if the
-// answer is settled, 2 if it is open, and 15 if there is no path. What an answer has not got is 0. It is a number, and
-// `floor` stands beside it, since C has the state by value and may hand in any.
+// answer is settled, 2 if it is open, and 15 if there is no path. What an answer has not got is 0. It is a number with
+// `floor` beside it, as `length` is beside `route`, since C has the state by value and may hand in any.
 #[repr(C)]
 #[derive(Clone, Copy, PartialEq, Eq)]
 pub struct Week {
