@@ -142,7 +142,7 @@ pub fn along(
     exact_path(graph, goal, used, barred, path, d)
 }
 
-// Whether l is above the most that is wanted, if that is a limit at all: LONGEST is none, since all paths cost less.
+// Whether l is above the most that is wanted, if that is a limit at all: LONGEST is none, since no path costs more.
 // As an Option the limit would be matched here, at the `min` that makes it (ranking) and where labels are sharpened.
 fn is_dear(l: u64, most: u64) -> bool
     ensures { result ≡ true → (most < l) × (most < longest) }
@@ -193,7 +193,8 @@ fn sharp_path(
 
 // The first path of the branch of path[..d], whose next node is not barred, if its tail costs `most` at
 // the most. The step is its least exit by the labels `overall`, which may be those of the whole network:
-// the walk along these arrives mostly, and the branch is searched by labels of its own where it does not.
+// the walk along these arrives mostly, and the branch is searched by labels of its own where it does not. It is
+// `along` but for the call that it ends with: as a closure that call would need a contract as long as either has.
 pub fn first_path(
     graph: &Graph<'_>,
     goal: usize,

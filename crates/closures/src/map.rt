@@ -46,6 +46,7 @@ pub fn closed_roads(words: &[u64], m: usize) -> u32
     requires { m ≤ 1024 }
     ensures { (result ≡ closed_roads words.now m) × (result ≤ m) }
 {
+    // counted down beside the words: by their index each word's first bit would have to be multiplied out again
     let mut count = 0;
     let mut left = m;
     for &word in words {

@@ -1,6 +1,7 @@
 // A network in arrays: its arcs, and what its columns say of one arc, and of a completed path.
 // That sums are low is asked of each function, and stands in no type: how low goes by the depth of the route, which
-// `lengthen` raises by one (Low d gives Low (d + 1)), so a type of low sums would have the depth beside them.
+// `lengthen` raises by one (Low d gives Low (d + 1)); three functions ask for it, and a type of sums with their depth would
+// be made anew with each arc that is tried, where the same has to be shown.
 ghost use Rattle.std.specs.Prelude.{◌≡◌, map, ◌-◌, ◌≤◌, ◌<◌, length, get_or};
 ghost use Rattle.terms.specs.Lists.{largest, numbers};
 ghost use Rattle.labels.specs.Labels.{far};
@@ -71,6 +72,7 @@ impl Columns<'_> {
     pub fn figure_of(&self, sums: &[u64; 8]) -> u64
         ensures { result ≡ largest (map (λ u. get_or sums.now (u - 1) 0 - get_or self.now.bests.now (u - 1) 0) (numbers 1 (length self.now.bests.now))) }
     {
+        // folded: the greatest of a chain would be an Option, and 0 is its least value here
         let mut figure: u64 = 0;
         for (&sum, &best) in sums.iter().zip(self.bests) {
             figure = figure.max(sum.saturating_sub(best));

@@ -61,7 +61,7 @@ fn check_arc(n: u32, last: (u32, u32), index: u32, arc: (u32, u32)) -> Result<()
 }
 
 // Rows 6 to 8, over `count` arcs, each of which `arc` gives. Check has them in bytes and Build in a list of nodes, so
-// both are asked for arc i, as for cost i below: an iterator is no plainer, since its contract speaks of a run and of
+// both are asked for arc i, as for cost i below (no arc before the first is (0, 0), which is below each, as in the contract): an iterator is no plainer, since its contract speaks of a run and of
 // what is left of it, where here one clause says what stands at i.
 pub fn check_arcs<F: Fn(usize) -> (u32, u32)>(n: u32, count: usize, arc: F) -> Result<(), Refusal>
     requires small { count ≤ 1000 }

@@ -1,7 +1,7 @@
 // The search: it takes nodes outwards from the end of a branch's beginning, and says how far it went. That
-// the lent slices and the front have a place for each node is asked of each function: the front changes in
-// the loops, so that a struct over them would be taken apart before each, and `barred` is `used` from the
-// second node on.
+// the lent slices and the front have a place for each node is asked of each function: a struct of graph, labels and
+// used would be made for four functions, and taken apart again in each for `via_below` and `tight_exit`, which are
+// asked the same slice by slice; and `barred` is `used` from the second node on.
 ghost use Rattle.std.specs.Prelude.{◌≡◌, ◌+◌, ◌≤◌, ◌<◌, length, IfSome};
 ghost use Rattle.exits.specs.Small.{Small, longest};
 ghost use Rattle.sharpening.specs.Sharp.{Same};

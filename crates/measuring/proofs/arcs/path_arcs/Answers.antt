@@ -22,17 +22,16 @@ loop-i-init c =
       found = record { step = λ j h. absurd (omega (arith, none)) };
     }
 
-pub arc_between-requires : goal.arc_between-requires
+pub arc-requires : goal.arc-requires
 unfolding graph_of
-arc_between-requires c =
+arc-requires c =
     let g = c.args.graph.now in
     let s = c.in-Some.ensures.steps in
     let two = c.loop-i.invariant.pairs in
     let k = c.loop-i.i-iterator.count in
     let pair = pair_at c.args.path.now k c.loop-i.invariant.left (omega (arith, s.0.1.0, two)) (rw two at s.0.1.1) in
     let node = (tail_within g.holds.arcs _ _ (arcs_linked k c.requires.by_arcs pair.0)).1 in
-    let within = g.holds.star.within (get_or c.args.path.now k 0 + 1) (omega (arith, node)) in
-    rw (pair.1, c.heads-heads.ensures.of_graph, c.first_out-first_out.ensures.of_graph) (omega (arith, node, g.holds.star.long), omega (arith, within, g.holds.arcs.heads_long))
+    rw pair.1 node
 
 pub loop-i-preserved : goal.loop-i-preserved
 unfolding graph_of
@@ -43,7 +42,7 @@ loop-i-preserved c =
     let k = c.loop-i.i-iterator.count in
     let pair = pair_at c.args.path.now k c.loop-i.invariant.left (omega (arith, s.0.1.0, two)) (rw two at s.0.1.1) in
     let linked = arcs_linked k c.requires.by_arcs pair.0 in
-    let found = rw (pair.1, pair.2, c.heads-heads.ensures.of_graph, c.first_out-first_out.ensures.of_graph) at c.arc_between.ensures in
+    let found = rw (pair.1, pair.2) at c.arc.ensures in
     record {
       pairs = s.0.0 ∙ two;
       left = rw s.2 (s.0.1.2 ∙ ap (drop 1) c.loop-i.invariant.left ∙ drop-drop 1 k c.args.path.now);
