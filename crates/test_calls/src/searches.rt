@@ -64,7 +64,8 @@ fn within(quest: Quest, limit: u32) -> Quest {
     Quest { limit, ..quest }
 }
 
-// What Search finds: a path's figure and worst column.
+// What Search finds: a path's figure and worst column. The enumeration has 64 bits of both: it is written apart from what
+// it is held to.
 #[derive(Clone, Copy)]
 pub struct Choice {
     pub figure: u32,

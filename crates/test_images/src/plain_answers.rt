@@ -141,6 +141,7 @@ fn check_with(image: &[u8], nodes: &mut [u16], costs: &mut [u32]) -> Answer {
     let node_count = 2 * (m as usize);
     let cost_count = product(m, header.k) as usize;
     if nodes.len() < node_count || costs.len() < cost_count {
+        // no call gives this answer: the lists made for the comparison are too short
         return refusal(0, 0);
     }
     decode_nodes(image, &mut nodes[..node_count]);

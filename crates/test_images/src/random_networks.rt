@@ -34,7 +34,7 @@ fn note_lists(report: Report, network: Network) -> Report {
 }
 
 // A number at a limit: 999,998 to 1,000,002 in edition 1, and in edition 2 also the mark and the number
-// below it.
+// below it. The edition is a number here, as in Header.
 fn limit_cost(edition: u32, number: u32) -> u32 {
     if edition == 1 {
         return 999998 + number % 5;

@@ -10,7 +10,7 @@ use test_fixtures::plain_image::Network;
 use test_fixtures::random::note_networks;
 use test_fixtures::report::{Call, Report};
 
-// The mark in edition 2, else 0.
+// The mark in edition 2, else 0. The edition is a number here, as in Header.
 fn mark_in(edition: u32) -> u32 {
     if edition == 2 { 4294967295 } else { 0 }
 }

@@ -44,7 +44,8 @@ fn event_into(
     same_weekly(given, expected, answer) && is_filled(work, work_after(answer))
 }
 
-// Whether Event gives the state and the answer, with a workspace made for it.
+// Whether Event gives the state and the answer, with a workspace made for it. Fresh has the same below: a closure for the
+// call would take the workspace and give what is compared, and leave one line of each here.
 pub fn event_agrees(
     image: &[u8],
     asked: Asked,
