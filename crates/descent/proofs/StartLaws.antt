@@ -1,8 +1,8 @@
 -- The start of the search, with one node on the route, and its outcome. Assumes nothing.
-use Prim.Native.Nat.{ℕ, ◌+◌, ◌-◌, ◌<◌}
+use Prim.Native.Nat.{ℕ, ◌+◌, ◌-◌, ◌≤◌, ◌<◌}
 use native.Mathlib.Omega.{arith}
 use mathlib.Core.Path.{◌≡◌, refl}
-use mathlib.Core.Bool.{Bool, true, not}
+use mathlib.Core.Bool.{Bool, true, false, not}
 use mathlib.Core.List.{List, [], ◌∷◌}
 use Rattle.std.specs.Prelude.{Result}
 use lib.ListN.{length, get_or, set, take, replicate, length-set}
@@ -21,6 +21,7 @@ use Rattle.descent.specs.Tables.{Tables}
 use Rattle.descent.specs.Depth.{trail, Begun, none_held, Ends, goes, stopped, Given, Fresh, Outcome, whole, too_many}
 use Rattle.descent.specs.declared.depth.Held.{Held}
 use Rattle.descent.specs.declared.depth.Cut.{Cut}
+use Rattle.star.proofs.Stores.{flags_long, flags_clear}
 use Rattle.descent.proofs.StepLaws.{trail_more, flag_more}
 
 -- nothing is held yet
@@ -65,3 +66,8 @@ outcome_is {limit} {net} {s} {t} {places} {path} {r} n x =
 -- no arc yet: eight sums of 0
 pub zeros_low : Low 1 (take 8 (replicate 8 0))
 zeros_low = record { long = refl; low = λ u. omega (arith, part_zero 8 8 u) }
+
+-- a route and flags as the arrays are made
+pub fresh_room : {places start : ℕ} {path : List ℕ} → places ≤ 201 → 1 ≤ start → start < places → places ≤ length path + 1 → Fresh places start (replicate 200 0) (take places (replicate 201 false)) path
+fresh_room {places} few from inside long =
+    record { start_from = from; start_in = inside; route_long = omega (arith, few); path_long = long; used_long = flags_long 201 places few; none_used = flags_clear 201 places }

@@ -141,17 +141,14 @@ fn descend(
     Ok(now)
 }
 
-// The same from the start, with room for the route and the flags, in which no node is flagged yet.
-fn search_in(
-    columns: &Columns<'_>,
-    task: Task,
-    route: &mut [u16],
-    used: &mut [bool],
-    path: &mut [u16],
-) -> Result<Held, Cut>
-    requires { Fresh columns.now.places task.start route.old used.old path.old }
+// Writes the first in node order of all paths with the least figure into path.
+pub fn search(columns: &Columns<'_>, task: Task, path: &mut [u16]) -> Result<Held, Cut>
+    requires { (1 ≤ task.start) × (task.start < columns.now.places) × (columns.now.places ≤ length path.old + 1) }
     ensures { (net : Net) → Say net task.start task.goal columns.now → Outcome task.limit net task.start task.goal path.new result }
 {
+    let mut route = [0u16; 200];
+    let mut flags = [false; 201];
+    let used = &mut flags[..columns.places];
     let v = usize::from(task.start);
     route[0] = task.start;
     used[v] = true;
@@ -164,15 +161,5 @@ fn search_in(
         figure: FAR,
         tried: 0,
     };
-    descend(columns, task, &first, v, none, route, used, path)
-}
-
-// Writes the first in node order of all paths with the least figure into path.
-pub fn search(columns: &Columns<'_>, task: Task, path: &mut [u16]) -> Result<Held, Cut>
-    requires { (1 ≤ task.start) × (task.start < columns.now.places) × (columns.now.places ≤ length path.old + 1) }
-    ensures { (net : Net) → Say net task.start task.goal columns.now → Outcome task.limit net task.start task.goal path.new result }
-{
-    let mut route = [0u16; 200];
-    let mut used = [false; 201];
-    search_in(columns, task, &mut route, &mut used[..columns.places], path)
+    descend(columns, task, &first, v, none, &mut route, used, path)
 }
