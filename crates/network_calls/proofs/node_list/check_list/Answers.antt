@@ -10,9 +10,9 @@ use Rattle.network_calls.proofs.node_list.check_list.Goals as goal
 pub returns-then-nodes-eq0 : goal.returns-then-nodes-eq0
 unfolding list_row
 returns-then-nodes-eq0 c = elim c.then-nodes-eq0.branch [
-      then-nodes-eq0-via-then-nodes-eq0 w ↦ sym (ap list_row (no_nodes _ _ _ _ w.if-nodes-eq0.true))
-    | then-nodes-eq0-via-else-nodes-eq0+then-from-start w ↦ sym (ap list_row (wrong_first _ _ _ _ (λ e. w.if-from-start.true (w.from.ensures ∙ e))))
-    ]
+  | then-nodes-eq0-via-then-nodes-eq0 w ↦ sym (ap list_row (no_nodes _ _ _ _ w.if-nodes-eq0.true))
+  | then-nodes-eq0-via-else-nodes-eq0+then-from-start w ↦ sym (ap list_row (wrong_first _ _ _ _ (λ e. w.if-from-start.true (w.from.ensures ∙ e))))
+]
 
 pub first_error-requires : goal.first_error-requires
 first_error-requires c =
