@@ -199,6 +199,10 @@ closed_roads_le words m = omega (arith, keep_length (shut words) (numbers 0 m), 
 pub closed_roads_none : (words : List ℕ) (m : ℕ) → 0 ≡ closed_roads words (min m (64 * 0))
 closed_roads_none words m = let z : min m (64 * 0) ≡ 0 = omega arith in omega (arith, closed_roads_le words (min m (64 * 0)))
 
+-- up to a word that begins at bit m or behind it, all are counted
+pub closed_roads_all : (words : List ℕ) (m q : ℕ) → m ≤ 64 * q → closed_roads words (min m (64 * q)) ≡ closed_roads words m
+closed_roads_all words m q h = let z : min m (64 * q) ≡ m = omega arith in ap (closed_roads words) z
+
 -- up to the end of word q, whose ones below bit m - 64 * q count
 pub closed_roads_more : (words : List ℕ) (m q : ℕ) → closed_roads words (min m (64 * (q + 1))) ≡ closed_roads words (min m (64 * q)) + ones (get_or words q 0 % 2 ^ min (m - 64 * q) 64)
 unfolding ones
@@ -218,9 +222,9 @@ closed_roads_more words m q = ⊎_elim done more (le_or_lt m (64 * q))
         ap (closed_roads words) next ∙ closed_roads_word words q (min (m - 64 * q) 64) (omega arith) ∙ ap (λ k. closed_roads words k + ones (get_or words q 0 % 2 ^ min (m - 64 * q) 64)) (sym here)
 
 -- beyond the map's end nothing is counted
-pub closed_roads_all : (words : List ℕ) (m q : ℕ) → length words ≤ q → closed_roads words (min m (64 * q)) ≡ closed_roads words m
+pub closed_roads_short : (words : List ℕ) (m q : ℕ) → length words ≤ q → closed_roads words (min m (64 * q)) ≡ closed_roads words m
 unfolding closed_roads
-closed_roads_all words m q short = ⊎_elim (λ h. let z : min m (64 * q) ≡ m = omega arith in ap (closed_roads words) z) beyond (le_or_lt m (64 * q))
+closed_roads_short words m q short = ⊎_elim (closed_roads_all words m q) beyond (le_or_lt m (64 * q))
   where
     beyond : 64 * q < m → closed_roads words (min m (64 * q)) ≡ closed_roads words m
     beyond h =

@@ -50,6 +50,9 @@ pub fn closed_roads(words: &[u64], m: usize) -> u32
     let mut count = 0;
     let mut left = m;
     for &word in words {
+        if left == 0 {
+            return count;
+        }
         count += ones_below(word, left);
         left = left.saturating_sub(64);
     }

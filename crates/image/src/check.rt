@@ -4,7 +4,7 @@ ghost use Rattle.image.specs.Bytes.{field};
 ghost use Rattle.image.specs.Outcome.{outcome};
 ghost use Rattle.image.specs.Rows.{pairs, lists_fault};
 ghost use Rattle.image.specs.Layout.{fields_right, total, nodes_in, costs_in};
-ghost use Rattle.image.specs.Calls.{header_fault, sizes, check_outcome};
+ghost use Rattle.image.specs.Calls.{header_fault, taken_fault, sizes, check_outcome};
 ghost use Rattle.image.specs.Answers.{answer, size_list};
 
 use super::bytes::Word;
@@ -34,15 +34,15 @@ fn fields_right(image: &[u8], m: u32, k: u32) -> bool
         && u32::read(image, 20) == 0
 }
 
-// Rows 1 to 5, and the sizes if none of them applies.
-fn check_header(image: &[u8]) -> Result<Sizes, Refusal>
-    ensures { answer size_list result ≡ outcome (header_fault 2 image.now) (sizes image.now) }
+// Rows 1 to 5, for a call that takes the editions up to `latest`, and the sizes if none of them applies.
+fn check_header(image: &[u8], latest: u32) -> Result<Sizes, Refusal>
+    ensures { answer size_list result ≡ outcome (header_fault latest image.now) (sizes image.now) }
 {
     if image.len() < 24 {
         return Err(Refusal::ImageTooShort);
     }
     let edition = u32::from(u16::read(image, 0));
-    if !is_taken(2, edition) {
+    if !is_taken(latest, edition) {
         return Err(Refusal::WrongEdition);
     }
     let n = u32::from(u16::read(image, 2));
@@ -86,10 +86,17 @@ fn check_body(image: &[u8], sizes: Sizes) -> Result<Sizes, Refusal>
     Ok(sizes)
 }
 
+// The image's own rows, for a call that takes the editions up to `latest`.
+fn check_taken(image: &[u8], latest: u32) -> Result<Sizes, Refusal>
+    ensures { answer size_list result ≡ outcome (taken_fault latest image.now) (sizes image.now) }
+{
+    let sizes = check_header(image, latest)?;
+    check_body(image, sizes)
+}
+
 // REFERENCE, section 4.1. Every other call with an image checks it so, and takes the editions 1 and 2.
 pub fn check(image: &[u8]) -> Result<Sizes, Refusal>
     ensures { answer size_list result ≡ check_outcome image.now }
 {
-    let sizes = check_header(image)?;
-    check_body(image, sizes)
+    check_taken(image, 2)
 }
