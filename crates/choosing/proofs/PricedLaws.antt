@@ -95,3 +95,6 @@ module _ (x : Contest) where
 
   pub own_cost_to : (p : Route) → Path (graph_in x) x.query.start x.query.goal p → cost (graph_in x) p ≤ 199000000
   own_cost_to p q = subst (λ g. cost g p ≤ 199000000) (sym x.posed.arcs_are) (cost_to x.columns x.posed.in_column (in_own q))
+
+  pub figure_in_to : (p : Route) → Path (graph_in x) x.query.start x.query.goal p → figure_in x p ≤ 199000000
+  figure_in_to p q = figure_to x.columns x.bests.now p (column_one q)

@@ -4,7 +4,7 @@ ghost use Rattle.std.specs.Prelude.{◌≡◌, ◌<◌};
 ghost use Rattle.terms.specs.Paths.{Path};
 ghost use Rattle.candidates.specs.Views.{route_in};
 ghost use Rattle.choosing.specs.Contests.{graph_in};
-ghost use Rattle.choosing.specs.Counting.{Counting, Counted, Outlook};
+ghost use Rattle.choosing.specs.Counting.{CountingIn, CountedIn, OutlookIn};
 
 use crate::contest::Contest;
 use candidates::{Entries, Routes};
@@ -28,8 +28,8 @@ pub fn next_deviation(
     place: usize,
     leader: Leader,
 ) -> Option<u64>
-    requires { Counting contest.now work.now count place leader }
-    ensures { Outlook contest.now work.now count place leader.figure result }
+    requires { CountingIn contest.now work.now count place leader }
+    ensures { OutlookIn contest.now work.now count place leader.figure result }
 {
     if place < count {
         let entries = Entries {
@@ -51,7 +51,7 @@ pub fn next_deviation(
 pub fn count_path(contest: &Contest<'_>, ranked: &Routes<'_>, rank: usize, leader: Leader) -> Leader
     requires inside { rank < ranked.now.entries.count }
     requires is_path { Path (graph_in contest.now) contest.now.query.start contest.now.query.goal (route_in ranked.now.start ranked.now.entries rank) }
-    ensures { Counted contest.now (route_in ranked.now.start ranked.now.entries rank) rank leader result }
+    ensures { CountedIn contest.now (route_in ranked.now.start ranked.now.entries rank) rank leader result }
 {
     let len = ranked.length(rank);
     let mut room = [0u16; 200];

@@ -39,14 +39,11 @@ pub fn search(contest: &Contest<'_>, work: &mut [u32]) -> Finding
         figure: FAR - best,
         worst: 0,
     };
-    for j in 0..wanted {
-        if next_deviation(contest, work, count, j, leader).is_none() {
-            return Finding {
-                leader,
-                count: j,
-                floor: None,
-            };
-        }
+    let mut j = 0;
+    // the floor if the count ends here: none where the rule holds
+    let mut floor = next_deviation(contest, work, count, j, leader);
+    // no `for`: one test ends it, when as many as are wanted are counted or at the rule
+    while j < wanted && floor.is_some() {
         let entries = Entries {
             nodes: query.graph.nodes,
             work,
@@ -61,10 +58,12 @@ pub fn search(contest: &Contest<'_>, work: &mut [u32]) -> Finding
         // least figure
         let limit = (best + leader.figure).max(entries.cost(j) + 1);
         count = split(query, limit, work, count, j);
+        j += 1;
+        floor = next_deviation(contest, work, count, j, leader);
     }
     Finding {
         leader,
-        count: wanted,
-        floor: next_deviation(contest, work, count, wanted, leader),
+        count: j,
+        floor,
     }
 }
