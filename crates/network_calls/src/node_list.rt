@@ -18,7 +18,8 @@ fn first_error(graph: &Graph<'_>, nodes: &[u16]) -> Option<usize>
 {
     let heads = graph.heads();
     let first_out = graph.first_out();
-    // by place: the place is the answer, with which both loops are left
+    // by place: the place is the answer, with which both loops are left by label. The specification asks for this
+    // form (docs/THEOREMS.md)
     'search: {
         for at in 1..nodes.len() {
             let found = arc_between(heads, first_out, nodes[at - 1] as usize, nodes[at]);
