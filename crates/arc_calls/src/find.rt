@@ -43,7 +43,11 @@ pub fn find(image: &[u8], tail: u32, head: u32) -> Result<Found, Refusal>
     ensures result_value { answer found_list result ≡ find_outcome image.now tail head }
     ensures finds_arc { image_fault image.now ≡ sound → FindsArc (net_of image.now).arcs (tail, head) (find_of image.now tail head) }
 {
-    let sizes = check(image)?;
+    // `let .. else` and no `?`: the specification asks for this form (docs/THEOREMS.md)
+    let answer = check(image);
+    let Ok(sizes) = answer else {
+        return Err(answer.unwrap_err());
+    };
     let network = Network { image, sizes };
     let sought = seek_arc(&network, tail, head);
     Ok(Found {

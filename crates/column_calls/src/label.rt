@@ -17,7 +17,11 @@ use outcomes::{is_one_of, write_narrow};
 fn check_label(image: &[u8], column: u32, goal: u32, room: usize) -> Result<Sizes, Refusal>
     ensures { answer size_list result ≡ outcome (label_fault image.now column goal room) (sizes image.now) }
 {
-    let sizes = check(image)?;
+    // `let .. else` and no `?`: the specification asks for this form (docs/THEOREMS.md)
+    let answer = check(image);
+    let Ok(sizes) = answer else {
+        return answer;
+    };
     if !is_node(sizes.n, goal) {
         return Err(Refusal::WrongEnds);
     }

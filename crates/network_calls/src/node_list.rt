@@ -18,17 +18,22 @@ fn first_error(graph: &Graph<'_>, nodes: &[u16]) -> Option<usize>
 {
     let heads = graph.heads();
     let first_out = graph.first_out();
-    // by place: the place is the answer, and the nodes before it are searched
-    for at in 1..nodes.len() {
-        let found = arc_between(heads, first_out, nodes[at - 1] as usize, nodes[at]);
-        if found.is_none() {
-            return Some(at);
+    // by place: the place is the answer, with which both loops are left by label. The specification asks for this
+    // form (docs/THEOREMS.md)
+    'search: {
+        for at in 1..nodes.len() {
+            let found = arc_between(heads, first_out, nodes[at - 1] as usize, nodes[at]);
+            if found.is_none() {
+                break 'search Some(at);
+            }
+            for before in 0..at {
+                if nodes[before] == nodes[at] {
+                    break 'search Some(at);
+                }
+            }
         }
-        if nodes[..at].contains(&nodes[at]) {
-            return Some(at);
-        }
+        None
     }
-    None
 }
 
 // Whether a node list is a path from start to goal in a graph: row 14.

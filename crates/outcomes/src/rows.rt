@@ -29,7 +29,11 @@ fn are_ends(n: u32, start: u32, goal: u32) -> bool
 pub fn check_ends(image: &[u8], start: u32, goal: u32) -> Result<Sizes, Refusal>
     ensures { answer size_list result ≡ outcome (image_fault image.now then ends_row (net_of image.now) start goal) (sizes image.now) }
 {
-    let sizes = check(image)?;
+    // `let .. else` and no `?`: the specification asks for this form (docs/THEOREMS.md)
+    let answer = check(image);
+    let Ok(sizes) = answer else {
+        return answer;
+    };
     if !are_ends(sizes.n, start, goal) {
         return Err(Refusal::WrongEnds);
     }

@@ -16,7 +16,11 @@ pub fn unpack(image: &[u8], nodes: &mut [u16], costs: &mut [u32]) -> Result<Size
     ensures costs_after { costs.new ≡ after (unpack_fault image.now (length nodes.old) (length costs.old)) (cost_list image.now) costs.old }
     ensures writes_again { unpack_fault image.now (length nodes.old) (length costs.old) ≡ sound → WritesAgain image.now }
 {
-    let sizes = check(image)?;
+    // `let .. else` and no `?`: the specification asks for this form (docs/THEOREMS.md)
+    let answer = check(image);
+    let Ok(sizes) = answer else {
+        return answer;
+    };
     let m = sizes.m;
     let k = sizes.k;
     let nodes_needed = 2 * (m as usize);

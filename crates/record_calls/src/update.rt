@@ -84,11 +84,18 @@ fn check_both(image: &[u8], records: &[u32]) -> Result<Sizes, Refusal>
     ensures answer { answer size_list result ≡ outcome (both_fault image.now records.now) (sizes image.now) }
     ensures bytes { AllBytes image.now }
 {
-    match check(image) {
-        Err(refusal) if refusal.number() <= 4 => Err(refusal),
-        _ if records.len() % 4 != 0 => Err(Refusal::WrongField),
-        answer => answer,
+    let answer = check(image);
+    if records.len() % 4 == 0 {
+        return answer;
     }
+    // `let .. else`: the specification asks for this form (docs/THEOREMS.md)
+    let Err(refusal) = answer else {
+        return Err(Refusal::WrongField);
+    };
+    if refusal.number() <= 4 {
+        return answer;
+    }
+    Err(Refusal::WrongField)
 }
 
 // REFERENCE, section 4.10.

@@ -124,7 +124,7 @@ pub sheet_refused : (b : List ℕ) {number place : ℕ} → image_fault b ≡ fa
 unfolding sheet sheet_of program_fault robust_fault robust_rows ranking_rows search_rows ◌then◌
 sheet_refused b e = rw e
 
--- what is printed of a refusal that `?` hands on
+-- what is printed of an answer that is this refusal
 pub decided_refused : (r : Result Decision Refusal) (e : Refusal) (path : List ℕ) → IsErrAnd r (λ x. x ≡ e) → decided_text r path ≡ refused_line (number_of e) (place_of e)
 decided_refused (Ok x) e path h = absurd h
 decided_refused (Err x) e path h = ap (λ x. refused_line (number_of x) (place_of x)) h

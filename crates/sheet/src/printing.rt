@@ -57,7 +57,11 @@ fn decide(image: &[u8], path: &mut [u16], work: &mut [u32]) -> Result<Decision, 
     ensures printable { Printable path.new (nodes_of result) }
     ensures told { decided_text result path.new ≡ Sheet·sheet image.now }
 {
-    let sizes = check(image)?;
+    // `let .. else` and no `?`: the specification asks for this form (docs/THEOREMS.md)
+    let answer = check(image);
+    let Ok(sizes) = answer else {
+        return Err(answer.unwrap_err());
+    };
     robust(image, 1, 1, sizes.n, 48, path, work)
 }
 
