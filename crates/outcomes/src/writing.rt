@@ -26,11 +26,13 @@ pub fn write_narrow(exact: &[u64], labels: &mut [u32])
 }
 
 // Writes the first `count` nodes of a route. The number stands beside the route, as it does in the
-// arrays of 200 places that hold one.
+// arrays of 200 places that hold one. By place: of `copy_from_slice` the compiler makes a `memmove`, which the
+// archive for C would then need from outside.
 pub fn write_path(route: &[u16], count: usize, path: &mut [u16])
     requires { (count ≤ length route.now) × (count ≤ length path.old) }
     ensures { path.new ≡ take count route.now ++ drop count path.old }
 {
-    let nodes = &route[..count];
-    path[..nodes.len()].copy_from_slice(nodes);
+    for i in 0..count {
+        path[i] = route[i];
+    }
 }
