@@ -1,18 +1,18 @@
 -- The arcs of a path: where they are found, and that their sum in a column is the path's cost there. Assumes nothing.
-use Prim.Native.Nat.{ℕ, suc, ◌+◌, ◌-◌, ◌≤◌, ◌<◌}
+use Prim.Native.Nat.{ℕ, suc, ◌+◌, ◌-◌, ◌*◌, ◌≤◌, ◌<◌}
 use native.Mathlib.Omega.{arith}
 use native.Mathlib.Numerals.{add-one}
 use native.Mathlib.Nat.{eq-or-lt_of_le}
 use mathlib.Core.Path.{◌≡◌, refl, sym, ◌∙◌, ap, ap₂, subst}
 use mathlib.Core.Logic.{⊎_elim}
 use mathlib.Core.List.Memᴰ
-use mathlib.Core.List.{List, [], ◌∷◌}
+use mathlib.Core.List.{List, [], ◌∷◌, ◌++◌}
 use lib.Dec.{eqb}
 use Rattle.std.specs.Prelude.{Option, unwrap_or}
 use lib.ListN.{length, get_or, set, take, drop, length-drop}
 use lib.Seq.{drop-cons, get_or-take, get_or-drop}
 use Rattle.std.proofs.lemmas.List.Elements.{All-from_get_or}
-use Rattle.std.proofs.lemmas.List.Sums.{sum_by-cons}
+use Rattle.std.proofs.lemmas.List.Sums.{sum_by-cons, sum_by-le, sum_by_push}
 use Rattle.terms.specs.Lists.{largest, index}
 use Rattle.terms.specs.Network.{column}
 use Rattle.terms.specs.Paths.{cost, cost_from}
@@ -38,6 +38,14 @@ excess_within m costs bests arcs u lo hi = largest_ge (Memᴰ.map (excess m cost
 pub sum_more : (ws arcs : List ℕ) (i : ℕ) → i < length arcs → sum_of ws (drop i arcs) ≡ get_or ws (get_or arcs i 0) 0 + sum_of ws (drop (i + 1) arcs)
 unfolding sum_of
 sum_more ws arcs i h = rw (add-one, drop-cons arcs i 0 h) (sum_by-cons (λ a. get_or ws a 0) (get_or arcs i 0) (drop (suc i) arcs))
+
+-- the sum of what is left before an arc is taken from its end
+pub sum_last : (ws rest : List ℕ) (a : ℕ) {left : List ℕ} → left ≡ rest ++ (a ∷ []) → sum_of ws left ≡ sum_of ws rest + get_or ws a 0
+sum_last ws rest a split = ap (sum_of ws) split ∙ sum_by_push (λ i. get_or ws i 0) rest a
+
+-- weights of 32 bits
+pub sum_small : (ws arcs : List ℕ) → ((i : ℕ) → get_or ws i 0 ≤ 4294967295) → sum_of ws arcs ≤ length arcs * 4294967295
+sum_small ws arcs small = sum_by-le (λ a. get_or ws a 0) 4294967295 arcs (All-from_get_or (λ a. get_or ws a 0 ≤ 4294967295) arcs 0 (λ i h. small (get_or arcs i 0)))
 
 -- the sum of the arcs in column i + 1, less the column's best
 pub excess_is : (c : Columns) (bests arcs : List ℕ) (i : ℕ) {ws : List ℕ} {sum : ℕ} → ws ≡ costs_in c (i + 1) → sum ≡ sum_of ws arcs → sum - get_or bests i 0 ≡ excess c.arcs c.costs.now bests arcs (i + 1)

@@ -8,5 +8,9 @@ pub fn arc_sum(weights: &[u32], arcs: &[u16]) -> u64
     requires arcs_in { All (λ a. a < length weights.now) arcs.now }
     ensures { result ≡ sum_of weights.now arcs.now }
 {
-    arcs.iter().rev().map(|&i| weights[i as usize] as u64).sum()
+    let mut sum = 0;
+    for &arc in arcs.iter().rev() {
+        sum += u64::from(weights[arc as usize]);
+    }
+    sum
 }
