@@ -7,6 +7,11 @@ use Rattle.std.proofs.lemmas.List.Elements.{All-pop}
 use Rattle.measuring.proofs.StepLaws.{sum_last, sum_small}
 use Rattle.measuring.proofs.sums.arc_sum.Goals as goal
 
+pub bounds-weights-arc : goal.bounds-weights-arc
+bounds-weights-arc c =
+    let ws = c.args.weights.now in
+    (All-pop (λ a. a < length ws) _ _ (Some _) c.in-Some.ensures.steps c.loop-arc.invariant.0).1
+
 pub overflow_add-sum : goal.overflow_add-sum
 overflow_add-sum c =
     let ws = c.args.weights.now in
