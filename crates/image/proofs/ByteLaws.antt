@@ -9,8 +9,9 @@ use mathlib.Core.Path.{◌≡◌, refl, sym, ◌∙◌, ap, ap₂}
 use mathlib.Core.List.Memᴰ
 use mathlib.Core.List.{List, [], ◌∷◌, ◌++◌, map, append_assoc, append-nil}
 use mathlib.Core.Logic.{⊎_elim}
-use lib.ListN.{length, get_or, take, drop, set, length-append, length-drop, take-append-drop}
-use lib.Seq.{drop-cons, take-suc, take_at, take-add, take-length, drop_at, drop-drop, length-take-le, sets, sets-eq}
+use lib.ListN.{length, get_or, take, drop, length-append, length-drop, take-append-drop}
+use lib.Seq.{drop-cons, take-suc, take_at, take-add, take-length, drop_at, drop-drop, length-take-le}
+use borrow.Rule.Slice.PartMut.{put_mid, Post-is}
 use Rattle.std.proofs.lemmas.List.{map-id}
 use Rattle.terms.specs.Lists.{◌∈◌}
 use Rattle.terms.proofs.ListLaws.{take_mem, drop_mem}
@@ -33,9 +34,9 @@ field_4 b i h =
     let three : i + 2 + 1 ≡ i + 3 = omega arith in
     omega (arith, field_suc 3 b i (omega arith), field_suc 2 b (i + 1) (omega arith), ap (field 2 b) two, field_suc 1 b (i + 2) (omega arith), ap (field 1 b) three, field_suc 0 b (i + 3) (omega arith), field_none b (i + 3 + 1))
 
--- a run of stores is the list stored, between what stands before and after it
-stored : (vs l : List ℕ) (i : ℕ) → i + length vs ≤ length l → sets l i vs ≡ take i l ++ (vs ++ drop (i + length vs) l)
-stored vs l i h = sets-eq vs l i h ∙ append_assoc (take i l) vs (drop (i + length vs) l)
+-- bytes are written over a part
+pub put_bytes : (w i : ℕ) (l : List ℕ) {new bs : List ℕ} → new ≡ bs → put_mid i (i + w - i) l new ≡ take i l ++ (bs ++ drop (i + w) l)
+put_bytes w i l {bs = bs} e = ap₂ (λ (x y : List ℕ). take i l ++ (x ++ y)) e (Post-is i (i + w) l (omega arith))
 
 -- two bytes and four, each by a division of its own
 pub bytes_2 : (x : ℕ) → x % 256 ∷ x / 256 % 256 ∷ [] ≡ bytes 2 x
@@ -48,20 +49,6 @@ bytes_4 x =
     let third : x / 65536 ≡ x / 256 / 256 = omega arith in
     let fourth : x / 16777216 ≡ x / 256 / 256 / 256 = omega arith in
     ap₂ (λ (y z : ℕ). x % 256 ∷ x / 256 % 256 ∷ y % 256 ∷ z % 256 ∷ []) third fourth
-
--- each is stored byte by byte
-pub store_2 : (l : List ℕ) (i x : ℕ) {two : List ℕ} → two ≡ x % 256 ∷ x / 256 % 256 ∷ [] → i + 2 ≤ length l → set (set l i (get_or two 0 0)) (i + 1) (get_or two 1 0) ≡ take i l ++ (bytes 2 x ++ drop (i + 2) l)
-unfolding bytes
-store_2 l i x is h = rw (is ∙ bytes_2 x, add-one) (stored (bytes 2 x) l i h)
-
-pub store_4 : (l : List ℕ) (i x : ℕ) {four : List ℕ} → four ≡ x % 256 ∷ x / 256 % 256 ∷ x / 65536 % 256 ∷ x / 16777216 % 256 ∷ [] → i + 4 ≤ length l
-    → set (set (set (set l i (get_or four 0 0)) (i + 1) (get_or four 1 0)) (i + 2) (get_or four 2 0)) (i + 3) (get_or four 3 0) ≡ take i l ++ (bytes 4 x ++ drop (i + 4) l)
-unfolding bytes
-store_4 l i x is h =
-    let e₁ : i + 1 ≡ suc i = omega arith in
-    let e₂ : i + 2 ≡ suc (suc i) = omega arith in
-    let e₃ : i + 3 ≡ suc (suc (suc i)) = omega arith in
-    rw (is ∙ bytes_4 x, e₁, e₂, e₃) (stored (bytes 4 x) l i h)
 
 -- ---- lists of numbers
 pub length_decode : (w c : ℕ) (b : List ℕ) → length (decode w c b) ≡ c

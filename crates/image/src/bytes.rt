@@ -32,11 +32,8 @@ impl Word for u16 {
         u16::from_le_bytes([buffer[at], buffer[at + 1]])
     }
 
-    // Byte by byte, here and below, of which the compiler makes one store; of a `copy_from_slice` it doesn't.
     fn write(self, buffer: &mut [u8], at: usize) {
-        let two = self.to_le_bytes();
-        buffer[at] = two[0];
-        buffer[at + 1] = two[1];
+        buffer[at..at + 2].copy_from_slice(&self.to_le_bytes());
     }
 }
 
@@ -52,10 +49,6 @@ impl Word for u32 {
     }
 
     fn write(self, buffer: &mut [u8], at: usize) {
-        let four = self.to_le_bytes();
-        buffer[at] = four[0];
-        buffer[at + 1] = four[1];
-        buffer[at + 2] = four[2];
-        buffer[at + 3] = four[3];
+        buffer[at..at + 4].copy_from_slice(&self.to_le_bytes());
     }
 }

@@ -41,11 +41,14 @@ fn joins_nodes(n: u32, arc: (u32, u32)) -> bool
 fn is_after(last: (u32, u32), arc: (u32, u32)) -> bool
     ensures { result ≡ below last arc }
 {
-    // by its parts, which the compiler makes two branches; of tuples it computes both orders for each arc
+    // test after test: of the order of tuples, and of a chain by `&&`, the compiler works out all parts for each arc
     if last.0 < arc.0 {
         return true;
     }
-    last.0 == arc.0 && last.1 < arc.1
+    if arc.0 < last.0 {
+        return false;
+    }
+    last.1 < arc.1
 }
 
 // Rows 6, 7 and 8 for the arc at an index, its tail and its head, which stands after the arc `last`.
@@ -89,11 +92,14 @@ pub const CLOSED: u32 = 4294967295;
 pub fn is_cost(edition: u32, cost: u32) -> bool
     ensures { result ≡ is_cost edition cost }
 {
-    // a test of its own, which nearly each cost passes: in one `||` the compiler asks all three of each
+    // test after test, as above: Check asks this of each cost, and with `||` or `&&` it takes twice the instructions
     if cost <= 1000000 {
         return true;
     }
-    edition == 2 && cost == CLOSED
+    if edition != 2 {
+        return false;
+    }
+    cost == CLOSED
 }
 
 // Row 9, over `count` costs of an image of this edition, each of which `cost` gives.

@@ -7,7 +7,8 @@ pub fn arc_index(arcs: &[u16], a: u16, b: u16) -> Option<usize> {
     arcs.as_chunks::<2>()
         .0
         .iter()
-        .position(|arc| *arc == [a, b])
+        // the head is read of arcs with the tail alone: most arcs have another, and all of them are gone through for each path
+        .position(|arc| arc[0] == a && arc[1] == b)
 }
 
 // Whether there is an arc from a to b that is open in every column.

@@ -1,6 +1,7 @@
 -- `image::bytes::U32Word::write` meets its contract. Assumes nothing.
-use Rattle.image.proofs.ByteLaws.{store_4}
+use mathlib.Core.Path.{◌∙◌}
+use Rattle.image.proofs.ByteLaws.{put_bytes, bytes_4}
 use Rattle.image.proofs.bytes.U32Word.write.Goals as goal
 
 pub returns : goal.returns
-returns c = store_4 _ _ c.args.self c.to_le_bytes-four.ensures c.requires
+returns c = put_bytes 4 c.args.at c.args.buffer.now (c.copy_from_slice.ensures.after ∙ c.to_le_bytes.ensures ∙ bytes_4 c.args.self)
